@@ -1,0 +1,20 @@
+use mathlib.Core.Path.{refl}
+use Rattle.alphabet_spec.specs.Entries.{table}
+use borrow.Author.Needs.{needs}
+use Rattle.alphabet.proofs.byte_entry.Statement.{statement}
+use Rattle.alphabet.proofs.byte_entry.Tie as tie
+use Rattle.alphabet.proofs.byte_entry.Reads as reads
+use Rattle.alphabet.proofs.byte_entry.Lts as lts
+use Rattle.alphabet.proofs.entry_of.Reads as entry-of-reads
+
+-- src/lib.rt:325:5
+entry-of-requires : tie.Need-entry-of-requires
+unfolding table
+entry-of-requires c κs = refl
+
+-- src/lib.rt:321:1
+returns : tie.Need-returns
+returns c = search needs
+
+pub byte-entry-spec : {M : Type 1} → statement M
+byte-entry-spec = tie.close (tie.spec entry-of-requires returns)

@@ -1,0 +1,27 @@
+use mathlib.Core.Path.{_≡_, refl, sym, ap, _∙_}
+use Rattle.alphabet_spec.specs.Entries.{entry, entryAt, at-entry, past-end}
+use borrow.Author.Needs.{needs}
+use Rattle.alphabet.proofs.entry_at.Statement.{statement}
+use Rattle.alphabet.proofs.entry_at.Tie as tie
+use Rattle.alphabet.proofs.entry_at.Reads as reads
+use Rattle.alphabet.proofs.entry_at.Lts as lts
+use Rattle.alphabet.proofs.entry_of.Reads as entry-of-reads
+
+-- src/lib.rt:296:28
+shared-slice-read-entry-of : tie.Need-shared-slice-read-entry-of
+shared-slice-read-entry-of c = search needs
+
+-- src/lib.rt:296:9
+entry-of-requires : tie.Need-entry-of-requires
+entry-of-requires c κs = search needs
+
+-- src/lib.rt:296:9
+returns : tie.Need-returns
+returns c = c .entry-of .ensures ∙ sym (at-entry _ _ (c .before .before .if1 .taken))
+
+-- src/lib.rt:291:1
+returns-2 : tie.Need-returns-2
+returns-2 c = sym (past-end _ _ (c .if1 .left))
+
+pub entry-at-spec : {M : Type 1} → statement M
+entry-at-spec = tie.close (tie.spec shared-slice-read-entry-of entry-of-requires returns returns-2)

@@ -1,0 +1,96 @@
+-- What reading a run of digits ensures, and what that says of the run. Assumes nothing.
+use mathlib.Core.Path.{_≡_, refl, sym, ap, _∙_}
+use mathlib.Core.Bool.{Bool, true, false}
+use mathlib.Core.List.{List, [], _∷_}
+use Prim.Native.Nat.{ℕ, zero, suc, _+_, _-_, _*_, _^_, _≤_, _<_}
+use native.Mathlib.Omega.{arith}
+use native.Mathlib.Numerals.{add-one}
+use native.Mathlib.Nat.{add-zero, zero-add, add-suc, suc-add, pow-suc, pow-le-pow-right, mul-le-mul-left, mul-assoc}
+use lib.Dec.{ltb, lit<}
+use lib.ListN.{length, drop}
+use borrow.Author.Tests.{lt-ltb, le-ltb, ltb-true, ltb-false}
+use Rattle.alphabet_spec.specs.Logic.{pick, by-case}
+use Rattle.alphabet_spec.specs.Digits.{Run, long, run, oneMore, digits}
+use Rattle.alphabet_spec.specs.Entries.{entryAt}
+use Rattle.alphabet_spec.specs.DigitLaws.{digits-stop, digits-on, digit-at}
+
+-- reading on from the place i with the number v is reading on from the place j with the number w, after j - i more digits
+abbrev pub Onward : List ℕ → ℕ → ℕ → ℕ → ℕ → Type 0
+Onward s i v j w = (m n : ℕ) → digits (drop i s) (m + (j - i)) v n ≡ digits (drop j s) m w (n + (j - i))
+
+-- from the place i, after the number v, at most `most` digits: the number w, the place j after them, and the entry e that stands there
+pub record Ran (s : List ℕ) (i v most w j e : ℕ) : Type 0 where
+  pub low : i ≤ j
+  pub high : j ≤ length s
+  pub few : j ≤ i + most
+  pub stands : e ≡ entryAt s j
+  pub below : w < (v + 1) * 10 ^ (j - i)
+  pub full : e < 16 → j ≡ i + most
+  pub onward : Onward s i v j w
+
+-- what the run says: too long where a digit still stands there
+pub ran-is : {s : List ℕ} {i v most w j e : ℕ} → Ran s i v most w j e → digits (drop i s) most v 0 ≡ pick (ltb e 16) long (run w (j - i))
+ran-is {s} {i} {v} {most} {w} {j} {e} r =
+    let a = r .low in let b = r .few in let x = r .stands in
+    let f : most - (j - i) + (j - i) ≡ most = omega arith in
+    let g : digits (drop i s) most v 0 ≡ digits (drop j s) (most - (j - i)) w (0 + (j - i)) = rw f at (r .onward (most - (j - i)) 0) in
+    by-case (λ t. ltb e 16 ≡ t → digits (drop i s) most v 0 ≡ pick t long (run w (j - i))) (ltb e 16)
+    (λ _ h. let l = ltb-true e 16 h in let y = r .full l in let k : most - (j - i) ≡ 0 = omega arith in
+    g ∙ rw (k, digits-on s j 0 w (0 + (j - i)) (omega arith)) refl)
+    (λ _ h. let l = ltb-false e 16 h in g ∙ digits-stop s j (most - (j - i)) w (0 + (j - i)) (omega arith) ∙ ap (run w) (zero-add (j - i)))
+    refl
+
+-- with a literal bound on the digits: the number is below it
+pub ran-below : {s : List ℕ} {i v most w j e : ℕ} → Ran s i v most w j e → w < (v + 1) * 10 ^ most
+ran-below {s} {i} {v} {most} {w} {j} {e} r =
+    let b = r .few in let l : j - i ≤ most = omega arith in
+    let p : 10 ^ (j - i) ≤ 10 ^ most = pow-le-pow-right (lit< tt) l in
+    let q = mul-le-mul-left (v + 1) p in
+    let x = r .below in omega arith
+
+-- ---- the loop
+
+scaled : (a p : ℕ) → a * (p * 10) ≡ a * p * 10
+scaled a p = sym (mul-assoc a p 10)
+
+-- so far: the number w, and the place j
+pub record Running (s : List ℕ) (i v most w j : ℕ) : Type 0 where
+  pub low : i ≤ j
+  pub high : j ≤ length s
+  pub few : j ≤ i + most
+  pub below : w < (v + 1) * 10 ^ (j - i)
+  pub onward : Onward s i v j w
+
+pub start : (s : List ℕ) (i v most : ℕ) → i ≤ length s → Running s i v most v i
+start s i v most l =
+    let z : i - i ≡ 0 = omega arith in
+    record { low = omega arith; high = l; few = omega arith; below = rw z (omega arith); onward = λ m n. rw (z, add-zero m, add-zero n) refl }
+
+-- the number that a further digit makes still fits
+pub fits : {s : List ℕ} {i v most w j : ℕ} → Running s i v most w j → j - i < most → (v + 1) * 10 ^ most ≤ 10000000000000000000 → w * 10 + 10 ≤ 10000000000000000000
+fits {s} {i} {v} {most} {w} {j} r h b =
+    let l : suc (j - i) ≤ most = omega arith in
+    let p : 10 ^ suc (j - i) ≤ 10 ^ most = pow-le-pow-right (lit< tt) l in
+    let q = mul-le-mul-left (v + 1) p in
+    let y : (v + 1) * 10 ^ suc (j - i) ≡ (v + 1) * 10 ^ (j - i) * 10 = rw (pow-suc 10 (j - i)) (scaled (v + 1) (10 ^ (j - i))) in
+    let x = r .below in omega arith
+
+-- one digit more
+pub step : {s : List ℕ} {i v most w j e : ℕ} → Running s i v most w j → e ≡ entryAt s j → e < 16 → j - i < most → Running s i v most (w * 10 + e) (j + 1)
+step {s} {i} {v} {most} {w} {j} {e} r g f k =
+    let h : entryAt s j < 16 = omega arith in
+    let d = digit-at s j h in
+    let l = r .low in let x = d .2 in let b = r .below in
+    let a : j + 1 - i ≡ suc (j - i) = omega arith in
+    let y : (v + 1) * 10 ^ suc (j - i) ≡ (v + 1) * 10 ^ (j - i) * 10 = rw (pow-suc 10 (j - i)) (scaled (v + 1) (10 ^ (j - i))) in
+    record {
+      low = omega arith;
+      high = let z = d .0 in omega arith;
+      few = omega arith;
+      below = rw a (omega arith);
+      onward = λ m n. rw (a, add-suc m (j - i), ← suc-add m (j - i)) (r .onward (suc m) n ∙ digits-on s j (suc m) w (n + (j - i)) h ∙ rw (g, add-one j, add-suc n (j - i)) refl);
+    }
+
+-- the run has ended: no digit stands there, or as many as may have been taken
+pub stop : {s : List ℕ} {i v most w j e : ℕ} → Running s i v most w j → e ≡ entryAt s j → (e < 16 → j ≡ i + most) → Ran s i v most w j e
+stop r h f = record { low = r .low; high = r .high; few = r .few; stands = h; below = r .below; full = f; onward = r .onward }

@@ -1,0 +1,96 @@
+// The frame of a table (01, "The frame of a table"): its limits, the constructor that refuses, and the check of a head.
+ghost use mathlib.Core.Path.{_≡_};
+ghost use Prim.Native.Nat.{ℕ, _<_, _≤_};
+ghost use Rattle.table_spec.specs.Frame.{passes};
+ghost use Rattle.frame.specs.Legal.{framed, lifted, Sound};
+
+// F and L, each plus 10,000,000,000 so that none is negative, and N.
+pub struct Frame {
+    pub first: u64,
+    pub last: u64,
+    pub points: usize,
+}
+
+// A frame within its limits, or refusal 1 at place 0.
+pub enum Framed {
+    Legal(Frame),
+    Outside,
+}
+
+// x plus 10,000,000,000, or 0 where x is beyond the largest abscissa.
+fn lift(x: i64) -> u64
+    ensures { λ r. ⌜ r ≡ lifted x ⌝ }
+{
+    if x < -Frame::LARGEST_ABSCISSA {
+        return 0;
+    }
+    if x > Frame::LARGEST_ABSCISSA {
+        return 0;
+    }
+    let y = x + 10000000000;
+    y as u64
+}
+
+// How far apart two abscissas, or multiples of them, are.
+fn apart(a: u64, b: u64) -> u64
+    ensures { λ r. ⌜ r ≡ Rattle.table_spec.specs.Frame.apart a b ⌝ }
+{
+    if a < b {
+        return b - a;
+    }
+    a - b
+}
+
+impl Frame {
+    pub const MOST_POINTS: usize = 65536;
+
+    pub const LARGEST_ABSCISSA: i64 = 9999999999;
+
+    pub const LONGEST_BODY: usize = 1048576;
+
+    // The frame of any F, L and N, or that they are outside their limits.
+    pub fn new(f: i64, l: i64, n: usize) -> Framed
+        ensures { λ r. ⌜ r ≡ framed f l n ⌝ }
+    {
+        let first = lift(f);
+        let last = lift(l);
+        if first == 0 {
+            return Framed::Outside;
+        }
+        if last == 0 {
+            return Framed::Outside;
+        }
+        if n < 1 {
+            return Framed::Outside;
+        }
+        if n > Frame::MOST_POINTS {
+            return Framed::Outside;
+        }
+        if (n == 1) != (first == last) {
+            return Framed::Outside;
+        }
+        Framed::Legal(Frame {
+            first,
+            last,
+            points: n,
+        })
+    }
+
+    // Does the head h, an abscissa plus 10,000,000,000, pass for the point of index i? (01, "Checks")
+    pub fn passes(self, h: u64, i: usize) -> bool
+        requires { ⌜ Sound self × (h < 20000000000) × (i ≤ 65536) ⌝ }
+        ensures { λ r. ⌜ r ≡ passes (self .first) (self .last) (self .points) h i ⌝ }
+    {
+        let first = self.first;
+        let last = self.last;
+        let n = self.points;
+        if n == 1 {
+            return h == first;
+        }
+        let steps = (n - 1) as u64;
+        let index = i as u64;
+        let given = h * steps + index * first;
+        let asked = first * steps + index * last;
+        2 * apart(given, asked) < apart(last, first)
+    }
+}

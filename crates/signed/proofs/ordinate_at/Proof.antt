@@ -1,0 +1,37 @@
+use mathlib.Core.Path.{sym, ap, _∙_}
+use borrow.Author.Needs.{needs, sfits-of}
+use mir.Syntax.{w32}
+use mir.Facts.{toZ-ofZ}
+use lib.IntN.{pos}
+use lib.ListN.{getD}
+use Rattle.table_spec.specs.Frame.{ordinate-of}
+use Rattle.signed.specs.Scale.{ordinate-at}
+use Rattle.signed.proofs.ordinate_at.Statement.{statement}
+use Rattle.signed.proofs.ordinate_at.Tie as tie
+use Rattle.signed.proofs.ordinate_at.Reads as reads
+use Rattle.signed.proofs.ordinate_at.Lts as lts
+use Rattle.signed.proofs.ordinate_of.Reads as ordinate-of-reads
+
+-- src/lib.rt:32:17
+mul-ordinate-of : tie.Need-mul-ordinate-of
+mul-ordinate-of c = search needs
+
+-- src/lib.rt:32:17
+shared-slice-copy-out-ordinate-of : tie.Need-shared-slice-copy-out-ordinate-of
+shared-slice-copy-out-ordinate-of c = search needs
+
+-- src/lib.rt:32:5
+ordinate-of-requires : tie.Need-ordinate-of-requires
+ordinate-of-requires c κs = search needs
+
+-- src/lib.rt:28:1
+returns : tie.Need-returns
+returns c =
+    let a = c .before .before .args in
+    let z = toZ-ofZ (sfits-of {w = w32} {z = getD (a .ys .now) (a .k) (pos 0)} (c .before .ordinate-of-arg .given)) in
+    (c .ordinate-of .ensures .0 ∙ ap ordinate-of z ∙ sym (ordinate-at (a .ys .now) (a .k) (c .before .before .pre)), c .ordinate-of .ensures .1)
+
+pub ordinate-at-spec : {M : Type 1} → statement M
+ordinate-at-spec =
+    tie.close
+    (tie.spec mul-ordinate-of shared-slice-copy-out-ordinate-of ordinate-of-requires returns)

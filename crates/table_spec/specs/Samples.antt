@@ -1,0 +1,64 @@
+-- 01, "Bench samples": those marked P, one table under one theorem about the definitions, by computation. Frame F = 0, L = 3000, N = 4; `/` stands for LF, CR LF where written.
+-- Assumes nothing.
+use mathlib.Core.Path.{_≡_, refl}
+use mathlib.Core.List.{List, [], _∷_}
+use Prim.Native.Nat.{ℕ}
+use lib.IntN.{pos}
+use Rattle.alphabet_spec.specs.Digits.{digits}
+use Rattle.alphabet_spec.specs.Bytes.{kind}
+use Rattle.table_spec.specs.Frame.{frame-legal, passes, exact, nearest, ordinate-of, entry-for}
+use Rattle.table_spec.specs.Reading.{Answer, refuse, accept, readTable, read, judge, tokens, comment, ending, scaled, pointed, thousandths, opening, inside, step, stop, again, says, push, took, checked, finish}
+use Rattle.table_spec.specs.Numerals.{top, low, numeral, fraction, magnitude, headText}
+use Rattle.table_spec.specs.Groups.{form, sqzText, tokenText, many, dupText, group}
+use Rattle.table_spec.specs.Writing.{Outcome, declined, wrote, writeTable, written, lines-of, text, put, check, open-line, go-on, close}
+use mathlib.Core.List.{map}
+
+-- a body and its answer; or ordinates and their text
+pub data Sample : Type 0 where
+  reads : List ℕ → Answer → Sample
+  writes : List ℕ → List ℕ → Sample
+
+unfoldable pub samples : List Sample
+samples =
+    -- `0E0V`: 50 50 50 50
+    reads (48 ∷ 69 ∷ 48 ∷ 86 ∷ []) (accept (2147483698 ∷ 2147483698 ∷ 2147483698 ∷ 2147483698 ∷ [])) ∷
+    -- `0E0%U/3E0`: 50 50 50 50
+    reads (48 ∷ 69 ∷ 48 ∷ 37 ∷ 85 ∷ 10 ∷ 51 ∷ 69 ∷ 48 ∷ []) (accept (2147483698 ∷ 2147483698 ∷ 2147483698 ∷ 2147483698 ∷ [])) ∷
+    -- `0E0%U`: 13 at 5
+    reads (48 ∷ 69 ∷ 48 ∷ 37 ∷ 85 ∷ []) (refuse 13 5) ∷
+    -- `0E0W`: 11 at 3
+    reads (48 ∷ 69 ∷ 48 ∷ 87 ∷ []) (refuse 11 3) ∷
+    -- `0A%?B`: 1 1 missing 2
+    reads (48 ∷ 65 ∷ 37 ∷ 63 ∷ 66 ∷ []) (accept (2147483649 ∷ 2147483649 ∷ 0 ∷ 2147483650 ∷ [])) ∷
+    -- `0A?J1`: 8 at 3
+    reads (48 ∷ 65 ∷ 63 ∷ 74 ∷ 49 ∷ []) (refuse 8 3) ∷
+    -- `0A0J/1A2`: 10 at 6
+    reads (48 ∷ 65 ∷ 48 ∷ 74 ∷ 10 ∷ 49 ∷ 65 ∷ 50 ∷ []) (refuse 10 6) ∷
+    -- `0+1-1+1-1`: 1 -1 1 -1
+    reads (48 ∷ 43 ∷ 49 ∷ 45 ∷ 49 ∷ 43 ∷ 49 ∷ 45 ∷ 49 ∷ []) (accept (2147483649 ∷ 2147483647 ∷ 2147483649 ∷ 2147483647 ∷ [])) ∷
+    -- `0@5`: 5 at 1
+    reads (48 ∷ 64 ∷ 53 ∷ []) (refuse 5 1) ∷
+    -- `0 12E3 1 1`: 12 53 1 1
+    reads (48 ∷ 32 ∷ 49 ∷ 50 ∷ 69 ∷ 51 ∷ 32 ∷ 49 ∷ 32 ∷ 49 ∷ []) (accept (2147483660 ∷ 2147483701 ∷ 2147483649 ∷ 2147483649 ∷ [])) ∷
+    -- `0A/1.5B`: 6 at 3
+    reads (48 ∷ 65 ∷ 10 ∷ 49 ∷ 46 ∷ 53 ∷ 66 ∷ []) (refuse 6 3) ∷
+    -- `0A/1.499B`: 12 at 9: the head passes, and two points are not given
+    reads (48 ∷ 65 ∷ 10 ∷ 49 ∷ 46 ∷ 52 ∷ 57 ∷ 57 ∷ 66 ∷ []) (refuse 12 9) ∷
+    -- 0 1 0 0 is written `0@Jj%/3@/`
+    writes (2147483648 ∷ 2147483649 ∷ 2147483648 ∷ 2147483648 ∷ []) (48 ∷ 64 ∷ 74 ∷ 106 ∷ 37 ∷ 13 ∷ 10 ∷ 51 ∷ 64 ∷ 13 ∷ 10 ∷ []) ∷
+    -- 1 missing missing 2 is written `0A?TB/`
+    writes (2147483649 ∷ 0 ∷ 0 ∷ 2147483650 ∷ []) (48 ∷ 65 ∷ 63 ∷ 84 ∷ 66 ∷ 13 ∷ 10 ∷ []) ∷
+    []
+
+-- a sample holds, of the definitions of reading and writing, with room for 4 ordinates or 80 bytes
+abbrev pub Holds : Sample → Type 0
+Holds (reads s a) = readTable (pos 0) (pos 3000) 4 s 4 ≡ a
+Holds (writes ys t) = writeTable (pos 0) (pos 3000) 4 (map entry-for ys) 80 ≡ wrote t
+
+abbrev pub AllHold : List Sample → Type 0
+AllHold [] = Unit {0}
+AllHold (x ∷ xs) = Holds x × AllHold xs
+
+pub samples-hold : AllHold samples
+unfolding samples readTable read frame-legal passes exact nearest kind digits judge tokens comment ending scaled pointed thousandths opening inside step stop again says push took checked finish writeTable written lines-of text put check open-line go-on close group many form tokenText sqzText dupText numeral top low fraction magnitude headText
+samples-hold = (refl, (refl, (refl, (refl, (refl, (refl, (refl, (refl, (refl, (refl, (refl, (refl, (refl, (refl, tt))))))))))))))
