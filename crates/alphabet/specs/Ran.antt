@@ -18,6 +18,10 @@ use Rattle.alphabet_spec.specs.DigitLaws.{digits-stop, digits-on, digit-at}
 abbrev pub Onward : List ℕ → ℕ → ℕ → ℕ → ℕ → Type 0
 Onward s i v j w = (m n : ℕ) → digits (drop i s) (m + (j - i)) v n ≡ digits (drop j s) m w (n + (j - i))
 
+-- each byte from the place i to the place j is a digit
+abbrev pub AllDigits : List ℕ → ℕ → ℕ → Type 0
+AllDigits s i j = (k : ℕ) → i ≤ k → k < j → entryAt s k < 16
+
 -- from the place i, after the number v, at most `most` digits: the number w, the place j after them, and the entry e that stands there
 pub record Ran (s : List ℕ) (i v most w j e : ℕ) : Type 0 where
   pub low : i ≤ j
@@ -25,6 +29,7 @@ pub record Ran (s : List ℕ) (i v most w j e : ℕ) : Type 0 where
   pub few : j ≤ i + most
   pub stands : e ≡ entryAt s j
   pub below : w < (v + 1) * 10 ^ (j - i)
+  pub all : AllDigits s i j
   pub full : e < 16 → j ≡ i + most
   pub onward : Onward s i v j w
 
@@ -59,12 +64,13 @@ pub record Running (s : List ℕ) (i v most w j : ℕ) : Type 0 where
   pub high : j ≤ length s
   pub few : j ≤ i + most
   pub below : w < (v + 1) * 10 ^ (j - i)
+  pub all : AllDigits s i j
   pub onward : Onward s i v j w
 
 pub start : (s : List ℕ) (i v most : ℕ) → i ≤ length s → Running s i v most v i
 start s i v most l =
     let z : i - i ≡ 0 = omega arith in
-    record { low = omega arith; high = l; few = omega arith; below = rw z (omega arith); onward = λ m n. rw (z, add-zero m, add-zero n) refl }
+    record { low = omega arith; high = l; few = omega arith; below = rw z (omega arith); all = λ k a b. absurd (omega arith); onward = λ m n. rw (z, add-zero m, add-zero n) refl }
 
 -- the number that a further digit makes still fits
 pub fits : {s : List ℕ} {i v most w j : ℕ} → Running s i v most w j → j - i < most → (v + 1) * 10 ^ most ≤ 10000000000000000000 → w * 10 + 10 ≤ 10000000000000000000
@@ -74,6 +80,11 @@ fits {s} {i} {v} {most} {w} {j} r h b =
     let q = mul-le-mul-left (v + 1) p in
     let y : (v + 1) * 10 ^ suc (j - i) ≡ (v + 1) * 10 ^ (j - i) * 10 = rw (pow-suc 10 (j - i)) (scaled (v + 1) (10 ^ (j - i))) in
     let x = r .below in omega arith
+
+one-further : (s : List ℕ) (i j : ℕ) → AllDigits s i j → entryAt s j < 16 → AllDigits s i (j + 1)
+one-further s i j f h k a b =
+    by-case (λ t. ltb k j ≡ t → entryAt s k < 16) (ltb k j) (λ _ e. f k a (ltb-true k j e))
+    (λ _ e. let l = ltb-false k j e in let z : k ≡ j = omega arith in rw z h) refl
 
 -- one digit more
 pub step : {s : List ℕ} {i v most w j e : ℕ} → Running s i v most w j → e ≡ entryAt s j → e < 16 → j - i < most → Running s i v most (w * 10 + e) (j + 1)
@@ -88,9 +99,10 @@ step {s} {i} {v} {most} {w} {j} {e} r g f k =
       high = let z = d .0 in omega arith;
       few = omega arith;
       below = rw a (omega arith);
+      all = one-further s i j (r .all) h;
       onward = λ m n. rw (a, add-suc m (j - i), ← suc-add m (j - i)) (r .onward (suc m) n ∙ digits-on s j (suc m) w (n + (j - i)) h ∙ rw (g, add-one j, add-suc n (j - i)) refl);
     }
 
 -- the run has ended: no digit stands there, or as many as may have been taken
 pub stop : {s : List ℕ} {i v most w j e : ℕ} → Running s i v most w j → e ≡ entryAt s j → (e < 16 → j ≡ i + most) → Ran s i v most w j e
-stop r h f = record { low = r .low; high = r .high; few = r .few; stands = h; below = r .below; full = f; onward = r .onward }
+stop r h f = record { low = r .low; high = r .high; few = r .few; stands = h; below = r .below; all = r .all; full = f; onward = r .onward }

@@ -1,0 +1,234 @@
+-- Heads: from the runs that were read to the head that they make. No place of the code is named here. Assumes nothing.
+use mathlib.Core.Path.{_≡_, refl, sym, ap, _∙_, subst}
+use mathlib.Core.Bool.{Bool, true, false}
+use mathlib.Core.List.{List, [], _∷_}
+use Prim.Native.Nat.{ℕ, zero, suc, _+_, _-_, _*_, _^_, _≤_, _<_}
+use native.Mathlib.Omega.{arith}
+use native.Mathlib.Numerals.{add-one}
+use native.Mathlib.Nat.{zero-add, mul-lt-mul-of-pos-right, mul-assoc}
+use lib.Dec.{ltb, leb, eqb, lit<}
+use lib.ListN.{length, getD, drop}
+use lib.Seq.{drop-drop}
+use borrow.Author.Tests.{eq-eqb, ne-eqb, lt-ltb, le-ltb, lt-leb, le-leb, ltb-true, ltb-false}
+use Rattle.alphabet_spec.specs.Logic.{pick, by-case}
+use Rattle.alphabet_spec.specs.Digits.{Run, long, run, digits, some}
+use Rattle.alphabet_spec.specs.Bytes.{Byte, digit, lead, sign, quest, blank, point, lf, cr, dollar, other, kind}
+use Rattle.alphabet_spec.specs.Entries.{code, entryAt, entry, kindOf, at-entry}
+use Rattle.alphabet_spec.specs.Kinds.{tabs-too}
+use Rattle.alphabet_spec.specs.KindLaws.{Back, kind-back}
+use Rattle.alphabet_spec.specs.DigitLaws.{digit-at}
+use Rattle.alphabet.specs.Ran.{Ran, ran-is, ran-below}
+use Rattle.table_spec.specs.Values.{headed-at}
+use Rattle.table_spec.specs.Reading.{Tokens, head, fault, Mode, fresh, inner, starts, scaled, pointed, thousandths, headed, opening, step}
+use Rattle.table_lines.specs.Seen.{seen, later, behind, later-seen, seen-kind, seen-step, not-behind}
+use Rattle.table_lines.specs.Heads.{Scaled, Pointed, Topped, Headed}
+use Rattle.table_lines.specs.declared.HeadRead.{HeadRead}
+use Rattle.table_lines.specs.declared.HeadRead.the-variants.{Abscissa, NoHead}
+use Rattle.table_lines.proofs.LineEnds.{starts-not, starts-kind, inside-text}
+
+-- the place after a run, with no blank behind it
+pub clear-after : {s : List ℕ} {i v most w j e : ℕ} → Ran s i v most w j e → behind s i ≡ false → behind s j ≡ false
+unfolding behind
+clear-after {s} {i} {v} {most} {w} {j} {e} r h =
+    by-case (λ t. ltb i j ≡ t → behind s j ≡ false) (ltb i j)
+    (λ _ x. let l = ltb-true i j x in let d = r .all (j - 1) (omega arith) (omega arith) in
+    rw (ne-eqb j 0 (λ y. omega arith)) (ne-eqb (entryAt s (j - 1)) 112 (λ y. omega arith)))
+    (λ _ x. let l = ltb-false i j x in let k = r .low in let z : j ≡ i = omega arith in rw z h) refl
+
+-- ---- after the whole number
+
+-- three digits in all
+powers : (k : ℕ) → k ≤ 3 → (10 ^ k * 10 ^ (3 - k) ≡ 1000) × (0 < 10 ^ (3 - k))
+powers zero h = (refl, lit< tt)
+powers (suc zero) h = (refl, lit< tt)
+powers (suc (suc zero)) h = (refl, lit< tt)
+powers (suc (suc (suc zero))) h = (refl, lit< tt)
+powers (suc (suc (suc (suc k)))) h = absurd (omega arith)
+
+pub whole-only : {s : List ℕ} {i w e : ℕ} (minus : Bool) → i ≤ length s → e ≡ entryAt s i → w < 10000000 → (e ≡ 160 → ⊥) → Pointed s i w minus (Abscissa (headed-at minus (w * 1000)) i e)
+unfolding pointed entry kind
+whole-only {s} {i} {w} {e} minus h g l n =
+    let z : i - i ≡ 0 = omega arith in
+    record {
+      low = omega arith;
+      high = h;
+      stands = g;
+      clear = λ x. x;
+      size = w * 1000;
+      small = omega arith;
+      is = refl;
+      law = λ m. let y : m + 0 ≡ m = omega arith in rw (starts-not s i 46 (λ x. n (g ∙ x)), z, y) refl;
+    }
+
+module _ {s : List ℕ} (i : ℕ) {w f j e : ℕ} (g : entryAt s i ≡ 160) (r : Ran s (i + 1) w 3 f j e) where
+  point-starts : starts 46 (drop i s) ≡ true
+  point-starts = starts-kind s i 46 160 point g (omega arith) refl (λ x. x)
+
+  after-point : (n : ℕ) → pointed (drop i s) w n ≡ scaled n (pick (ltb e 16) long (run f (j - (i + 1))))
+  unfolding pointed
+  after-point n = rw (point-starts, drop-drop 1 i s) (ap (scaled n) (ran-is r))
+
+  pub fraction-long : (minus : Bool) → e < 16 → Pointed s i w minus NoHead
+  unfolding scaled
+  fraction-long minus l n = after-point n ∙ rw (lt-ltb e 16 l) refl
+
+  pub fraction-small : w < 10000000 → f * 10 ^ (3 - (j - (i + 1))) ≤ 9999999999
+  fraction-small l =
+      let few = r .few in let low = r .low in let b = r .below in
+      let k = j - (i + 1) in
+      let x : k ≤ 3 = omega arith in
+      let p : (w + 1) * 10 ^ k * 10 ^ (3 - k) ≡ (w + 1) * 1000 = mul-assoc (w + 1) (10 ^ k) (10 ^ (3 - k)) ∙ ap (λ (z : ℕ). (w + 1) * z) (powers k x .0) in
+      let q = mul-lt-mul-of-pos-right b (powers k x .1) in
+      omega arith
+
+  pub fraction-read : (minus : Bool) → w < 10000000 → 16 ≤ e → Pointed s i w minus (Abscissa (headed-at minus (f * 10 ^ (3 - (j - (i + 1))))) j e)
+  unfolding scaled
+  fraction-read minus l h =
+      let low = r .low in
+      record {
+        low = omega arith;
+        high = r .high;
+        stands = r .stands;
+        clear = λ x. clear-after r (not-behind s i (λ y. omega arith));
+        size = f * 10 ^ (3 - (j - (i + 1)));
+        small = fraction-small l;
+        is = refl;
+        law = λ n. let z : suc (n + (j - (i + 1))) ≡ n + (j - i) = omega arith in after-point n ∙ rw (le-ltb e 16 h, z) refl;
+      }
+
+-- ---- the head
+
+small-head : (minus : Bool) (g h : ℕ) → h ≡ headed-at minus g → g ≤ 9999999999 → h < 20000000000
+small-head true g h e l = omega arith
+small-head false g h e l = omega arith
+
+-- a head that begins with a digit, or with a sign: what its whole number and what follows make
+module _ {s : List ℕ} (i : ℕ) {v most w j e : ℕ} (minus : Bool) (c : Byte) (h : i < length s) (k : kindOf (entryAt s i) ≡ c) (nb : entryAt s i ≡ 112 → ⊥)
+    (r : Ran s (i + 1) v most w j e)
+    (f : (K : ℕ → Mode → Tokens) → opening K i (drop (suc i) s) c ≡ headed K i minus (thousandths (drop (suc i) s) (pick (ltb e 16) long (run w (j - (i + 1)))))) where
+  pub no-head : e < 16 → Headed s i NoHead
+  unfolding step thousandths
+  no-head l = seen-kind s i fresh c h k ∙ f _ ∙ rw (lt-ltb e 16 l) refl
+
+  thousandths-at : 16 ≤ e → thousandths (drop (suc i) s) (pick (ltb e 16) long (run w (j - (i + 1)))) ≡ pointed (drop j s) w (j - (i + 1))
+  unfolding thousandths
+  thousandths-at l = let low = r .low in let z : suc i + (j - (i + 1)) ≡ j = omega arith in rw (le-ltb e 16 l, drop-drop (j - (i + 1)) (suc i) s, z) refl
+
+  pub no-fraction : 16 ≤ e → Pointed s j w minus NoHead → Headed s i NoHead
+  unfolding step
+  no-fraction l p = seen-kind s i fresh c h k ∙ f _ ∙ rw (thousandths-at l, p (j - (i + 1))) refl
+
+  pub topped : {x n d : ℕ} → 16 ≤ e → Scaled s j w minus x n d → Topped s i x n d
+  unfolding step
+  topped {x} {n} {d} l p =
+      let low = r .low in let a = p .low in let b = p .small in
+      let z : j - (i + 1) + (n - j) ≡ n - suc i = omega arith in
+      record {
+        low = omega arith;
+        high = p .high;
+        stands = p .stands;
+        clear = p .clear (clear-after r (not-behind s i nb));
+        small = small-head minus (p .size) x (p .is) b;
+        law = seen-kind s i fresh c h k ∙ f _ ∙ rw (thousandths-at l, p .law (j - (i + 1)), z, ← p .is) (ap (head i x) (later-seen s (suc i) n (inner false) (omega arith) (p .high)));
+      }
+
+  -- whatever follows the whole number
+  pub headed-by : 16 ≤ e → (x : HeadRead) → Pointed s j w minus x → Headed s i x
+  headed-by l (Abscissa x n d) p = topped l p
+  headed-by l NoHead p = no-fraction l p
+
+-- ---- the first byte of a line
+
+pub digit-kind : (e : ℕ) → e < 16 → kindOf e ≡ digit e
+digit-kind e l = rw (lt-ltb e 16 l) refl
+
+pub sign-kind : (e : ℕ) → 128 ≤ e → e < 160 → kindOf e ≡ sign (leb 144 e)
+sign-kind e l h =
+    let z : pick (ltb e 144) (sign false) (pick (ltb e 160) (sign true) other) ≡ sign (leb 144 e) =
+    by-case (λ t. ltb e 144 ≡ t → pick t (sign false) (pick (ltb e 160) (sign true) other) ≡ sign (leb 144 e)) (ltb e 144)
+    (λ _ x. let y = ltb-true e 144 x in rw (lt-leb 144 e y) refl) (λ _ x. rw (lt-ltb e 160 h, le-leb 144 e (ltb-false e 144 x)) refl) refl in
+    rw (
+      le-ltb e 16 (omega arith),
+      le-ltb e 32 (omega arith),
+      le-ltb e 48 (omega arith),
+      le-ltb e 64 (omega arith),
+      le-ltb e 80 (omega arith),
+      le-ltb e 96 (omega arith),
+      le-ltb e 112 (omega arith),
+      le-ltb e 128 l,
+      lt-ltb e 160 h,
+    ) (rw (lt-ltb e 160 h) at z)
+
+some-more : (t : Bool) (w n : ℕ) → 0 < n → some (pick t long (run w n)) ≡ pick t long (run w n)
+some-more true w n h = refl
+some-more false w zero h = absurd (omega arith)
+some-more false w (suc n) h = refl
+
+some-none : (t : Bool) (w : ℕ) → some (pick t long (run w 0)) ≡ long
+some-none true w = refl
+some-none false w = refl
+
+module _ (s : List ℕ) (i : ℕ) {w j x : ℕ} where
+  run-there : {v most : ℕ} → Ran s (i + 1) v most w j x → digits (drop (suc i) s) most v 0 ≡ pick (ltb x 16) long (run w (j - (i + 1)))
+  run-there {v} {most} r = subst (λ (k : ℕ). digits (drop k s) most v 0 ≡ pick (ltb x 16) long (run w (j - (i + 1)))) (add-one i) (ran-is r)
+
+  pub digit-opens : (e : ℕ) → Ran s (i + 1) e 6 w j x
+      → (K : ℕ → Mode → Tokens) → opening K i (drop (suc i) s) (digit e) ≡ headed K i false (thousandths (drop (suc i) s) (pick (ltb x 16) long (run w (j - (i + 1)))))
+  unfolding opening
+  digit-opens e r K = rw (run-there r) refl
+
+  pub sign-opens : (m : Bool) → Ran s (i + 1) 0 7 w j x → (j ≡ i + 1 → ⊥)
+      → (K : ℕ → Mode → Tokens) → opening K i (drop (suc i) s) (sign m) ≡ headed K i m (thousandths (drop (suc i) s) (pick (ltb x 16) long (run w (j - (i + 1)))))
+  unfolding opening
+  sign-opens m r n K = let low = r .low in let l : 0 < j - (i + 1) = omega (arith, n) in rw (run-there r, some-more (ltb x 16) w (j - (i + 1)) l) refl
+
+  pub sign-alone : (e : ℕ) → i < length s → e ≡ entryAt s i → 128 ≤ e → e < 160 → Ran s (i + 1) 0 7 w j x → j ≡ i + 1 → Headed s i NoHead
+  unfolding opening step thousandths
+  sign-alone e h g l k r n =
+      let z : j - (i + 1) ≡ 0 = omega arith in
+      seen-kind s i fresh (sign (leb 144 e)) h (ap kindOf (sym g) ∙ sign-kind e l k) ∙ rw (run-there r, z, some-none (ltb x 16) w) refl
+
+-- a byte that begins a value and no head
+opens-not : (K : ℕ → Mode → Tokens) (a : ℕ) (t : List ℕ) (b : ℕ) (c : Byte) → Back tabs-too b c → 16 ≤ code c → code c < 128 → (code c ≡ 112 → ⊥) → opening K a t c ≡ fault 4 a
+unfolding opening
+opens-not K a t b (digit d) h l k n = absurd (omega (arith, h .0))
+opens-not K a t b (lead x d) h l k n = refl
+opens-not K a t b (sign true) h l k n = absurd (omega arith)
+opens-not K a t b (sign false) h l k n = absurd (omega arith)
+opens-not K a t b quest h l k n = refl
+opens-not K a t b blank h l k n = absurd (n refl)
+opens-not K a t b point h l k n = absurd (omega arith)
+opens-not K a t b lf h l k n = absurd (omega arith)
+opens-not K a t b cr h l k n = absurd (omega arith)
+opens-not K a t b dollar h l k n = absurd (omega arith)
+opens-not K a t b other h l k n = absurd (omega arith)
+
+pub value-first : (s : List ℕ) (i e : ℕ) → i < length s → e ≡ entryAt s i → 16 ≤ e → e < 128 → (e ≡ 112 → ⊥) → Headed s i NoHead
+unfolding step entry
+value-first s i e h g l k n =
+    let b = getD s i 0 in let z = at-entry s i h in
+    seen-step s i fresh h ∙ opens-not _ i _ b (kind tabs-too b) (kind-back tabs-too b) (omega arith) (omega arith) (λ x. n (g ∙ z ∙ x))
+
+-- ---- a head that begins with a digit; with a sign
+
+module _ (s : List ℕ) (i e : ℕ) {w j x : ℕ} (h : i < length s) (g : e ≡ entryAt s i) (n : e ≡ 112 → ⊥) where
+  module _ (l : e < 16) (r : Ran s (i + 1) e 6 w j x) where
+    pub digit-small : w < 10000000
+    digit-small = let d = digit-at s i (rw g at l) in let b = ran-below r in let z = d .2 in omega arith
+
+    pub digit-long : x < 16 → Headed s i NoHead
+    digit-long k = no-head i false (digit e) h (ap kindOf (sym g) ∙ digit-kind e l) (λ y. n (g ∙ y)) r (digit-opens s i e r) k
+
+    pub digit-headed : 16 ≤ x → (y : HeadRead) → Pointed s j w false y → Headed s i y
+    digit-headed k = headed-by i false (digit e) h (ap kindOf (sym g) ∙ digit-kind e l) (λ y. n (g ∙ y)) r (digit-opens s i e r) k
+
+  module _ (l : 128 ≤ e) (k : e < 160) (r : Ran s (i + 1) 0 7 w j x) where
+    pub sign-small : w < 10000000
+    sign-small = let b = ran-below r in omega arith
+
+    module _ (m : j ≡ i + 1 → ⊥) where
+      pub sign-long : x < 16 → Headed s i NoHead
+      sign-long = no-head i (leb 144 e) (sign (leb 144 e)) h (ap kindOf (sym g) ∙ sign-kind e l k) (λ y. n (g ∙ y)) r (sign-opens s i (leb 144 e) r m)
+
+      pub sign-headed : 16 ≤ x → (y : HeadRead) → Pointed s j w (leb 144 e) y → Headed s i y
+      sign-headed = headed-by i (leb 144 e) (sign (leb 144 e)) h (ap kindOf (sym g) ∙ sign-kind e l k) (λ y. n (g ∙ y)) r (sign-opens s i (leb 144 e) r m)

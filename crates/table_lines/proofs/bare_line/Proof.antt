@@ -1,0 +1,63 @@
+use Rattle.table_lines.proofs.Bare.{bare-value, bare-end, bare-bad}
+use mathlib.Core.Path.{_≡_, refl, sym, ap, _∙_}
+use Prim.Native.Nat.{ℕ, suc, _+_, _-_, _<_, _≤_}
+use native.Mathlib.Omega.{arith}
+use lib.ListN.{length, drop}
+use Rattle.alphabet_spec.specs.Entries.{entryAt, entry-in, entry-end}
+use Rattle.table_spec.specs.Reading.{fresh, inner, comment}
+use Rattle.table_lines.specs.Seen.{seen, behind, here}
+use Rattle.table_lines.specs.Ends.{Blanked, Commented, Ended, Started}
+use Rattle.table_lines.proofs.LineEnds.{inside-text, blank-in, blank-fresh, blank-within, comment-end, comment-lf, comment-on, end-over, end-lf, end-cr, end-comment, end-no-cr, end-no-dollar, end-bad, start-end}
+use borrow.Author.Needs.{needs}
+use Rattle.table_lines.proofs.bare_line.Statement.{statement}
+use Rattle.table_lines.proofs.bare_line.Tie as tie
+use Rattle.table_lines.proofs.bare_line.Reads as reads
+use Rattle.table_lines.proofs.bare_line.Lts as lts
+use Rattle.alphabet.proofs.entry_at.Reads as entry-at-reads
+use Rattle.table_lines.proofs.blanks.Reads as blanks-reads
+use Rattle.table_lines.proofs.line_end.Reads as line-end-reads
+
+-- src/lib.rt:138:9
+blanks-requires : tie.Need-blanks-requires
+blanks-requires c κs = search needs
+
+-- src/lib.rt:139:9
+entry-at-requires : tie.Need-entry-at-requires
+entry-at-requires c κs = search needs
+
+-- src/lib.rt:141:9
+returns : tie.Need-returns
+returns c = let e = c .before .entry-at .ensures in bare-value _ _ _ (c .before .before .blanks .ensures) (rw e at (c .if1 .taken))
+
+-- src/lib.rt:143:11
+line-end-requires : tie.Need-line-end-requires
+line-end-requires c κs = (search needs, c .before .before .blanks .ensures .high, c .before .entry-at .ensures, c .if1 .left)
+
+-- src/lib.rt:144:28
+enum-told : tie.Need-enum-told
+enum-told c = search needs
+
+-- src/lib.rt:145:24
+enum-told-2 : tie.Need-enum-told-2
+enum-told-2 c = search needs
+
+-- src/lib.rt:134:1
+returns-2 : tie.Need-returns-2
+returns-2 c = bare-end _ _ _ _ (c .before .before .before .before .before .blanks .ensures) (rw (c .enum-told .given .1) at (c .before .before .line-end .ensures))
+
+-- src/lib.rt:134:1
+returns-3 : tie.Need-returns-3
+returns-3 c = bare-bad _ _ _ (c .before .before .before .before .before .blanks .ensures) (rw (c .enum-told2 .given .1) at (c .before .before .line-end .ensures))
+
+pub bare-line-spec : {M : Type 1} → statement M
+bare-line-spec =
+    tie.close
+    (tie.spec
+    blanks-requires
+    entry-at-requires
+    returns
+    line-end-requires
+    enum-told
+    enum-told-2
+    returns-2
+    returns-3)

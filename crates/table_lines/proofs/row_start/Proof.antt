@@ -1,0 +1,109 @@
+use mathlib.Core.Path.{_≡_, refl, sym, ap, _∙_}
+use Prim.Native.Nat.{ℕ, suc, _+_, _-_, _<_, _≤_}
+use native.Mathlib.Omega.{arith}
+use lib.ListN.{length, drop}
+use borrow.Author.Needs.{needs}
+use Rattle.alphabet_spec.specs.Entries.{entryAt, entry-in, entry-end}
+use Rattle.table_spec.specs.Reading.{fresh, inner, comment}
+use Rattle.table_lines.specs.Seen.{seen, behind, here}
+use Rattle.table_lines.specs.Ends.{Blanked, Commented, Ended, Started}
+use Rattle.table_lines.proofs.LineEnds.{inside-text, blank-in, blank-fresh, blank-within, comment-end, comment-lf, comment-on, end-over, end-lf, end-cr, end-comment, end-no-cr, end-no-dollar, end-bad, start-end}
+use Rattle.table_lines.proofs.row_start.Statement.{statement}
+use Rattle.table_lines.proofs.row_start.Tie as tie
+use Rattle.table_lines.proofs.row_start.Reads as reads
+use Rattle.table_lines.proofs.row_start.Lts as lts
+use Rattle.alphabet.proofs.entry_at.Reads as entry-at-reads
+use Rattle.table_lines.proofs.blanks.Reads as blanks-reads
+use Rattle.table_lines.proofs.line_end.Reads as line-end-reads
+
+abbrev Inv-loop : tie.InvT-loop
+Inv-loop t s from at₀ at = (from ≤ at) × (at ≤ length s) × (seen s from fresh ≡ seen s at fresh)
+
+abbrev μ-loop : tie.MeasureT-loop
+μ-loop t s from at₀ at = length s - at
+
+-- src/lib.rt:113:5
+loop-holds : tie.Need-loop-holds Inv-loop μ-loop
+loop-holds c = search needs
+
+-- src/lib.rt:114:9
+blanks-requires : tie.Need-blanks-requires Inv-loop μ-loop
+blanks-requires c κs = search needs
+
+-- src/lib.rt:115:13
+entry-at-requires : tie.Need-entry-at-requires Inv-loop μ-loop
+entry-at-requires c κs = search needs
+
+-- src/lib.rt:117:13
+returns : tie.Need-returns Inv-loop μ-loop
+returns c =
+    let l = c .before .before .before .loop .inv in
+    let b = c .before .before .blanks .ensures in
+    let e = c .before .entry-at .ensures in
+    let x = c .if1 .taken in
+    let y = b .low in
+    (omega arith, entry-in (c .before .before .before .before .before .args .s .now) (c .before .before .blanks .result) (λ z. omega (arith, e)), e, x, λ z. b .stops (sym e ∙ z), l .2 ∙ b .before)
+
+-- src/lib.rt:120:13
+returns-2 : tie.Need-returns-2 Inv-loop μ-loop
+returns-2 c =
+    let l = c .before .before .before .before .loop .inv in
+    let b = c .before .before .before .blanks .ensures in
+    l .2 ∙ b .before ∙ start-end _ _ (b .high) (sym (c .before .before .entry-at .ensures) ∙ c .if2 .taken)
+
+-- src/lib.rt:122:15
+line-end-requires : tie.Need-line-end-requires Inv-loop μ-loop
+line-end-requires c κs = (search needs, c .before .before .before .blanks .ensures .high, c .before .before .entry-at .ensures, c .before .if1 .left)
+
+-- src/lib.rt:123:26
+enum-known-j : tie.Need-enum-known-j Inv-loop μ-loop
+enum-known-j c = search needs
+
+-- src/lib.rt:113:5
+loop-less : tie.Need-loop-less Inv-loop μ-loop
+loop-less c =
+    let b = c .before .before .before .before .before .before .before .blanks .ensures in
+    let x = rw (c .before .j .given .1) at (c .before .before .before .line-end .ensures) in
+    let y = b .low in
+    let n = entry-in (c .before .before .before .before .before .before .before .before .before .before .args .s .now) (c .before .before .before .before .before .before .before .blanks .result) (λ e. c .before .before .before .before .if2 .left (c .before .before .before .before .before .before .entry-at .ensures ∙ e)) in
+    let z = x .2 n in
+    omega (arith, x .1)
+
+-- src/lib.rt:113:5
+loop-again : tie.Need-loop-again Inv-loop μ-loop
+loop-again c =
+    let l = c .before .before .before .before .before .before .before .before .loop .inv in
+    let b = c .before .before .before .before .before .before .before .blanks .ensures in
+    let x = rw (c .before .j .given .1) at (c .before .before .before .line-end .ensures) in
+    let y = b .low in
+    (omega (arith, x .0), x .1, l .2 ∙ b .before ∙ x .3)
+
+-- src/lib.rt:127:17
+enum-told : tie.Need-enum-told Inv-loop μ-loop
+enum-told c = search needs
+
+-- src/lib.rt:127:17
+returns-3 : tie.Need-returns-3 Inv-loop μ-loop
+returns-3 c =
+    let l = c .before .before .before .before .before .before .before .loop .inv in
+    let b = c .before .before .before .before .before .before .blanks .ensures in
+    let x = rw (c .enum-told .given .1) at (c .before .before .line-end .ensures) in
+    l .2 ∙ b .before ∙ x .0
+
+pub row-start-spec : {M : Type 1} → statement M
+row-start-spec =
+    tie.close
+    (tie.spec
+    Inv-loop
+    μ-loop
+    loop-holds
+    blanks-requires
+    entry-at-requires
+    returns
+    returns-2
+    line-end-requires
+    enum-known-j
+    loop-less
+    loop-again
+    enum-told
+    returns-3)

@@ -1,0 +1,41 @@
+-- What the functions on heads ensure (01, "Head"). Assumes nothing.
+use mathlib.Core.Path.{_≡_}
+use mathlib.Core.Bool.{Bool, true, false}
+use mathlib.Core.List.{List}
+use Prim.Native.Nat.{ℕ, _+_, _-_, _<_, _≤_}
+use lib.ListN.{length, drop}
+use Rattle.alphabet_spec.specs.Digits.{long, run}
+use Rattle.alphabet_spec.specs.Entries.{entryAt}
+use Rattle.table_spec.specs.Values.{headed-at}
+use Rattle.table_spec.specs.Reading.{head, fault, fresh, inner, pointed}
+use Rattle.table_lines.specs.Seen.{seen, behind}
+use Rattle.table_lines.specs.declared.HeadRead.{HeadRead}
+use Rattle.table_lines.specs.declared.HeadRead.the-variants.{Abscissa, NoHead}
+
+-- what follows the whole number w of a head, at the place i: its thousandths g and the place j after them
+pub record Scaled (s : List ℕ) (i w : ℕ) (minus : Bool) (h j e : ℕ) : Type 0 where
+  pub low : i ≤ j
+  pub high : j ≤ length s
+  pub stands : e ≡ entryAt s j
+  pub clear : behind s i ≡ false → behind s j ≡ false
+  pub size : ℕ
+  pub small : size ≤ 9999999999
+  pub is : h ≡ headed-at minus size
+  pub law : (n : ℕ) → pointed (drop i s) w n ≡ run size (n + (j - i))
+
+abbrev pub Pointed : List ℕ → ℕ → ℕ → Bool → HeadRead → Type 0
+Pointed s i w minus (Abscissa h j e) = Scaled s i w minus h j e
+Pointed s i w minus NoHead = (n : ℕ) → pointed (drop i s) w n ≡ long
+
+-- a head stands at the place i, and values may stand from j on; or what stands there is no head
+pub record Topped (s : List ℕ) (i h j e : ℕ) : Type 0 where
+  pub low : i < j
+  pub high : j ≤ length s
+  pub stands : e ≡ entryAt s j
+  pub clear : behind s j ≡ false
+  pub small : h < 20000000000
+  pub law : seen s i fresh ≡ head i h (seen s j (inner false))
+
+abbrev pub Headed : List ℕ → ℕ → HeadRead → Type 0
+Headed s i (Abscissa h j e) = Topped s i h j e
+Headed s i NoHead = seen s i fresh ≡ fault 4 i

@@ -1,0 +1,217 @@
+// Lines of a body (01, "Spelling of a body"): blanks, comments, ends of lines, the start of the next line, and heads. Inner functions: the byte table is lent to them.
+ghost use mathlib.Core.Path.{_≡_};
+ghost use mathlib.Core.Bool.{Bool, false};
+ghost use Prim.Native.Nat.{ℕ, _+_, _-_, _<_, _≤_, _^_};
+ghost use lib.ListN.{length};
+ghost use Rattle.alphabet_spec.specs.Entries.{entryAt, table};
+ghost use Rattle.table_spec.specs.Values.{headed-at};
+ghost use Rattle.table_spec.specs.Reading.{bare};
+ghost use Rattle.table_lines.specs.declared.HeadRead.{HeadRead};
+ghost use Rattle.table_lines.specs.Seen.{here};
+ghost use Rattle.table_lines.specs.Ends.{Blanked, Commented, Ended, Started};
+ghost use Rattle.table_lines.specs.Heads.{Pointed, Headed};
+use alphabet::Run;
+use alphabet::digits;
+use alphabet::entry_at;
+
+const BLANK: u64 = 112;
+
+const SIGN: u64 = 128;
+
+const MINUS: u64 = 144;
+
+const POINT: u64 = 160;
+
+const LF: u64 = 176;
+
+const CR: u64 = 192;
+
+const DOLLAR: u64 = 208;
+
+const END: u64 = 256;
+
+// Where a line's end stands: the place of the next line, or that none stands there.
+pub enum Ending {
+    Next(usize),
+    Bad,
+}
+
+// The next line that is not passed over: the place of its first token and the entry there; the end of the body; or a byte that cannot stand there.
+pub enum Start {
+    Head(usize, u64),
+    End,
+    Bad(usize),
+}
+
+// A head: its abscissa plus 10,000,000,000, the place after it and the entry there; or what is no head.
+pub enum HeadRead {
+    Abscissa(u64, usize, u64),
+    NoHead,
+}
+
+// The first place from here on where no blank stands.
+pub fn blanks(t: &[u8; 256], s: &[u8], from: usize) -> usize
+    requires { ⌜ (now t ≡ table) × (from ≤ length (now s)) ⌝ }
+    ensures { λ r. ⌜ Blanked (now (s .entry)) from r ⌝ }
+{
+    let mut i = from;
+    while entry_at(t, s, i) == BLANK {
+        i += 1;
+    }
+    i
+}
+
+// The place after a comment: past its LF, or the end of the body.
+fn comment(s: &[u8], from: usize) -> usize
+    requires { ⌜ from ≤ length (now s) ⌝ }
+    ensures { λ r. ⌜ Commented (now (s .entry)) from r ⌝ }
+{
+    let mut i = from;
+    while i < s.len() {
+        let b = s[i];
+        i += 1;
+        if b == 10 {
+            return i;
+        }
+    }
+    i
+}
+
+// What stands at a place whose entry e is a point's or above: a line's end, a comment counted in, or a byte that cannot stand there.
+pub fn line_end(t: &[u8; 256], s: &[u8], at: usize, e: u64) -> Ending
+    requires { ⌜ (now t ≡ table) × (at ≤ length (now s)) × (e ≡ entryAt (now s) at) × (160 ≤ e) ⌝ }
+    ensures { λ r. ⌜ Ended (now (s .entry)) at r ⌝ }
+{
+    if e == END {
+        return Ending::Next(at);
+    }
+    let next = at + 1;
+    if e == LF {
+        return Ending::Next(next);
+    }
+    if e == CR {
+        if entry_at(t, s, next) == LF {
+            return Ending::Next(next + 1);
+        }
+        return Ending::Bad;
+    }
+    if e == DOLLAR {
+        if entry_at(t, s, next) == DOLLAR {
+            return Ending::Next(comment(s, next + 1));
+        }
+        return Ending::Bad;
+    }
+    Ending::Bad
+}
+
+// The start of the next line that is not passed over.
+pub fn row_start(t: &[u8; 256], s: &[u8], from: usize) -> Start
+    requires { ⌜ (now t ≡ table) × (from ≤ length (now s)) ⌝ }
+    ensures { λ r. ⌜ Started (now (s .entry)) from r ⌝ }
+{
+    let mut at = from;
+    loop {
+        at = blanks(t, s, at);
+        let e = entry_at(t, s, at);
+        if e < POINT {
+            return Start::Head(at, e);
+        }
+        if e == END {
+            return Start::End;
+        }
+        match line_end(t, s, at, e) {
+            Ending::Next(j) => {
+                at = j;
+            }
+            Ending::Bad => {
+                return Start::Bad(at);
+            }
+        }
+    }
+}
+
+// Only blanks or a comment between a head and its line's end? (refusal 7)
+pub fn bare_line(t: &[u8; 256], s: &[u8], at: usize) -> bool
+    requires { ⌜ (now t ≡ table) × (at ≤ length (now s)) ⌝ }
+    ensures { λ r. ⌜ r ≡ bare (here (now (s .entry)) at) ⌝ }
+{
+    let b = blanks(t, s, at);
+    let e = entry_at(t, s, b);
+    if e < POINT {
+        return false;
+    }
+    match line_end(t, s, b, e) {
+        Ending::Next(_) => true,
+        Ending::Bad => false,
+    }
+}
+
+// Thousandths: what the last of n digits after the point is worth.
+fn worth(n: usize) -> u64
+    requires { ⌜ n ≤ 3 ⌝ }
+    ensures { λ r. ⌜ r ≡ 10 ^ (3 - n) ⌝ }
+{
+    match n {
+        0 => 1000,
+        1 => 100,
+        2 => 10,
+        _ => 1,
+    }
+}
+
+// A head of so many thousandths.
+fn abscissa(minus: bool, size: u64, at: usize, e: u64) -> HeadRead
+    requires { ⌜ size ≤ 9999999999 ⌝ }
+    ensures { λ r. ⌜ r ≡ HeadRead.Abscissa (headed-at minus size) at e ⌝ }
+{
+    if minus {
+        return HeadRead::Abscissa(10000000000 - size, at, e);
+    }
+    HeadRead::Abscissa(10000000000 + size, at, e)
+}
+
+// After the whole number of a head, which was read as w: perhaps a point and at most three digits.
+fn fraction(t: &[u8; 256], s: &[u8], w: Run, minus: bool) -> HeadRead
+    requires { ⌜ (now t ≡ table) × (w .at ≤ length (now s)) × (w .e ≡ entryAt (now s) (w .at)) × (w .v < 10000000) × (16 ≤ w .e) ⌝ }
+    ensures { λ r. ⌜ Pointed (now (s .entry)) (w .at) (w .v) minus r ⌝ }
+{
+    let at = w.at;
+    let v = w.v;
+    if w.e != POINT {
+        return abscissa(minus, v * 1000, at, w.e);
+    }
+    let next = at + 1;
+    let f = digits(t, s, next, v, 3);
+    if f.e < 16 {
+        return HeadRead::NoHead;
+    }
+    let end = f.at;
+    let size = f.v * worth(end - next);
+    abscissa(minus, size, end, f.e)
+}
+
+// The head at a place whose entry is e.
+pub fn head(t: &[u8; 256], s: &[u8], at: usize, e: u64) -> HeadRead
+    requires { ⌜ (now t ≡ table) × (at < length (now s)) × (e ≡ entryAt (now s) at) × (e < 160) × (e ≡ 112 → ⊥) ⌝ }
+    ensures { λ r. ⌜ Headed (now (s .entry)) at r ⌝ }
+{
+    let next = at + 1;
+    if e < 16 {
+        let w = digits(t, s, next, e, 6);
+        if w.e < 16 {
+            return HeadRead::NoHead;
+        }
+        return fraction(t, s, w, false);
+    }
+    if e < SIGN {
+        return HeadRead::NoHead;
+    }
+    let w = digits(t, s, next, 0, 7);
+    if w.at == next {
+        return HeadRead::NoHead;
+    }
+    if w.e < 16 {
+        return HeadRead::NoHead;
+    }
+    fraction(t, s, w, e >= MINUS)
+}

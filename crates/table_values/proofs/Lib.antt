@@ -1,0 +1,5 @@
+pub mod NumberLaws
+pub mod Moves
+pub mod Turns
+pub mod Meanings
+pub mod Walks

@@ -1,0 +1,115 @@
+-- States of the code, one after the other: within a run of differences, and along a line. No place of the code is named here. Assumes nothing.
+use mathlib.Core.Path.{_≡_, refl, sym, ap, _∙_, subst}
+use mathlib.Core.Bool.{Bool, true, false}
+use mathlib.Core.List.{List, [], _∷_, map}
+use Prim.Native.Nat.{ℕ, zero, suc, _+_, _-_, _*_, _≤_, _<_}
+use native.Mathlib.Omega.{arith}
+use native.Mathlib.Numerals.{add-one}
+use native.Mathlib.Nat.{mul-one}
+use lib.Dec.{ltb, leb, eqb}
+use lib.IntN.{ℤ}
+use lib.ListN.{length, set, length-set}
+use lib.Seq.{sets}
+use Rattle.table_spec.specs.Frame.{entry-for}
+use Rattle.table_spec.specs.Values.{Value, by, Form, By, Spot, after, moved, copies}
+use Rattle.table_spec.specs.Reading.{fresh, refuse, judge}
+use Rattle.table_lines.specs.Seen.{seen, here}
+use Rattle.table_values.specs.Numbers.{Token}
+use Rattle.table_values.specs.States.{ruled, shiftedTo, Reaches, Codes, dif, Holds, opening, checking, going, Sits, Reads, Gone, Went, Stepped, Row, Lined}
+use Rattle.table_values.specs.declared.Cur.{Cur}
+use Rattle.table_values.specs.declared.Step.the-variants as step
+use Rattle.table_values.specs.declared.Valued.the-variants as valued
+use Rattle.table_values.proofs.Moves.{Shifts, shift-some, reach-next, reach-small}
+use Rattle.table_values.proofs.Turns.{value-adds, gone-same, gone-gone, gone-row, gone-refuse}
+use Rattle.table_values.proofs.Meanings.{dif-adds}
+
+-- ---- states
+
+-- the state after a value
+pub sits-next : {N : ℕ} {s : List ℕ} {i j f : ℕ} {x : Value} → Token s i x j f → (k q want d form : ℕ) → q < 4294967296 → d < 10000000000 → k ≤ N
+  → Sits N s (record { at = j; e = f; k = k; q = q; want = want; step = d; form = form })
+sits-next t k q want d form a b l = let z = t .low in record { some = omega arith; high = t .high; stands = t .stands; small = a; size = b; few = l }
+
+-- an ordinate is asked for only before a line's first value
+pub no-want : {q want d form p : ℕ} {w : Spot} → Holds q want d form p w → 0 < q → want ≡ 0
+no-want opening l = refl
+no-want (checking h) l = absurd (omega arith)
+no-want (going h) l = refl
+
+-- ---- a run of differences
+
+pub went-none : {N : ℕ} {s : List ℕ} (c : Cur) (out : List ℤ) → Sits N s c → Went N s c c out out
+went-none c out h = record { low = omega arith; sits = h; law = λ passing p w g. gone-same _ passing _ _ p w out c g refl }
+
+-- one difference more
+pub went-on : {N : ℕ} {s : List ℕ} {c : Cur} (b : Cur) {out mid : List ℤ} (out' : List ℤ) {v j f : ℕ} (u : ℕ) → Went N s c b out mid → 0 < b .q → 32 ≤ b .e → b .e < 64
+  → v < 10000000000 → Token s (b .at) (by (leb 48 (b .e)) v) j f → b .k < N → u ≡ shiftedTo (leb 48 (b .e)) v (b .q) → (u ≡ 0 → ⊥) → out' ≡ set mid (b .k) (entry-for u)
+  → Went N s c (record { at = j; e = f; k = b .k + 1; q = u; want = b .want; step = v; form = b .e }) out out'
+went-on {N} {s} {c} b {out} {mid} out' {v} {j} {f} u g o l h vs t k e n m =
+    let z = shift-some (leb 48 (b .e)) v (b .q) u e n in
+    let low = g .low in let tl = t .low in
+    record {
+      low = omega arith;
+      sits = sits-next t (b .k + 1) u (b .want) v (b .e) (z .high) vs (omega arith);
+      law = λ passing p w x. gone-gone N passing s (c .at) (c .k) p w out mid b (g .law passing p w x) out' _
+        (λ y i hold. value-adds N passing s t (b .k) y i (u ∷ []) (By (leb 48 (b .e)) v) mid out' _ (dif-adds (leb 48 (b .e)) v u hold (λ r. omega arith) z) (omega arith) refl refl
+          (rw (no-want hold o) (going (dif l h (z .low)))) m);
+    }
+
+-- ---- a line
+
+pub went-went : {N : ℕ} {s : List ℕ} {c b r : Cur} {out mid out' : List ℤ} → Went N s c b out mid → Went N s b r mid out' → Went N s c r out out'
+went-went {N} {s} {c} {b} {r} {out} {mid} {out'} g h =
+    let x = g .low in let y = h .low in
+    record { low = omega arith; sits = h .sits; law = λ passing p w z. gone-gone N passing s (c .at) (c .k) p w out mid b (g .law passing p w z) out' r (h .law passing) }
+
+pub went-step : {N : ℕ} {s : List ℕ} {c b r : Cur} {out mid out' : List ℤ} → Went N s c b out mid → Stepped N s b mid out' (step.Go r) → Went N s c r out out'
+went-step g h = went-went g (record { low = let x = h .0 in omega arith; sits = h .1; law = h .2 })
+
+pub went-line : {N : ℕ} {s : List ℕ} {c b : Cur} {j : ℕ} {out mid out' : List ℤ} → Went N s c b out mid → Stepped N s b mid out' (step.Line j) → Lined N s c out out' (valued.Done b j)
+went-line {N} {s} {c} {b} {j} {out} {mid} {out'} g h =
+    let x = g .low in let y = h .0 in
+    (h .1, omega arith, g .sits, λ passing p w z.
+      rw (h .2) (gone-row N passing s (c .at) (c .k) p w out mid b (g .law passing p w z) j (h .3 passing)))
+
+pub went-refused : {N : ℕ} {s : List ℕ} {c b : Cur} {n : ℕ} {out mid : List ℤ} (out' : List ℤ) → Went N s c b out mid → Stepped N s b mid out' (step.Refused n) → Lined N s c out out' (valued.Refused n (b .at))
+went-refused {N} {s} {c} {b} {n} {out} {mid} out' g h = λ passing p w z. gone-refuse N passing s (c .at) (c .k) p w out mid b (g .law passing p w z) n (b .at) (h passing)
+
+-- ---- copies, stored one after the other
+
+pub record Repeating (out₀ out : List ℤ) (k q n i u left : ℕ) (m : Bool) (d : ℕ) : Type 0 where
+  pub stored : sets out i (map entry-for (copies left (By m d) u)) ≡ sets out₀ k (map entry-for (copies n (By m d) q))
+  pub reach : Reaches m d left u
+  pub small : u < 4294967296
+  pub count : i + left ≡ k + n
+  pub same : length out ≡ length out₀
+
+pub repeat-start : (out : List ℤ) (k q n : ℕ) (m : Bool) (d : ℕ) → q < 4294967296 → Reaches m d n q → Repeating out out k q n k q n m d
+repeat-start out k q n m d h r = record { stored = refl; reach = r; small = h; count = refl; same = refl }
+
+module _ {out₀ out : List ℤ} {k q n i u left : ℕ} {m : Bool} {d : ℕ} (g : Repeating out₀ out k q n i u left m d) (l : 0 < left) where
+  one-less : left ≡ suc (left - 1)
+  one-less = omega arith
+
+  further : Reaches m d 1 u × Reaches m d (left - 1) (moved m d u)
+  further = reach-next m d (left - 1) u (subst (λ (x : ℕ). Reaches m d x u) one-less (g .reach))
+
+  pub repeat-reach : Reaches m d 1 u
+  repeat-reach = further .0
+
+  pub repeat-small : (v : ℕ) → v ≡ moved m d u → v < 4294967296
+  repeat-small v e = let y : d * 1 ≡ d = mul-one d in rw (e, ← y) (reach-small m d 1 u (g .small) repeat-reach)
+
+  pub repeat-turn : (v : ℕ) → v ≡ moved m d u → (out' : List ℤ) → out' ≡ set out i (entry-for v) → Repeating out₀ out' k q n (i + 1) v (left - 1) m d
+  repeat-turn v e out' f =
+      let c = g .count in
+      record {
+        stored = rw (f, add-one i, e) (subst (λ (x : ℕ). sets out i (map entry-for (copies x (By m d) u)) ≡ sets out₀ k (map entry-for (copies n (By m d) q))) one-less (g .stored));
+        reach = rw e (further .1);
+        small = repeat-small v e;
+        count = omega arith;
+        same = rw f (length-set out i (entry-for v)) ∙ g .same;
+      }
+
+pub repeat-end : {out₀ out : List ℤ} {k q n i u left : ℕ} {m : Bool} {d : ℕ} → Repeating out₀ out k q n i u left m d → left ≡ 0 → out ≡ sets out₀ k (map entry-for (copies n (By m d) q))
+repeat-end {out₀} {out} {k} {q} {n} {i} {u} {left} {m} {d} g z = subst (λ (x : ℕ). sets out i (map entry-for (copies x (By m d) u)) ≡ sets out₀ k (map entry-for (copies n (By m d) q))) z (g .stored)

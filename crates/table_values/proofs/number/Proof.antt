@@ -1,0 +1,54 @@
+use mathlib.Core.Path.{_≡_, refl, sym, ap, _∙_, subst}
+use mathlib.Core.Logic.{_⊎_, inl, inr, ⊎-elim}
+use mathlib.Core.List.{[], _∷_}
+use Prim.Native.Nat.{ℕ, _+_, _-_, _*_, _/_, _%_, _<_, _≤_}
+use native.Mathlib.Omega.{arith}
+use lib.Dec.{leb, eqb}
+use lib.ListN.{length, length-set}
+use Rattle.table_spec.specs.Values.{Own, Gap, By, Dup, own, by, times, copies, moved}
+use Rattle.table_values.specs.Numbers.{Token, below, valueAt}
+use Rattle.table_values.specs.States.{Sits, Went, Stepped, going, own as codes-own, gap as codes-gap, dif, dup-not, dup-dif}
+use Rattle.table_values.proofs.Turns.{value-not, value-full, value-adds, line-token, fault-token, gone-same, blank-moves}
+use borrow.Author.Needs.{needs}
+use Rattle.table_values.proofs.number.Statement.{statement}
+use Rattle.table_values.proofs.number.Tie as tie
+use Rattle.table_values.proofs.number.Reads as reads
+use Rattle.table_values.proofs.number.Lts as lts
+use Rattle.table_values.proofs.packed.Reads as packed-reads
+use Rattle.table_values.proofs.plain_number.Reads as plain-number-reads
+use Rattle.table_values.proofs.signed_number.Reads as signed-number-reads
+
+-- src/lib.rt:126:9
+plain-number-requires : tie.Need-plain-number-requires
+plain-number-requires c κs = search needs
+
+-- src/lib.rt:126:9
+returns : tie.Need-returns
+returns c = search needs
+
+-- src/lib.rt:129:9
+signed-number-requires : tie.Need-signed-number-requires
+signed-number-requires c κs = search needs
+
+-- src/lib.rt:129:9
+returns-2 : tie.Need-returns-2
+returns-2 c = search needs
+
+-- src/lib.rt:131:5
+packed-requires : tie.Need-packed-requires
+packed-requires c κs = let p = c .before .before .before .pre in (p .0, p .1, c .before .if1 .left, ⊎-elim (λ x. x) (λ x. absurd (let y = c .if2 .left in omega arith)) (p .4))
+
+-- src/lib.rt:121:1
+returns-3 : tie.Need-returns-3
+returns-3 c = search needs
+
+pub number-spec : {M : Type 1} → statement M
+number-spec =
+    tie.close
+    (tie.spec
+    plain-number-requires
+    returns
+    signed-number-requires
+    returns-2
+    packed-requires
+    returns-3)

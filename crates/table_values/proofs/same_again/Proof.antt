@@ -1,0 +1,50 @@
+use mathlib.Core.Bool.{false}
+use mathlib.Core.Path.{_≡_, refl, sym, ap, _∙_, subst}
+use mathlib.Core.Logic.{_⊎_, inl, inr, ⊎-elim}
+use mathlib.Core.List.{[], _∷_}
+use Prim.Native.Nat.{ℕ, _+_, _-_, _*_, _/_, _%_, _<_, _≤_}
+use native.Mathlib.Omega.{arith}
+use lib.Dec.{leb, eqb}
+use lib.ListN.{length, length-set}
+use Rattle.table_spec.specs.Values.{Own, Gap, By, Dup, own, by, times, copies, moved}
+use Rattle.table_values.specs.Numbers.{Token, below, valueAt}
+use Rattle.table_values.specs.States.{Sits, Went, Stepped, going, own as codes-own, gap as codes-gap, dif, dup-not, dup-dif}
+use Rattle.table_values.proofs.Turns.{value-not, value-full, value-adds, line-token, fault-token, gone-same, blank-moves}
+use Rattle.table_values.proofs.Moves.{copies-length, same-last}
+use Rattle.table_values.proofs.Meanings.{dup-same}
+use Rattle.table_values.proofs.Walks.{sits-next}
+use borrow.Author.Needs.{needs}
+use Rattle.table_values.proofs.same_again.Statement.{statement}
+use Rattle.table_values.proofs.same_again.Tie as tie
+use Rattle.table_values.proofs.same_again.Reads as reads
+use Rattle.table_values.proofs.same_again.Lts as lts
+use Rattle.table_values.proofs.repeat.Reads as repeat-reads
+
+-- src/lib.rt:352:15
+add-end : tie.Need-add-end
+add-end c = search needs
+
+-- src/lib.rt:354:9
+returns : tie.Need-returns
+returns c =
+    let p = c .before .before .pre in let a = c .before .before .args in let l = c .if1 .taken in let n = copies-length (a .n) (By false 0) (a .c .q) in
+    λ passing y w h. let z = dup-same (a .n) h (p .2) (p .3) (p .4) in value-full _ passing _ (p .6) _ y w _ _ (z .0) (omega arith)
+
+-- src/lib.rt:356:5
+repeat-requires : tie.Need-repeat-requires
+repeat-requires c κs = search needs
+
+-- src/lib.rt:346:1
+same-length : tie.Need-same-length
+same-length c = search needs
+
+-- src/lib.rt:346:1
+returns-2 : tie.Need-returns-2
+returns-2 c =
+    let p = c .before .before .before .before .before .pre in let a = c .before .before .before .before .before .args in let l = c .before .before .before .if1 .left in let n = copies-length (a .n) (By false 0) (a .c .q) in
+    (p .6 .low, sits-next (p .6) _ _ 0 0 0 (p .0 .small) (omega arith) (omega arith),
+      λ passing y w h. let z = dup-same (a .n) h (p .2) (p .3) (p .4) in
+      value-adds _ passing _ (p .6) _ y w _ _ _ _ _ (z .0) (omega arith) refl (omega arith) (rw (z .1, same-last (a .n) (a .c .q)) (going dup-not)) (c .before .repeat .ensures))
+
+pub same-again-spec : {M : Type 1} → statement M
+same-again-spec = tie.close (tie.spec add-end returns repeat-requires same-length returns-2)

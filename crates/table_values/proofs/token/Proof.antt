@@ -1,0 +1,127 @@
+use Rattle.table_values.proofs.NumberLaws.{kinds}
+use mathlib.Core.Path.{_≡_, refl, sym, ap, _∙_, subst}
+use mathlib.Core.Logic.{_⊎_, inl, inr, ⊎-elim}
+use mathlib.Core.List.{[], _∷_}
+use Prim.Native.Nat.{ℕ, _+_, _-_, _*_, _/_, _%_, _<_, _≤_}
+use native.Mathlib.Omega.{arith}
+use lib.Dec.{leb, eqb}
+use lib.ListN.{length, length-set}
+use Rattle.table_spec.specs.Values.{Own, Gap, By, Dup, own, by, times, copies, moved}
+use Rattle.table_values.specs.Numbers.{Token, below, valueAt}
+use Rattle.table_values.specs.States.{Sits, Went, Stepped, going, own as codes-own, gap as codes-gap, dif, dup-not, dup-dif}
+use Rattle.table_values.proofs.Turns.{value-not, value-full, value-adds, line-token, fault-token, gone-same, blank-moves}
+use Rattle.table_lines.specs.Ends.{Blanked, Ended}
+use Rattle.table_lines.specs.Seen.{behind}
+use borrow.Author.Needs.{needs}
+use Rattle.table_values.proofs.token.Statement.{statement}
+use Rattle.table_values.proofs.token.Tie as tie
+use Rattle.table_values.proofs.token.Reads as reads
+use Rattle.table_values.proofs.token.Lts as lts
+use Rattle.alphabet.proofs.entry_at.Reads as entry-at-reads
+use Rattle.table_lines.proofs.blanks.Reads as blanks-reads
+use Rattle.table_lines.proofs.line_end.Reads as line-end-reads
+use Rattle.table_values.proofs.missing.Reads as missing-reads
+use Rattle.table_values.proofs.number.Reads as number-reads
+use Rattle.table_values.proofs.value.Reads as value-reads
+
+-- src/lib.rt:440:22
+line-end-requires : tie.Need-line-end-requires
+line-end-requires c κs = search needs
+
+-- src/lib.rt:441:26
+enum-known-j : tie.Need-enum-known-j
+enum-known-j c = search needs
+
+-- src/lib.rt:442:28
+enum-told : tie.Need-enum-told
+enum-told c = search needs
+
+-- src/lib.rt:440:9
+returns : tie.Need-returns
+returns c = let x = rw (c .before .j .given .1) at (c .before .before .before .line-end .ensures) in (x .0, x .1, refl, λ passing y w h. line-token _ passing _ _ _ y w _ x)
+
+-- src/lib.rt:440:9
+returns-2 : tie.Need-returns-2
+returns-2 c = let x = rw (c .enum-told .given .1) at (c .before .before .line-end .ensures) in λ passing y w h. fault-token _ passing _ _ _ y w 3 (x .1 _)
+
+-- src/lib.rt:446:13
+blanks-requires : tie.Need-blanks-requires
+blanks-requires c κs = search needs
+
+-- src/lib.rt:447:13
+entry-at-requires : tie.Need-entry-at-requires
+entry-at-requires c κs = search needs
+
+-- src/lib.rt:448:9
+returns-3 : tie.Need-returns-3
+returns-3 c =
+    let p = c .before .before .before .before .before .pre .2 in let b = c .before .blanks .ensures in let l = blank-moves _ _ _ _ (p .stands) (c .before .before .if2 .taken) b in
+    (l, record { some = omega arith; high = b .high; stands = c .entry-at .ensures; small = p .small; size = p .size; few = p .few },
+      λ passing y w h. gone-same _ passing _ _ y w _ _ h (b .within))
+
+-- src/lib.rt:459:9
+missing-requires : tie.Need-missing-requires
+missing-requires c κs = search needs
+
+-- src/lib.rt:459:9
+same-length : tie.Need-same-length
+same-length c = search needs
+
+-- src/lib.rt:459:9
+returns-4 : tie.Need-returns-4
+returns-4 c = search needs
+
+-- src/lib.rt:461:11
+number-requires : tie.Need-number-requires
+number-requires c κs =
+    let p = c .before .before .before .before .pre in let a = c .before .before .before .before .args in
+    (p .0, p .2 .stands, c .before .before .if1 .left, p .2 .some, kinds _ _ _ (p .2 .stands) (c .before .before .if1 .left) (c .before .if2 .left) (c .if3 .left))
+
+-- src/lib.rt:462:35
+enum-told-2 : tie.Need-enum-told-2
+enum-told-2 c = search needs
+
+-- src/lib.rt:463:26
+enum-known-v : tie.Need-enum-known-v
+enum-known-v c = search needs
+
+-- src/lib.rt:463:38
+value-requires : tie.Need-value-requires
+value-requires c κs =
+    let p = c .before .before .before .before .before .before .before .before .before .pre in let x = rw (c .before .before .v .given .1) at (c .before .before .before .before .number .ensures) in
+    (p .2, p .1, c .before .before .before .before .before .before .before .if1 .left, kinds _ _ _ (p .2 .stands) (c .before .before .before .before .before .before .before .if1 .left) (c .before .before .before .before .before .before .if2 .left) (c .before .before .before .before .before .if3 .left), x .0, x .1)
+
+-- src/lib.rt:433:1
+returns-5 : tie.Need-returns-5
+returns-5 c = let x = rw (c .enum-told2 .given .1) at (c .before .before .number .ensures) in λ passing y w h. fault-token _ passing _ _ _ y w 5 x
+
+-- src/lib.rt:433:1
+same-length-2 : tie.Need-same-length-2
+same-length-2 c = search needs
+
+-- src/lib.rt:433:1
+returns-6 : tie.Need-returns-6
+returns-6 c = search needs
+
+pub token-spec : {M : Type 1} → statement M
+token-spec =
+    tie.close
+    (tie.spec
+    line-end-requires
+    enum-known-j
+    enum-told
+    returns
+    returns-2
+    blanks-requires
+    entry-at-requires
+    returns-3
+    missing-requires
+    same-length
+    returns-4
+    number-requires
+    enum-told-2
+    enum-known-v
+    value-requires
+    returns-5
+    same-length-2
+    returns-6)

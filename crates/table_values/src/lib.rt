@@ -1,0 +1,484 @@
+// The values of a line (01, "Values", "Meaning"). Inner functions: the byte table is lent to them, and the state goes in and comes back by value.
+ghost use mathlib.Core.Path.{_≡_};
+ghost use mathlib.Core.Bool.{Bool, true, false};
+ghost use mathlib.Core.List.{map};
+ghost use mathlib.Core.Logic.{_⊎_};
+ghost use Prim.Native.Nat.{ℕ, _+_, _-_, _*_, _/_, _%_, _<_, _≤_};
+ghost use lib.Dec.{leb};
+ghost use lib.ListN.{length, set};
+ghost use lib.Seq.{sets};
+ghost use Rattle.alphabet_spec.specs.Entries.{entryAt, table};
+ghost use Rattle.table_spec.specs.Frame.{entry-for};
+ghost use Rattle.table_spec.specs.Values.{own, gap, by, times, By, copies, moved, room};
+ghost use Rattle.table_values.specs.Numbers.{leadOf, valueAt, below, Token, Numbered};
+ghost use Rattle.table_values.specs.States.{shiftedTo, Reaches, Sits, Went, Stepped, Lined};
+use alphabet::digits;
+use alphabet::entry_at;
+use signed::entry_for;
+use table_lines::Ending;
+use table_lines::blanks;
+use table_lines::line_end;
+
+const MISSING: u64 = 96;
+
+const BLANK: u64 = 112;
+
+const POINT: u64 = 160;
+
+// A number: itself, the place after it and the entry there; or one that is misspelled.
+pub enum NumberRead {
+    Read(u64, usize, u64),
+    Misspelled,
+}
+
+// Within a line: the place and the entry there; how many points; the ordinate before (0: none on this line, or missing); the ordinate that a check line's first value must equal (0: not
+// asked); the size of the last difference; and the form of the value before: 0 none, or a DUP that is not DIF; 1 a DUP that is; 2 a value of its own; 32 to 63 a difference, its first byte's entry.
+pub struct Cur {
+    pub at: usize,
+    pub e: u64,
+    pub k: usize,
+    pub q: u64,
+    pub want: u64,
+    pub step: u64,
+    pub form: u64,
+}
+
+// What one token did: the next state, the place of the next line, or a refusal number.
+pub enum Step {
+    Go(Cur),
+    Line(usize),
+    Refused(u64),
+}
+
+// What the values of a line did: the last state and the place of the next line, or a refusal and its place.
+pub enum Valued {
+    Done(Cur, usize),
+    Refused(u64, usize),
+}
+
+// ---- numbers
+
+// How many digits may follow the pseudo-digit with the entry e: ten with it, five for DUP, none after @ and %.
+fn further(e: u64) -> usize
+    requires { ⌜ (16 ≤ e) × (e < 96) ⌝ }
+    ensures { λ r. ⌜ r ≡ room (leadOf e) (e % 16) ⌝ }
+{
+    if e < 32 {
+        return 4;
+    }
+    if e % 16 == 0 {
+        return 0;
+    }
+    9
+}
+
+// A pseudo-digit and its digits, at a place whose entry is e.
+fn packed(t: &[u8; 256], s: &[u8], at: usize, e: u64) -> NumberRead
+    requires { ⌜ (now t ≡ table) × (e ≡ entryAt (now s) at) × (16 ≤ e) × (e < 96) ⌝ }
+    ensures { λ r. ⌜ Numbered (now (s .entry)) at e r ⌝ }
+{
+    let next = at + 1;
+    let r = digits(t, s, next, e % 16, further(e));
+    if r.e < 16 {
+        return NumberRead::Misspelled;
+    }
+    NumberRead::Read(r.v, r.at, r.e)
+}
+
+// A sign and digits, at a place whose entry is e.
+fn signed_number(t: &[u8; 256], s: &[u8], at: usize, e: u64) -> NumberRead
+    requires { ⌜ (now t ≡ table) × (e ≡ entryAt (now s) at) × (128 ≤ e) × (e < 160) ⌝ }
+    ensures { λ r. ⌜ Numbered (now (s .entry)) at e r ⌝ }
+{
+    let next = at + 1;
+    let r = digits(t, s, next, 0, 10);
+    if r.at == next {
+        return NumberRead::Misspelled;
+    }
+    if r.e < 16 {
+        return NumberRead::Misspelled;
+    }
+    NumberRead::Read(r.v, r.at, r.e)
+}
+
+// Digits directly after a blank, at a place whose entry is the digit e.
+fn plain_number(t: &[u8; 256], s: &[u8], at: usize, e: u64) -> NumberRead
+    requires { ⌜ (now t ≡ table) × (e ≡ entryAt (now s) at) × (e < 16) × (0 < at) ⌝ }
+    ensures { λ r. ⌜ Numbered (now (s .entry)) at e r ⌝ }
+{
+    if entry_at(t, s, at - 1) != BLANK {
+        return NumberRead::Misspelled;
+    }
+    let next = at + 1;
+    let r = digits(t, s, next, e, 9);
+    if r.e < 16 {
+        return NumberRead::Misspelled;
+    }
+    NumberRead::Read(r.v, r.at, r.e)
+}
+
+// The number of the value at a place whose entry is e, below a point's, and neither `?` nor a blank.
+fn number(t: &[u8; 256], s: &[u8], at: usize, e: u64) -> NumberRead
+    requires { ⌜ (now t ≡ table) × (e ≡ entryAt (now s) at) × (e < 160) × (0 < at) × (e < 96 ⊎ 128 ≤ e) ⌝ }
+    ensures { λ r. ⌜ Numbered (now (s .entry)) at e r ⌝ }
+{
+    if e < 16 {
+        return plain_number(t, s, at, e);
+    }
+    if e >= 128 {
+        return signed_number(t, s, at, e);
+    }
+    packed(t, s, at, e)
+}
+
+// ---- ordinates
+
+// An ordinate and a difference, where the sum is one.
+fn moved_by(q: u64, minus: bool, v: u64) -> u64
+    requires { ⌜ Reaches minus v 1 q ⌝ }
+    ensures { λ r. ⌜ r ≡ moved minus v q ⌝ }
+{
+    if minus {
+        return q - v;
+    }
+    q + v
+}
+
+// An ordinate and a difference, or 0 if that is no ordinate.
+fn shifted(q: u64, minus: bool, v: u64) -> u64
+    requires { ⌜ (q < 4294967296) × (v < 1000000000000000) ⌝ }
+    ensures { λ r. ⌜ r ≡ shiftedTo minus v q ⌝ }
+{
+    if minus {
+        if v >= q {
+            return 0;
+        }
+        return q - v;
+    }
+    let u = q + v;
+    if u >= 4294967296 {
+        return 0;
+    }
+    u
+}
+
+// Stores an ordinate, if there is room for it.
+fn put(out: &mut [i32], k: usize, u: u64)
+    requires { ⌜ u < 4294967296 ⌝ }
+    ensures { λ _. ⌜ now (out .exit) ≡ set (now (out .entry)) k (entry-for u) ⌝ }
+{
+    if k < out.len() {
+        out[k] = entry_for(u);
+    }
+}
+
+// Stores n ordinates, each a step from the one before.
+fn repeat(out: &mut [i32], k: usize, q: u64, minus: bool, d: u64, n: usize)
+    requires { ⌜ (k + n ≤ 200000) × (q < 4294967296) × Reaches minus d n q ⌝ }
+    ensures { λ _. ⌜ now (out .exit) ≡ sets (now (out .entry)) k (map entry-for (copies n (By minus d) q)) ⌝ }
+{
+    let mut i = k;
+    let mut u = q;
+    let mut left = n;
+    while left > 0 {
+        u = moved_by(u, minus, d);
+        put(out, i, u);
+        i += 1;
+        left -= 1;
+    }
+}
+
+// ---- one value
+
+// THE HOT LOOP. As many differences as stand here one after the other and are right. It stops before anything else.
+pub fn differences(t: &[u8; 256], s: &[u8], points: usize, out: &mut [i32], c: Cur) -> Cur
+    requires { ⌜ (now t ≡ table) × Sits points (now s) c ⌝ }
+    ensures { λ r. ⌜ Went points (now (s .entry)) c r (now (out .entry)) (now (out .exit)) ⌝ }
+{
+    let mut at = c.at;
+    let mut e = c.e;
+    let mut k = c.k;
+    let mut q = c.q;
+    let mut step = c.step;
+    let mut form = c.form;
+    if q == 0 {
+        return c;
+    }
+    while e / 32 == 1 {
+        if k >= points {
+            break;
+        }
+        match packed(t, s, at, e) {
+            NumberRead::Misspelled => {
+                break;
+            }
+            NumberRead::Read(v, j, f) => {
+                let u = shifted(q, e >= 48, v);
+                if u == 0 {
+                    break;
+                }
+                put(out, k, u);
+                k += 1;
+                q = u;
+                step = v;
+                form = e;
+                at = j;
+                e = f;
+            }
+        }
+    }
+    Cur {
+        at,
+        e,
+        k,
+        q,
+        want: c.want,
+        step,
+        form,
+    }
+}
+
+// A missing ordinate.
+fn missing(t: &[u8; 256], s: &[u8], points: usize, out: &mut [i32], c: Cur) -> Step
+    requires { ⌜ (now t ≡ table) × Sits points (now s) c × (c .e ≡ 96) ⌝ }
+    ensures { λ r. ⌜ Stepped points (now (s .entry)) c (now (out .entry)) (now (out .exit)) r ⌝ }
+{
+    let at = c.at;
+    let k = c.k;
+    let want = c.want;
+    let next = at + 1;
+    if want != 0 {
+        return Step::Refused(10);
+    }
+    if k >= points {
+        return Step::Refused(11);
+    }
+    put(out, k, 0);
+    let f = entry_at(t, s, next);
+    Step::Go(Cur { at: next, e: f, k: k + 1, q: 0, want: 0, step: 0, form: 2 })
+}
+
+// An ordinate of its own; on a check line's start it is compared, and adds no point.
+fn own_value(
+    s: &[u8],
+    points: usize,
+    out: &mut [i32],
+    c: Cur,
+    minus: bool,
+    v: u64,
+    j: usize,
+    f: u64,
+) -> Step
+    requires { ⌜ Sits points (now s) c × Token (now s) (c .at) (own minus v) j f ⌝ }
+    ensures { λ r. ⌜ Stepped points (now (s .entry)) c (now (out .entry)) (now (out .exit)) r ⌝ }
+{
+    let k = c.k;
+    let want = c.want;
+    if v > 2147483647 {
+        return Step::Refused(9);
+    }
+    let u = moved_by(2147483648, minus, v);
+    if want != 0 {
+        if u != want {
+            return Step::Refused(10);
+        }
+        return Step::Go(Cur {
+            at: j,
+            e: f,
+            k,
+            q: u,
+            want: 0,
+            step: 0,
+            form: 2,
+        });
+    }
+    if k >= points {
+        return Step::Refused(11);
+    }
+    put(out, k, u);
+    Step::Go(Cur {
+        at: j,
+        e: f,
+        k: k + 1,
+        q: u,
+        want: 0,
+        step: 0,
+        form: 2,
+    })
+}
+
+// A difference.
+fn difference(s: &[u8], points: usize, out: &mut [i32], c: Cur, v: u64, j: usize, f: u64) -> Step
+    requires { ⌜ Sits points (now s) c × (v < 10000000000) × (32 ≤ c .e) × (c .e < 64) × Token (now s) (c .at) (by (leb 48 (c .e)) v) j f ⌝ }
+    ensures { λ r. ⌜ Stepped points (now (s .entry)) c (now (out .entry)) (now (out .exit)) r ⌝ }
+{
+    let k = c.k;
+    let e = c.e;
+    let q = c.q;
+    if q == 0 {
+        return Step::Refused(8);
+    }
+    let u = shifted(q, e >= 48, v);
+    if u == 0 {
+        return Step::Refused(9);
+    }
+    if k >= points {
+        return Step::Refused(11);
+    }
+    put(out, k, u);
+    Step::Go(Cur {
+        at: j,
+        e: f,
+        k: k + 1,
+        q: u,
+        want: 0,
+        step: v,
+        form: e,
+    })
+}
+
+// A DUP of a value of its own, or of a missing one: n further copies of the ordinate.
+fn same_again(s: &[u8], points: usize, out: &mut [i32], c: Cur, n: usize, j: usize, f: u64) -> Step
+    requires { ⌜ Sits points (now s) c × (points ≤ 65536) × (2 ≤ c .form) × (c .form < 32) × (1 ≤ n) × (n < 100000) × Token (now s) (c .at) (times (n + 1)) j f ⌝ }
+    ensures { λ r. ⌜ Stepped points (now (s .entry)) c (now (out .entry)) (now (out .exit)) r ⌝ }
+{
+    let k = c.k;
+    let q = c.q;
+    let end = k + n;
+    if end > points {
+        return Step::Refused(11);
+    }
+    repeat(out, k, q, false, 0, n);
+    Step::Go(Cur {
+        at: j,
+        e: f,
+        k: end,
+        q,
+        want: 0,
+        step: 0,
+        form: 0,
+    })
+}
+
+// A DUP of a difference: n further steps.
+fn steps_again(s: &[u8], points: usize, out: &mut [i32], c: Cur, n: usize, j: usize, f: u64) -> Step
+    requires { ⌜ Sits points (now s) c × (points ≤ 65536) × (32 ≤ c .form) × (1 ≤ n) × (n < 100000) × Token (now s) (c .at) (times (n + 1)) j f ⌝ }
+    ensures { λ r. ⌜ Stepped points (now (s .entry)) c (now (out .entry)) (now (out .exit)) r ⌝ }
+{
+    let k = c.k;
+    let q = c.q;
+    let d = c.step;
+    let form = c.form;
+    let minus = form >= 48;
+    let far = d * n as u64;
+    let u = shifted(q, minus, far);
+    if u == 0 {
+        return Step::Refused(9);
+    }
+    let end = k + n;
+    if end > points {
+        return Step::Refused(11);
+    }
+    repeat(out, k, q, minus, d, n);
+    Step::Go(Cur {
+        at: j,
+        e: f,
+        k: end,
+        q: u,
+        want: 0,
+        step: 0,
+        form: 1,
+    })
+}
+
+// A DUP with the count v (01, "c is at least 2").
+fn dup_value(s: &[u8], points: usize, out: &mut [i32], c: Cur, v: u64, j: usize, f: u64) -> Step
+    requires { ⌜ Sits points (now s) c × (points ≤ 65536) × (v < 100000) × Token (now s) (c .at) (times v) j f ⌝ }
+    ensures { λ r. ⌜ Stepped points (now (s .entry)) c (now (out .entry)) (now (out .exit)) r ⌝ }
+{
+    let form = c.form;
+    if form < 2 {
+        return Step::Refused(8);
+    }
+    if v < 2 {
+        return Step::Refused(8);
+    }
+    let n = (v - 1) as usize;
+    if form < 32 {
+        return same_again(s, points, out, c, n, j, f);
+    }
+    steps_again(s, points, out, c, n, j, f)
+}
+
+// The value at the place, whose number is v.
+fn value(s: &[u8], points: usize, out: &mut [i32], c: Cur, v: u64, j: usize, f: u64) -> Step
+    requires { ⌜ Sits points (now s) c × (points ≤ 65536) × (c .e < 160) × (c .e < 96 ⊎ 128 ≤ c .e) × (v < below (c .e)) × Token (now s) (c .at) (valueAt (c .e) v) j f ⌝ }
+    ensures { λ r. ⌜ Stepped points (now (s .entry)) c (now (out .entry)) (now (out .exit)) r ⌝ }
+{
+    let e = c.e;
+    let kind = e / 16;
+    if kind == 1 {
+        return dup_value(s, points, out, c, v, j, f);
+    }
+    if e / 32 == 1 {
+        return difference(s, points, out, c, v, j, f);
+    }
+    own_value(s, points, out, c, kind % 4 == 1, v, j, f)
+}
+
+// Whatever stands next on a line.
+fn token(t: &[u8; 256], s: &[u8], points: usize, out: &mut [i32], c: Cur) -> Step
+    requires { ⌜ (now t ≡ table) × (points ≤ 65536) × Sits points (now s) c ⌝ }
+    ensures { λ r. ⌜ Stepped points (now (s .entry)) c (now (out .entry)) (now (out .exit)) r ⌝ }
+{
+    let at = c.at;
+    let e = c.e;
+    if e >= POINT {
+        return match line_end(t, s, at, e) {
+            Ending::Next(j) => Step::Line(j),
+            Ending::Bad => Step::Refused(3),
+        };
+    }
+    if e == BLANK {
+        let j = blanks(t, s, at);
+        let f = entry_at(t, s, j);
+        return Step::Go(Cur {
+            at: j,
+            e: f,
+            k: c.k,
+            q: c.q,
+            want: c.want,
+            step: c.step,
+            form: c.form,
+        });
+    }
+    if e == MISSING {
+        return missing(t, s, points, out, c);
+    }
+    match number(t, s, at, e) {
+        NumberRead::Misspelled => Step::Refused(5),
+        NumberRead::Read(v, j, f) => value(s, points, out, c, v, j, f),
+    }
+}
+
+// The values of a line.
+pub fn values(t: &[u8; 256], s: &[u8], points: usize, out: &mut [i32], start: Cur) -> Valued
+    requires { ⌜ (now t ≡ table) × (points ≤ 65536) × Sits points (now s) start ⌝ }
+    ensures { λ r. ⌜ Lined points (now (s .entry)) start (now (out .entry)) (now (out .exit)) r ⌝ }
+{
+    let mut c = start;
+    loop {
+        let b = differences(t, s, points, out, c);
+        match token(t, s, points, out, b) {
+            Step::Go(d) => {
+                c = d;
+            }
+            Step::Line(j) => {
+                return Valued::Done(b, j);
+            }
+            Step::Refused(n) => {
+                return Valued::Refused(n, b.at);
+            }
+        }
+    }
+}
