@@ -17,6 +17,7 @@ use Rattle.frame.specs.declared.Frame.{Frame}
 use Rattle.frame.specs.declared.Framed.{Framed}
 use Rattle.frame.specs.declared.Framed.the-variants.{Legal, Outside}
 use Rattle.frame.specs.Legal.{framed, lifted, Sound}
+use Rattle.frame.specs.FrameLaws.{legal-abscissa}
 
 -- ---- one abscissa
 
@@ -42,16 +43,12 @@ within-limits (negsuc n) e f = rw (le-leb (suc n) 9999999999 (omega (arith, ltb-
 pub lifted-fits : (x : ℤ) → mag x < zero-abscissa → SFits w64 (pos (abscissa x))
 lifted-fits x h = record { sfits = omega (arith, lift-small zero-abscissa x h) }
 
-legal-mag : (x : ℤ) → abscissa-legal x ≡ true → (0 < abscissa x) × (abscissa x < 20000000000)
-legal-mag (pos n) e = let l = leb-true n 9999999999 e in (omega arith, omega arith)
-legal-mag (negsuc n) e = let l = leb-true (suc n) 9999999999 e in (omega arith, omega arith)
-
 -- a number that was lifted is 0 exactly where it is outside
 pub lifted-zero : (x : ℤ) → lifted x ≡ 0 → abscissa-legal x ≡ false
 unfolding lifted
 lifted-zero x =
     by-case (λ t. abscissa-legal x ≡ t → pick t (abscissa x) 0 ≡ 0 → t ≡ false) (abscissa-legal x)
-    (λ _ e h. let l = legal-mag x e in absurd (omega (arith, l .0))) (λ _ _ _. refl) refl
+    (λ _ e h. let l = legal-abscissa x e in absurd (omega (arith, l .0))) (λ _ _ _. refl) refl
 
 pub record Lifts (x : ℤ) (u : ℕ) : Type 0 where
   pub legal : abscissa-legal x ≡ true
@@ -62,7 +59,7 @@ pub lifted-some : (x : ℤ) (u : ℕ) → u ≡ lifted x → (u ≡ 0 → ⊥) �
 unfolding lifted
 lifted-some x u =
     by-case (λ t. abscissa-legal x ≡ t → u ≡ pick t (abscissa x) 0 → (u ≡ 0 → ⊥) → Lifts x u) (abscissa-legal x)
-    (λ _ e h n. let l = legal-mag x e in record { legal = e; is = sym h; small = omega (arith, l .1) }) (λ _ _ h n. absurd (n h)) refl
+    (λ _ e h n. let l = legal-abscissa x e in record { legal = e; is = sym h; small = omega (arith, l .1) }) (λ _ _ h n. absurd (n h)) refl
 
 -- ---- the frame
 

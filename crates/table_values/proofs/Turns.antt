@@ -25,17 +25,17 @@ use Rattle.table_values.specs.declared.Cur.{Cur}
 
 -- ---- points, one part after the other
 
-push-push : (us vs : List ℕ) (x : Answer) → push us (push vs x) ≡ push (us ++ vs) x
+pub push-push : (us vs : List ℕ) (x : Answer) → push us (push vs x) ≡ push (us ++ vs) x
 unfolding push
 push-push us vs (refuse c a) = refl
 push-push us vs (accept ys) = ap accept (sym (append-assoc us vs ys))
 
-push-none : (x : Answer) → x ≡ push [] x
+pub push-none : (x : Answer) → x ≡ push [] x
 unfolding push
 push-none (refuse c a) = refl
 push-none (accept ys) = refl
 
-stored-then : (us vs : List ℕ) (out : List ℤ) (k : ℕ) → sets (sets out k (map entry-for us)) (k + length us) (map entry-for vs) ≡ sets out k (map entry-for (us ++ vs))
+pub stored-then : (us vs : List ℕ) (out : List ℤ) (k : ℕ) → sets (sets out k (map entry-for us)) (k + length us) (map entry-for vs) ≡ sets out k (map entry-for (us ++ vs))
 stored-then [] vs out k = rw (add-zero k) refl
 stored-then (u ∷ us) vs out k = rw (add-suc k (length us), ← suc-add k (length us)) (stored-then us vs (set out k (entry-for u)) (suc k))
 

@@ -27,7 +27,7 @@ use Rattle.table_values.proofs.Meanings.{dif-adds}
 
 -- the state after a value
 pub sits-next : {N : ℕ} {s : List ℕ} {i j f : ℕ} {x : Value} → Token s i x j f → (k q want d form : ℕ) → q < 4294967296 → d < 10000000000 → k ≤ N
-  → Sits N s (record { at = j; e = f; k = k; q = q; want = want; step = d; form = form })
+    → Sits N s (record { at = j; e = f; k = k; q = q; want = want; step = d; form = form })
 sits-next t k q want d form a b l = let z = t .low in record { some = omega arith; high = t .high; stands = t .stands; small = a; size = b; few = l }
 
 -- an ordinate is asked for only before a line's first value
@@ -43,8 +43,8 @@ went-none c out h = record { low = omega arith; sits = h; law = λ passing p w g
 
 -- one difference more
 pub went-on : {N : ℕ} {s : List ℕ} {c : Cur} (b : Cur) {out mid : List ℤ} (out' : List ℤ) {v j f : ℕ} (u : ℕ) → Went N s c b out mid → 0 < b .q → 32 ≤ b .e → b .e < 64
-  → v < 10000000000 → Token s (b .at) (by (leb 48 (b .e)) v) j f → b .k < N → u ≡ shiftedTo (leb 48 (b .e)) v (b .q) → (u ≡ 0 → ⊥) → out' ≡ set mid (b .k) (entry-for u)
-  → Went N s c (record { at = j; e = f; k = b .k + 1; q = u; want = b .want; step = v; form = b .e }) out out'
+    → v < 10000000000 → Token s (b .at) (by (leb 48 (b .e)) v) j f → b .k < N → u ≡ shiftedTo (leb 48 (b .e)) v (b .q) → (u ≡ 0 → ⊥) → out' ≡ set mid (b .k) (entry-for u)
+    → Went N s c (record { at = j; e = f; k = b .k + 1; q = u; want = b .want; step = v; form = b .e }) out out'
 went-on {N} {s} {c} b {out} {mid} out' {v} {j} {f} u g o l h vs t k e n m =
     let z = shift-some (leb 48 (b .e)) v (b .q) u e n in
     let low = g .low in let tl = t .low in
@@ -52,7 +52,7 @@ went-on {N} {s} {c} b {out} {mid} out' {v} {j} {f} u g o l h vs t k e n m =
       low = omega arith;
       sits = sits-next t (b .k + 1) u (b .want) v (b .e) (z .high) vs (omega arith);
       law = λ passing p w x. gone-gone N passing s (c .at) (c .k) p w out mid b (g .law passing p w x) out' _
-        (λ y i hold. value-adds N passing s t (b .k) y i (u ∷ []) (By (leb 48 (b .e)) v) mid out' _ (dif-adds (leb 48 (b .e)) v u hold (λ r. omega arith) z) (omega arith) refl refl
+          (λ y i hold. value-adds N passing s t (b .k) y i (u ∷ []) (By (leb 48 (b .e)) v) mid out' _ (dif-adds (leb 48 (b .e)) v u hold (λ r. omega arith) z) (omega arith) refl refl
           (rw (no-want hold o) (going (dif l h (z .low)))) m);
     }
 
@@ -68,9 +68,13 @@ went-step g h = went-went g (record { low = let x = h .0 in omega arith; sits = 
 
 pub went-line : {N : ℕ} {s : List ℕ} {c b : Cur} {j : ℕ} {out mid out' : List ℤ} → Went N s c b out mid → Stepped N s b mid out' (step.Line j) → Lined N s c out out' (valued.Done b j)
 went-line {N} {s} {c} {b} {j} {out} {mid} {out'} g h =
-    let x = g .low in let y = h .0 in
-    (h .1, omega arith, g .sits, λ passing p w z.
-      rw (h .2) (gone-row N passing s (c .at) (c .k) p w out mid b (g .law passing p w z) j (h .3 passing)))
+    let x = g .low in let y = h .0 in (
+      h .1,
+      omega arith,
+      g .sits,
+      λ passing p w z.
+          rw (h .2) (gone-row N passing s (c .at) (c .k) p w out mid b (g .law passing p w z) j (h .3 passing)),
+    )
 
 pub went-refused : {N : ℕ} {s : List ℕ} {c b : Cur} {n : ℕ} {out mid : List ℤ} (out' : List ℤ) → Went N s c b out mid → Stepped N s b mid out' (step.Refused n) → Lined N s c out out' (valued.Refused n (b .at))
 went-refused {N} {s} {c} {b} {n} {out} {mid} out' g h = λ passing p w z. gone-refuse N passing s (c .at) (c .k) p w out mid b (g .law passing p w z) n (b .at) (h passing)

@@ -255,7 +255,15 @@ fn missing(t: &[u8; 256], s: &[u8], points: usize, out: &mut [i32], c: Cur) -> S
     }
     put(out, k, 0);
     let f = entry_at(t, s, next);
-    Step::Go(Cur { at: next, e: f, k: k + 1, q: 0, want: 0, step: 0, form: 2 })
+    Step::Go(Cur {
+        at: next,
+        e: f,
+        k: k + 1,
+        q: 0,
+        want: 0,
+        step: 0,
+        form: 2,
+    })
 }
 
 // An ordinate of its own; on a check line's start it is compared, and adds no point.

@@ -54,9 +54,11 @@ same-length c = search needs
 returns-4 : tie.Need-returns-4
 returns-4 c =
     let p = c .before .before .before .before .before .before .before .before .pre in let a = c .before .before .before .before .before .before .before .before .args in let k = c .before .before .before .if3 .left in let n = c .before .before .before .before .before .before .if1 .left in
-    let z = shift-some (leb 48 (a .c .e)) (a .v) (a .c .q) _ (c .before .before .before .before .before .shifted .ensures) (c .before .before .before .before .if2 .left) in
-    (p .4 .low, sits-next (p .4) _ _ 0 _ _ (z .high) (p .1) (omega arith),
-      λ passing y w h. value-adds _ passing _ (p .4) _ y w (_ ∷ []) _ _ _ _ (dif-adds _ _ _ h n z) (omega arith) refl refl (going (dif (p .2) (p .3) (z .low))) (c .before .put .ensures))
+    let z = shift-some (leb 48 (a .c .e)) (a .v) (a .c .q) _ (c .before .before .before .before .before .shifted .ensures) (c .before .before .before .before .if2 .left) in (
+      p .4 .low,
+      sits-next (p .4) _ _ 0 _ _ (z .high) (p .1) (omega arith),
+      λ passing y w h. value-adds _ passing _ (p .4) _ y w (_ ∷ []) _ _ _ _ (dif-adds _ _ _ h n z) (omega arith) refl refl (going (dif (p .2) (p .3) (z .low))) (c .before .put .ensures),
+    )
 
 pub difference-spec : {M : Type 1} → statement M
 difference-spec =

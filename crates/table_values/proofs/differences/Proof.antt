@@ -70,9 +70,11 @@ loop-again : tie.Need-loop-again Inv-loop μ-loop
 loop-again c =
     let l = c .before .before .before .before .before .before .before .before .before .before .before .loop in let x = rw (c .before .before .before .before .before .before .v .given .1) at (c .before .before .before .before .before .before .before .before .packed .ensures) in let b = below-ten (l .e) in
     let d = c .before .before .before .before .before .before .before .before .before .before .loop-test .taken in let lo : 32 ≤ l .e = omega arith in let hi : l .e < 64 = omega arith in
-    let u = shift-some (leb 48 (l .e)) _ (l .q) _ (c .before .before .before .before .shifted .ensures) (c .before .before .before .if3 .left) in
-    (went-on _ _ _ (l .inv .0) (l .inv .1) lo hi (let y = x .0 in omega arith) (rw (dif-at (l .e) _ lo hi) at (x .1)) (c .before .before .before .before .before .before .before .before .before .if2 .left) (c .before .before .before .before .shifted .ensures) (c .before .before .before .if3 .left) (c .before .put .ensures),
-      u .low, search needs)
+    let u = shift-some (leb 48 (l .e)) _ (l .q) _ (c .before .before .before .before .shifted .ensures) (c .before .before .before .if3 .left) in (
+      went-on _ _ _ (l .inv .0) (l .inv .1) lo hi (let y = x .0 in omega arith) (rw (dif-at (l .e) _ lo hi) at (x .1)) (c .before .before .before .before .before .before .before .before .before .if2 .left) (c .before .before .before .before .shifted .ensures) (c .before .before .before .if3 .left) (c .before .put .ensures),
+      u .low,
+      search needs,
+    )
 
 -- src/lib.rt:194:1
 same-length : tie.Need-same-length Inv-loop μ-loop

@@ -54,9 +54,11 @@ same-length c = search needs
 -- src/lib.rt:242:1
 returns-3 : tie.Need-returns-3
 returns-3 c =
-    let p = c .before .before .before .before .before .before .before .pre in let t = gap-token _ _ (sym (p .1 .stands) ∙ p .2) in let l = c .before .before .before .before .if2 .left in
-    (t .low, record { some = omega arith; high = t .high; stands = c .entry-at .ensures; small = omega arith; size = omega arith; few = omega arith },
-      λ passing y w h. value-adds _ passing _ t _ y w (0 ∷ []) Gap _ _ _ (gap-free h (c .before .before .before .before .before .if1 .left)) (omega arith) refl refl (going codes-gap) (c .before .before .put .ensures))
+    let p = c .before .before .before .before .before .before .before .pre in let t = gap-token _ _ (sym (p .1 .stands) ∙ p .2) in let l = c .before .before .before .before .if2 .left in (
+      t .low,
+      record { some = omega arith; high = t .high; stands = c .entry-at .ensures; small = omega arith; size = omega arith; few = omega arith },
+      λ passing y w h. value-adds _ passing _ t _ y w (0 ∷ []) Gap _ _ _ (gap-free h (c .before .before .before .before .before .if1 .left)) (omega arith) refl refl (going codes-gap) (c .before .before .put .ensures),
+    )
 
 pub missing-spec : {M : Type 1} → statement M
 missing-spec =

@@ -37,10 +37,12 @@ returns-2 c =
 -- src/lib.rt:290:9
 returns-3 : tie.Need-returns-3
 returns-3 c =
-    let p = c .before .before .before .before .before .pre in let a = c .before .before .before .before .before .args in let l = c .before .before .before .if1 .left in let u = c .before .before .moved-by .ensures in
-    (p .1 .low, sits-next (p .1) _ _ 0 0 2 (rw u (own-small (a .minus) (a .v) l)) (omega arith) (p .0 .few),
+    let p = c .before .before .before .before .before .pre in let a = c .before .before .before .before .before .args in let l = c .before .before .before .if1 .left in let u = c .before .before .moved-by .ensures in (
+      p .1 .low,
+      sits-next (p .1) _ _ 0 0 2 (rw u (own-small (a .minus) (a .v) l)) (omega arith) (p .0 .few),
       λ passing y w h. let z = own-equal (a .minus) (a .v) h l (c .before .if2 .taken) (sym u ∙ c .if3 .left) in
-      value-adds _ passing _ (p .1) _ y w [] Own _ _ _ (z .0) (let few = p .0 .few in omega arith) refl (omega arith) (rw (c .if3 .left ∙ z .1) (going codes-own)) refl)
+          value-adds _ passing _ (p .1) _ y w [] Own _ _ _ (z .0) (let few = p .0 .few in omega arith) refl (omega arith) (rw (c .if3 .left ∙ z .1) (going codes-own)) refl,
+    )
 
 -- src/lib.rt:301:9
 returns-4 : tie.Need-returns-4
@@ -63,9 +65,11 @@ same-length c = search needs
 -- src/lib.rt:267:1
 returns-5 : tie.Need-returns-5
 returns-5 c =
-    let p = c .before .before .before .before .before .before .before .before .pre in let a = c .before .before .before .before .before .before .before .before .args in let l = c .before .before .before .before .before .before .if1 .left in let u = c .before .before .before .before .before .moved-by .ensures in let k = c .before .before .before .if4 .left in
-    (p .1 .low, sits-next (p .1) _ _ 0 0 2 (rw u (own-small (a .minus) (a .v) l)) (omega arith) (omega arith),
-      λ passing y w h. value-adds _ passing _ (p .1) _ y w _ Own _ _ _ (own-free (a .minus) (a .v) h l (c .before .before .before .before .if2 .left)) (omega arith) refl refl (rw u (going codes-own)) (rw u at (c .before .put .ensures)))
+    let p = c .before .before .before .before .before .before .before .before .pre in let a = c .before .before .before .before .before .before .before .before .args in let l = c .before .before .before .before .before .before .if1 .left in let u = c .before .before .before .before .before .moved-by .ensures in let k = c .before .before .before .if4 .left in (
+      p .1 .low,
+      sits-next (p .1) _ _ 0 0 2 (rw u (own-small (a .minus) (a .v) l)) (omega arith) (omega arith),
+      λ passing y w h. value-adds _ passing _ (p .1) _ y w _ Own _ _ _ (own-free (a .minus) (a .v) h l (c .before .before .before .before .if2 .left)) (omega arith) refl refl (rw u (going codes-own)) (rw u at (c .before .put .ensures)),
+    )
 
 pub own-value-spec : {M : Type 1} → statement M
 own-value-spec =

@@ -41,10 +41,12 @@ same-length c = search needs
 -- src/lib.rt:346:1
 returns-2 : tie.Need-returns-2
 returns-2 c =
-    let p = c .before .before .before .before .before .pre in let a = c .before .before .before .before .before .args in let l = c .before .before .before .if1 .left in let n = copies-length (a .n) (By false 0) (a .c .q) in
-    (p .6 .low, sits-next (p .6) _ _ 0 0 0 (p .0 .small) (omega arith) (omega arith),
+    let p = c .before .before .before .before .before .pre in let a = c .before .before .before .before .before .args in let l = c .before .before .before .if1 .left in let n = copies-length (a .n) (By false 0) (a .c .q) in (
+      p .6 .low,
+      sits-next (p .6) _ _ 0 0 0 (p .0 .small) (omega arith) (omega arith),
       λ passing y w h. let z = dup-same (a .n) h (p .2) (p .3) (p .4) in
-      value-adds _ passing _ (p .6) _ y w _ _ _ _ _ (z .0) (omega arith) refl (omega arith) (rw (z .1, same-last (a .n) (a .c .q)) (going dup-not)) (c .before .repeat .ensures))
+          value-adds _ passing _ (p .6) _ y w _ _ _ _ _ (z .0) (omega arith) refl (omega arith) (rw (z .1, same-last (a .n) (a .c .q)) (going dup-not)) (c .before .repeat .ensures),
+    )
 
 pub same-again-spec : {M : Type 1} → statement M
 same-again-spec = tie.close (tie.spec add-end returns repeat-requires same-length returns-2)

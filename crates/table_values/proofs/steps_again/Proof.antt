@@ -59,11 +59,13 @@ same-length c = search needs
 returns-3 : tie.Need-returns-3
 returns-3 c =
     let p = c .before .before .before .before .before .before .before .pre in let a = c .before .before .before .before .before .before .before .args in let l = c .before .before .before .if2 .left in let n = copies-length (a .n) (By (leb 48 (a .c .form)) (a .c .step)) (a .c .q) in
-    let z = shift-some (leb 48 (a .c .form)) (a .c .step * a .n) (a .c .q) _ (c .before .before .before .before .before .shifted .ensures) (c .before .before .before .before .if1 .left) in
-    (p .5 .low, sits-next (p .5) _ _ 0 0 1 (z .high) (omega arith) (omega arith),
+    let z = shift-some (leb 48 (a .c .form)) (a .c .step * a .n) (a .c .q) _ (c .before .before .before .before .before .shifted .ensures) (c .before .before .before .before .if1 .left) in (
+      p .5 .low,
+      sits-next (p .5) _ _ 0 0 1 (z .high) (omega arith) (omega arith),
       λ passing y w h. let g = repeats (a .n) h (p .2) in
-      value-adds _ passing _ (p .5) _ y w _ _ _ _ _ (dup-steps (a .n) (p .3) (p .0 .small) g z) (omega arith) refl (omega arith)
-        (rw (g .before, steps-last (leb 48 (a .c .form)) (a .c .step) (a .n) (a .c .q), ← z .is) (going (dup-dif (z .low)))) (c .before .repeat .ensures))
+          value-adds _ passing _ (p .5) _ y w _ _ _ _ _ (dup-steps (a .n) (p .3) (p .0 .small) g z) (omega arith) refl (omega arith)
+          (rw (g .before, steps-last (leb 48 (a .c .form)) (a .c .step) (a .n) (a .c .q), ← z .is) (going (dup-dif (z .low)))) (c .before .repeat .ensures),
+    )
 
 pub steps-again-spec : {M : Type 1} → statement M
 steps-again-spec =

@@ -55,9 +55,11 @@ entry-at-requires c κs = search needs
 -- src/lib.rt:448:9
 returns-3 : tie.Need-returns-3
 returns-3 c =
-    let p = c .before .before .before .before .before .pre .2 in let b = c .before .blanks .ensures in let l = blank-moves _ _ _ _ (p .stands) (c .before .before .if2 .taken) b in
-    (l, record { some = omega arith; high = b .high; stands = c .entry-at .ensures; small = p .small; size = p .size; few = p .few },
-      λ passing y w h. gone-same _ passing _ _ y w _ _ h (b .within))
+    let p = c .before .before .before .before .before .pre .2 in let b = c .before .blanks .ensures in let l = blank-moves _ _ _ _ (p .stands) (c .before .before .if2 .taken) b in (
+      l,
+      record { some = omega arith; high = b .high; stands = c .entry-at .ensures; small = p .small; size = p .size; few = p .few },
+      λ passing y w h. gone-same _ passing _ _ y w _ _ h (b .within),
+    )
 
 -- src/lib.rt:459:9
 missing-requires : tie.Need-missing-requires

@@ -1,0 +1,122 @@
+-- From the pass over a body to the answer for a frame, a body and a slice. No place of the code is named here. Assumes nothing.
+use mathlib.Core.Path.{_≡_, refl, sym, ap, _∙_, subst}
+use mathlib.Core.Bool.{Bool, true, false}
+use mathlib.Core.List.{List, [], _∷_, map}
+use Prim.Native.Nat.{ℕ, zero, suc, _≤_, _<_}
+use native.Mathlib.Omega.{arith}
+use lib.Dec.{ltb, leb}
+use lib.IntN.{ℤ, pos}
+use lib.ListN.{length, getD, set}
+use lib.Seq.{sets}
+use borrow.Author.Tests.{le-leb, lt-leb, lt-ltb, le-ltb, leb-true, leb-false, ltb-true, ltb-false}
+use Rattle.terms.specs.Refusals.{refusal}
+use Rattle.terms.specs.declared.TableRead.the-variants as tables
+use Rattle.alphabet_spec.specs.Logic.{pick, both, by-case}
+use Rattle.table_spec.specs.Frame.{Rules, frame-legal, longest-body, entry-for}
+use Rattle.table_spec.specs.Reading.{Answer, refuse, accept, read, readTable, stored}
+use Rattle.frame.specs.declared.Frame.{Frame}
+use Rattle.frame.specs.FrameLaws.{Framing}
+use Rattle.table_read.specs.Rows.{frame-rules, passedOf, PassSays}
+use Rattle.table_read.specs.Answers.{told, toldFirst, Accepts, TableSays}
+use Rattle.table_read.specs.declared.Passed.{Passed}
+use Rattle.table_read.specs.declared.Passed.the-variants as passed
+use Rattle.table_read.specs.declared.Checked.{Checked}
+use Rattle.table_read.specs.declared.Checked.the-variants as checks
+
+-- ---- what a pass answered
+
+differ : {A : Type 0} → _≡_ {A = ℕ} 0 1 → A
+differ z = absurd (omega arith)
+
+pub pass-refused : (x : Answer) {c a : ℕ} → passed.Refused c a ≡ passedOf x → x ≡ refuse c a
+pass-refused (refuse c a) e = cc
+pass-refused (accept ys) e = differ cc
+
+pub pass-all : (x : Answer) → passed.All ≡ passedOf x → (ys : List ℕ) × (x ≡ accept ys)
+pass-all (refuse c a) e = differ cc
+pass-all (accept ys) e = (ys, refl)
+
+pub check-refused : {R : Rules} {s : List ℕ} (out out' : List ℤ) {c a : ℕ} → PassSays R s out out' (passed.Refused c a) → checks.Refused (refusal c a) ≡ toldFirst (read R s)
+check-refused {R} {s} out out' g = sym (ap toldFirst (pass-refused (read R s) (g .says)))
+
+-- one entry: the first ordinate is what stands in it
+one-entry : (vs : List ℤ) (l : List ℤ) (i : ℕ) → getD (sets l (suc i) vs) 0 (pos 0) ≡ getD l 0 (pos 0)
+one-entry [] l i = refl
+one-entry (v ∷ vs) [] i = one-entry vs [] (suc i)
+one-entry (v ∷ vs) (x ∷ l) i = one-entry vs (x ∷ set l i v) (suc i)
+
+first-entry : (ys : List ℕ) (x : ℤ) → 0 < length ys → getD (sets (x ∷ []) 0 (map entry-for ys)) 0 (pos 0) ≡ entry-for (getD ys 0 0)
+first-entry [] x l = absurd (omega arith)
+first-entry (y ∷ ys) x l = one-entry (map entry-for ys) (entry-for y ∷ []) 0
+
+pub check-first : {R : Rules} {s : List ℕ} {x : ℤ} {out' : List ℤ} → 1 ≤ R .points → PassSays R s (x ∷ []) out' passed.All → checks.First (getD out' 0 (pos 0)) ≡ toldFirst (read R s)
+check-first {R} {s} {x} {out'} l g =
+    let z = pass-all (read R s) (g .says) in let n = g .count (z .0) (z .1) in
+    rw (z .1) (ap checks.First (ap (λ (o : List ℤ). getD o 0 (pos 0)) (g .stores (z .0) (z .1)) ∙ first-entry (z .0) x (omega arith)))
+
+pub stored-all : {R : Rules} {s : List ℕ} {out out' : List ℤ} {r : Passed} → Accepts (read R s) → PassSays R s out out' r → out' ≡ stored out (read R s)
+unfolding stored
+stored-all {R} {s} {out} {out'} a g = go (read R s) refl a
+  where
+    go : (x : Answer) → read R s ≡ x → Accepts x → out' ≡ stored out (read R s)
+    go (refuse c b) e h = absurd h
+    go (accept ys) e h = g .stores ys e ∙ sym (rw e refl)
+
+-- ---- the frame, the body's length and the room
+
+both-false : (a : Bool) → both a false ≡ false
+both-false true = refl
+both-false false = refl
+
+module _ (f l : ℤ) (n : ℕ) (s : List ℕ) (space : ℕ) where
+  pub body-long : longest-body < length s → readTable f l n s space ≡ refuse 1 0
+  unfolding readTable
+  body-long h = rw (lt-leb (length s) longest-body h, both-false (frame-legal f l n)) refl
+
+  pub frame-outside : frame-legal f l n ≡ false → readTable f l n s space ≡ refuse 1 0
+  unfolding readTable
+  frame-outside h = rw h refl
+
+  module _ (b : length s ≤ longest-body) {fr : Frame} (g : Framing f l n fr) where
+    pub no-room : space < n → readTable f l n s space ≡ refuse 2 0
+    unfolding readTable
+    no-room h = rw (g .legal, le-leb (length s) longest-body b, lt-ltb space n h) refl
+
+    pub body-read : n ≤ space → readTable f l n s space ≡ read (frame-rules fr) s
+    unfolding readTable
+    body-read h = rw (g .legal, le-leb (length s) longest-body b, le-ltb space n h, g .is) refl
+
+-- ---- the public answers
+
+pub read-refused : {f l : ℤ} {n : ℕ} {s : List ℕ} {out : List ℤ} {r : _} → checks.Refused r ≡ toldFirst (readTable f l n s (length out)) → TableSays f l n s out out (tables.Refused r)
+unfolding stored
+read-refused {f} {l} {n} {s} {out} {r} e = go (readTable f l n s (length out)) e refl
+  where
+    go : (x : Answer) → checks.Refused r ≡ toldFirst x → readTable f l n s (length out) ≡ x → TableSays f l n s out out (tables.Refused r)
+    go (refuse c a) e h = let z : r ≡ refusal c a = cc in record { answers = rw (h, z) refl; leaves = rw h refl }
+    go (accept ys) e h = differ cc
+
+pub first-accepts : (x : Answer) {y : ℤ} → checks.First y ≡ toldFirst x → Accepts x
+first-accepts (refuse c a) e = differ cc
+first-accepts (accept ys) e = tt
+
+pub read-accepted : {f l : ℤ} {n : ℕ} {s : List ℕ} {out out' : List ℤ} → Accepts (readTable f l n s (length out)) → out' ≡ stored out (readTable f l n s (length out)) → TableSays f l n s out out' (tables.Accepted n)
+read-accepted {f} {l} {n} {s} {out} {out'} a o = record { answers = go (readTable f l n s (length out)) a; leaves = o }
+  where
+    go : (x : Answer) → Accepts x → tables.Accepted n ≡ told n x
+    go (refuse c b) h = absurd h
+    go (accept ys) h = refl
+
+-- ---- an answer that accepts comes from a legal frame, a body within its limit, and room
+
+module _ (f l : ℤ) (n : ℕ) (s : List ℕ) (space : ℕ) where
+  pub accepts-not-outside : {A : Type 0} → frame-legal f l n ≡ false → Accepts (readTable f l n s space) → A
+  accepts-not-outside e a = absurd (subst Accepts (frame-outside f l n s space e) a)
+
+  pub accepts-body : {fr : Frame} → Framing f l n fr → Accepts (readTable f l n s space) → (readTable f l n s space ≡ read (frame-rules fr) s) × Accepts (read (frame-rules fr) s)
+  accepts-body {fr} g a =
+      by-case (λ t. leb (length s) longest-body ≡ t → (readTable f l n s space ≡ read (frame-rules fr) s) × Accepts (read (frame-rules fr) s)) (leb (length s) longest-body)
+      (λ _ e. by-case (λ t. ltb space n ≡ t → (readTable f l n s space ≡ read (frame-rules fr) s) × Accepts (read (frame-rules fr) s)) (ltb space n)
+        (λ _ h. absurd (subst Accepts (no-room f l n s space (leb-true (length s) longest-body e) g (ltb-true space n h)) a))
+        (λ _ h. let z = body-read f l n s space (leb-true (length s) longest-body e) g (ltb-false space n h) in (z, subst Accepts z a)) refl)
+      (λ _ e. absurd (subst Accepts (body-long f l n s space (leb-false (length s) longest-body e)) a)) refl

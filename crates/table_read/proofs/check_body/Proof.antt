@@ -1,0 +1,64 @@
+use mathlib.Core.Path.{_≡_, refl, sym, ap, _∙_, subst}
+use Prim.Native.Nat.{ℕ, _<_, _≤_}
+use native.Mathlib.Omega.{arith}
+use lib.ListN.{length}
+use borrow.Author.Needs.{needs, sfits-of}
+use mir.Syntax.{w32, w64}
+use mir.Facts.{toZ-ofZ}
+use Rattle.alphabet_spec.specs.Entries.{table}
+use Rattle.table_spec.specs.Reading.{read, readTable, refuse}
+use Rattle.frame.specs.FrameLaws.{Framing, framed-outside, framed-legal}
+use Rattle.table_read.specs.Answers.{toldFirst}
+use Rattle.table_read.proofs.AnswerLaws.{check-refused, check-first, stored-all, body-long, frame-outside, no-room, body-read, read-refused, first-accepts, read-accepted}
+use Rattle.table_read.proofs.check_body.Statement.{statement}
+use Rattle.table_read.proofs.check_body.Tie as tie
+use Rattle.table_read.proofs.check_body.Reads as reads
+use Rattle.table_read.proofs.check_body.Lts as lts
+use Rattle.table_read.proofs.pass.Reads as pass-reads
+use Rattle.terms.proofs.Refusal.new.Reads as new-reads
+
+-- src/lib.rt:195:30
+slice-aggregate-pass : tie.Need-slice-aggregate-pass
+slice-aggregate-pass c = search needs
+
+-- src/lib.rt:195:11
+pass-requires : tie.Need-pass-requires
+unfolding table
+pass-requires c κs = (refl, c .before .before .before .pre)
+
+-- src/lib.rt:196:25
+enum-known-n : tie.Need-enum-known-n
+enum-known-n c = search needs
+
+-- src/lib.rt:196:51
+new-requires : tie.Need-new-requires
+new-requires c κs = search needs
+
+-- src/lib.rt:197:39
+enum-told : tie.Need-enum-told
+enum-told c = search needs
+
+-- src/lib.rt:197:39
+array-copy-out-t16 : tie.Need-array-copy-out-t16
+array-copy-out-t16 c = search needs
+
+-- src/lib.rt:189:1
+returns : tie.Need-returns
+returns c = rw (c .new .ensures) (check-refused _ _ (rw (c .before .before .n .given .1) at (c .before .before .before .before .before .pass .ensures)))
+
+-- src/lib.rt:189:1
+returns-2 : tie.Need-returns-2
+returns-2 c = rw (toZ-ofZ (sfits-of {w = w32} (c .t16 .given))) (check-first (c .before .before .before .before .before .before .before .before .pre .some) (rw (c .before .enum-told .given .1) at (c .before .before .before .before .pass .ensures)))
+
+pub check-body-spec : {M : Type 1} → statement M
+check-body-spec =
+    tie.close
+    (tie.spec
+    slice-aggregate-pass
+    pass-requires
+    enum-known-n
+    new-requires
+    enum-told
+    array-copy-out-t16
+    returns
+    returns-2)

@@ -1,0 +1,33 @@
+-- The answers of the public functions, for each of their cases (01, "Refusal numbers"). Assumes nothing.
+use mathlib.Core.Path.{_≡_}
+use mathlib.Core.List.{List}
+use Prim.Native.Nat.{ℕ}
+use lib.IntN.{ℤ}
+use lib.ListN.{length, getD}
+use Rattle.terms.specs.Refusals.{refusal}
+use Rattle.terms.specs.declared.TableRead.{TableRead}
+use Rattle.terms.specs.declared.TableRead.the-variants as tables
+use Rattle.table_read.specs.declared.Checked.{Checked}
+use Rattle.table_read.specs.declared.Checked.the-variants as checks
+use Rattle.table_spec.specs.Frame.{entry-for}
+use Rattle.table_spec.specs.Reading.{Answer, refuse, accept, readTable, stored}
+
+-- reading a table: the paper's number and place, or N
+abbrev pub told : ℕ → Answer → TableRead
+told n (refuse c a) = tables.Refused (refusal c a)
+told n (accept ys) = tables.Accepted n
+
+-- checking one: the paper's number and place, or the first ordinate as it would stand in the slice
+abbrev pub toldFirst : Answer → Checked
+toldFirst (refuse c a) = checks.Refused (refusal c a)
+toldFirst (accept ys) = checks.First (entry-for (getD ys 0 0))
+
+-- an answer that accepts
+abbrev pub Accepts : Answer → Type 0
+Accepts (refuse c a) = ⊥
+Accepts (accept ys) = Unit {0}
+
+-- the public contract of reading: F, L and N as they come, the body, the slice before and after, and the answer
+pub record TableSays (f l : ℤ) (n : ℕ) (body : List ℕ) (out out' : List ℤ) (r : TableRead) : Type 0 where
+  pub answers : r ≡ told n (readTable f l n body (length out))
+  pub leaves : out' ≡ stored out (readTable f l n body (length out))

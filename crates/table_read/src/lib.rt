@@ -1,0 +1,252 @@
+// Reading a table (01, "Spelling of a body", "Refusal numbers"). The body is gone over twice by one pass: first to answer, with room for the first ordinate only, then to store. So a
+// refusal leaves every lent ordinate as it was.
+ghost use mathlib.Core.Path.{_≡_};
+ghost use mathlib.Core.Bool.{Bool, true, false};
+ghost use mathlib.Core.List.{List, map};
+ghost use Prim.Native.Nat.{ℕ, _+_, _-_, _<_, _≤_};
+ghost use lib.IntN.{ℤ};
+ghost use lib.ListN.{length};
+ghost use Rattle.alphabet_spec.specs.Entries.{entryAt, table};
+ghost use Rattle.frame.specs.Legal.{Sound};
+ghost use Rattle.alphabet_spec.specs.Logic.{pick};
+ghost use Rattle.table_spec.specs.Values.{index};
+ghost use Rattle.table_spec.specs.Reading.{Answer, accept, read, readTable, stored};
+ghost use Rattle.table_read.specs.Rows.{frame-rules, difForm, Rests, LineSays, finished, PassSays};
+ghost use Rattle.table_read.specs.Answers.{toldFirst, Accepts, TableSays};
+use alphabet::TABLE;
+use frame::Frame;
+use frame::Framed;
+use table_lines::HeadRead;
+use table_lines::Start;
+use table_lines::bare_line;
+use table_lines::head;
+use table_lines::row_start;
+use table_values::Cur;
+use table_values::Valued;
+use table_values::values;
+use terms::Refusal;
+use terms::TableRead;
+
+// Between lines: the place, how many points, the last ordinate, and whether the line before ended in DIF form.
+pub struct Row {
+    pub at: usize,
+    pub k: usize,
+    pub q: u64,
+    pub dif: bool,
+}
+
+// What a line did: the state after it, or a refusal number and place.
+pub enum LineRead {
+    Next(Row),
+    Refused(u64, usize),
+}
+
+// What a pass over a body answers: all points are there, or a refusal number and place.
+pub enum Passed {
+    All,
+    Refused(u64, usize),
+}
+
+// What checking a table answers: its first ordinate, or a refusal.
+pub enum Checked {
+    First(i32),
+    Refused(Refusal),
+}
+
+// Is a form, as values keep it, DIF?
+fn in_dif(form: u64) -> bool
+    ensures { λ r. ⌜ r ≡ difForm form ⌝ }
+{
+    if form == 1 {
+        return true;
+    }
+    form >= 32
+}
+
+// The index that a head belongs to: the last point given on a check line, else the next (01, "Checks").
+fn index_of(dif: bool, k: usize) -> usize
+    ensures { λ r. ⌜ r ≡ index dif k ⌝ }
+{
+    if !dif {
+        return k;
+    }
+    if k == 0 {
+        return 0;
+    }
+    k - 1
+}
+
+// The ordinate that a line's first value must equal: the last one given on a check line, else none.
+fn wanted(dif: bool, q: u64) -> u64
+    ensures { λ r. ⌜ r ≡ pick dif q 0 ⌝ }
+{
+    if dif {
+        return q;
+    }
+    0
+}
+
+// A line whose head stands at a place with the entry e: 4, 6, 7, then its values.
+fn read_line(
+    t: &[u8; 256],
+    s: &[u8],
+    fr: Frame,
+    out: &mut [i32],
+    r: Row,
+    at: usize,
+    e: u64,
+) -> LineRead
+    requires { ⌜ (now t ≡ table) × Sound fr × Rests (fr .points) (now s) r × (at < length (now s)) × (e ≡ entryAt (now s) at) × (e < 160) × (e ≡ 112 → ⊥) ⌝ }
+    ensures { λ v. ⌜ LineSays (frame-rules fr) (now (s .entry)) r at (now (out .entry)) (now (out .exit)) v ⌝ }
+{
+    let dif = r.dif;
+    let k = r.k;
+    let q = r.q;
+    match head(t, s, at, e) {
+        HeadRead::NoHead => LineRead::Refused(4, at),
+        HeadRead::Abscissa(h, j, f) => {
+            if !fr.passes(h, index_of(dif, k)) {
+                return LineRead::Refused(6, at);
+            }
+            if bare_line(t, s, j) {
+                return LineRead::Refused(7, at);
+            }
+            let want = wanted(dif, q);
+            let n = fr.points;
+            match values(
+                t,
+                s,
+                n,
+                out,
+                Cur {
+                    at: j,
+                    e: f,
+                    k,
+                    q: 0,
+                    want,
+                    step: 0,
+                    form: 0,
+                },
+            ) {
+                Valued::Refused(c, a) => LineRead::Refused(c, a),
+                Valued::Done(c, next) => LineRead::Next(Row {
+                    at: next,
+                    k: c.k,
+                    q: c.q,
+                    dif: in_dif(c.form),
+                }),
+            }
+        }
+    }
+}
+
+// The end of the body: 12, 13, or all is there.
+fn finish(points: usize, len: usize, k: usize, dif: bool) -> Passed
+    ensures { λ v. ⌜ v ≡ finished points len k dif ⌝ }
+{
+    if k < points {
+        return Passed::Refused(12, len);
+    }
+    if dif {
+        return Passed::Refused(13, len);
+    }
+    Passed::All
+}
+
+// One pass over a body: answers, and stores each ordinate that there is room for.
+fn pass(t: &[u8; 256], s: &[u8], fr: Frame, out: &mut [i32]) -> Passed
+    requires { ⌜ (now t ≡ table) × Sound fr ⌝ }
+    ensures { λ v. ⌜ PassSays (frame-rules fr) (now (s .entry)) (now (out .entry)) (now (out .exit)) v ⌝ }
+{
+    let mut r = Row {
+        at: 0,
+        k: 0,
+        q: 0,
+        dif: false,
+    };
+    loop {
+        let at = r.at;
+        match row_start(t, s, at) {
+            Start::End => {
+                return finish(fr.points, s.len(), r.k, r.dif);
+            }
+            Start::Bad(j) => {
+                return Passed::Refused(3, j);
+            }
+            Start::Head(j, e) => match read_line(t, s, fr, out, r, j, e) {
+                LineRead::Refused(n, p) => {
+                    return Passed::Refused(n, p);
+                }
+                LineRead::Next(next) => {
+                    r = next;
+                }
+            },
+        }
+    }
+}
+
+// The pass that answers. It has room for the first ordinate, which refusal 29 asks for.
+fn check_body(body: &[u8], fr: Frame) -> Checked
+    requires { ⌜ Sound fr ⌝ }
+    ensures { λ r. ⌜ r ≡ toldFirst (read (frame-rules fr) (now (body .entry))) ⌝ }
+{
+    let t = TABLE;
+    let mut one = [0i32; 1];
+    match pass(&t, body, fr, &mut one) {
+        Passed::Refused(n, p) => Checked::Refused(Refusal::new(n, p)),
+        Passed::All => Checked::First(one[0]),
+    }
+}
+
+// The pass that stores.
+fn store_body(body: &[u8], fr: Frame, out: &mut [i32])
+    requires { ⌜ Sound fr × Accepts (read (frame-rules fr) (now body)) ⌝ }
+    ensures { λ _. ⌜ now (out .exit) ≡ stored (now (out .entry)) (read (frame-rules fr) (now (body .entry))) ⌝ }
+{
+    let t = TABLE;
+    pass(&t, body, fr, out);
+}
+
+// What a body says in a frame, with room for so many ordinates: its first ordinate, or a refusal (01, "Refusal numbers" 1 to 13). Nothing lent is written to.
+pub fn check_table(first: i64, last: i64, points: usize, body: &[u8], room: usize) -> Checked
+    ensures { λ r. ⌜ r ≡ toldFirst (readTable first last points (now (body .entry)) room) ⌝ }
+{
+    if body.len() > Frame::LONGEST_BODY {
+        return Checked::Refused(Refusal::new(1, 0));
+    }
+    match Frame::new(first, last, points) {
+        Framed::Outside => Checked::Refused(Refusal::new(1, 0)),
+        Framed::Legal(fr) => {
+            if room < points {
+                return Checked::Refused(Refusal::new(2, 0));
+            }
+            check_body(body, fr)
+        }
+    }
+}
+
+// Stores the ordinates of a table that was checked and found right.
+pub fn store_table(first: i64, last: i64, points: usize, body: &[u8], out: &mut [i32])
+    requires { ⌜ Accepts (readTable first last points (now body) (length (now out))) ⌝ }
+    ensures { λ _. ⌜ now (out .exit) ≡ stored (now (out .entry)) (readTable first last points (now (body .entry)) (length (now (out .entry)))) ⌝ }
+{
+    match Frame::new(first, last, points) {
+        Framed::Outside => {}
+        Framed::Legal(fr) => {
+            store_body(body, fr, out);
+        }
+    }
+}
+
+// Reads a table: any F, L and N, any body, any slice. Accepted: the first N entries are the ordinates, -2,147,483,648 for a missing one, and those past N are unaltered. Refused: all are unaltered.
+pub fn read_table(first: i64, last: i64, points: usize, body: &[u8], out: &mut [i32]) -> TableRead
+    ensures { λ r. ⌜ TableSays first last points (now (body .entry)) (now (out .entry)) (now (out .exit)) r ⌝ }
+{
+    match check_table(first, last, points, body, out.len()) {
+        Checked::Refused(r) => TableRead::Refused(r),
+        Checked::First(_) => {
+            store_table(first, last, points, body, out);
+            TableRead::Accepted(points)
+        }
+    }
+}
