@@ -117,6 +117,6 @@ module _ (f l : ℤ) (n : ℕ) (s : List ℕ) (space : ℕ) where
   accepts-body {fr} g a =
       by-case (λ t. leb (length s) longest-body ≡ t → (readTable f l n s space ≡ read (frame-rules fr) s) × Accepts (read (frame-rules fr) s)) (leb (length s) longest-body)
       (λ _ e. by-case (λ t. ltb space n ≡ t → (readTable f l n s space ≡ read (frame-rules fr) s) × Accepts (read (frame-rules fr) s)) (ltb space n)
-        (λ _ h. absurd (subst Accepts (no-room f l n s space (leb-true (length s) longest-body e) g (ltb-true space n h)) a))
-        (λ _ h. let z = body-read f l n s space (leb-true (length s) longest-body e) g (ltb-false space n h) in (z, subst Accepts z a)) refl)
+      (λ _ h. absurd (subst Accepts (no-room f l n s space (leb-true (length s) longest-body e) g (ltb-true space n h)) a))
+      (λ _ h. let z = body-read f l n s space (leb-true (length s) longest-body e) g (ltb-false space n h) in (z, subst Accepts z a)) refl)
       (λ _ e. absurd (subst Accepts (body-long f l n s space (leb-false (length s) longest-body e)) a)) refl

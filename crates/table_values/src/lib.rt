@@ -205,7 +205,7 @@ pub fn differences(t: &[u8; 256], s: &[u8], points: usize, out: &mut [i32], c: C
         return c;
     }
     while e / 32 == 1 {
-        if k >= points {
+        if points <= k {
             break;
         }
         match packed(t, s, at, e) {

@@ -1,0 +1,311 @@
+// The numbers of a file (01, The file, "Numbers"): how one is read, and the rounded quotient of two.
+ghost use mathlib.Core.Path.{_≡_};
+ghost use Prim.Native.Nat.{_+_, _-_, _*_, _<_, _≤_, _^_};
+ghost use lib.ListN.{length, getD};
+ghost use Rattle.alphabet_spec.specs.Entries.{table};
+ghost use Rattle.decimal_spec.specs.Number.{mantissaOf};
+ghost use Rattle.decimal_spec.specs.Quotient.{Nearest, IsRounded, roundedOf, quotientOf};
+ghost use Rattle.decimal.specs.Found.{MantissaFound, ExponentFound, PowerFound, UnsignedFound, NumberFound, CountFound};
+use decimal_spec::Count;
+use decimal_spec::Exponent;
+use decimal_spec::Mantissa;
+use decimal_spec::Number;
+use decimal_spec::Quotient;
+use decimal_spec::Rounded;
+
+// An entry of the byte table below this one is a digit's.
+const PAST_DIGITS: u64 = 16;
+
+// The most digits of a number, those after the point counted.
+const MOST_DIGITS: usize = 12;
+
+// A number has at most nine digits from the first non-zero on: it is below this.
+const BOUND: u64 = 1000000000;
+
+// Powers of ten are counted from -200 on, so that none is negative.
+const ORIGIN: u64 = 200;
+
+// The byte at a place, 0 past the end.
+fn byte_at(s: &[u8], i: usize) -> u8
+    ensures { λ r. ⌜ r ≡ getD (now (s .entry)) i 0 ⌝ }
+{
+    if i < s.len() {
+        return s[i];
+    }
+    0
+}
+
+// What the digits of a number make: n of them, f behind the point, and the place after them.
+fn mantissa_of(v: u64, n: usize, f: usize, end: usize) -> Mantissa
+    ensures { λ r. ⌜ r ≡ mantissaOf v n f end ⌝ }
+{
+    if n == 0 {
+        return Mantissa::Misspelled;
+    }
+    if v >= BOUND {
+        return Mantissa::Misspelled;
+    }
+    Mantissa::Digits {
+        value: v,
+        behind: f as u64,
+        end,
+    }
+}
+
+// The digits at a place, with at most one point.
+fn mantissa(t: &[u8; 256], s: &[u8], at: usize) -> Mantissa
+    requires { ⌜ (now t ≡ table) × (at ≤ length (now s)) ⌝ }
+    ensures { λ r. ⌜ MantissaFound (now (s .entry)) at r ⌝ }
+{
+    let whole = alphabet::digits(t, s, at, 0, MOST_DIGITS);
+    let v = whole.v;
+    let point = whole.at;
+    let after = whole.e;
+    if after < PAST_DIGITS {
+        return Mantissa::Misspelled;
+    }
+    let n = point - at;
+    if byte_at(s, point) != b'.' {
+        return mantissa_of(v, n, 0, point);
+    }
+    let first = point + 1;
+    let left = MOST_DIGITS - n;
+    let all = alphabet::digits(t, s, first, v, left);
+    let w = all.v;
+    let end = all.at;
+    let beyond = all.e;
+    if beyond < PAST_DIGITS {
+        return Mantissa::Misspelled;
+    }
+    let f = end - first;
+    let count = n + f;
+    mantissa_of(w, count, f, end)
+}
+
+// The digits of an exponent, after its sign.
+fn power_digits(t: &[u8; 256], s: &[u8], at: usize, minus: bool) -> Exponent
+    requires { ⌜ (now t ≡ table) × (at ≤ length (now s)) ⌝ }
+    ensures { λ r. ⌜ PowerFound (now (s .entry)) at minus r ⌝ }
+{
+    let all = alphabet::digits(t, s, at, 0, 3);
+    let x = all.v;
+    let end = all.at;
+    let after = all.e;
+    if after < PAST_DIGITS {
+        return Exponent::Misspelled;
+    }
+    if end - at < 2 {
+        return Exponent::Misspelled;
+    }
+    if x > 99 {
+        return Exponent::Misspelled;
+    }
+    let less = ORIGIN - x;
+    let more = ORIGIN + x;
+    if minus {
+        Exponent::Power { power: less, end }
+    } else {
+        Exponent::Power { power: more, end }
+    }
+}
+
+// The exponent at a place, or that there is none.
+fn exponent(t: &[u8; 256], s: &[u8], at: usize) -> Exponent
+    requires { ⌜ (now t ≡ table) × (at ≤ length (now s)) ⌝ }
+    ensures { λ r. ⌜ ExponentFound (now (s .entry)) at r ⌝ }
+{
+    if byte_at(s, at) != b'E' {
+        return Exponent::Power {
+            power: ORIGIN,
+            end: at,
+        };
+    }
+    let next = at + 1;
+    let sign = byte_at(s, next);
+    if sign == b'+' {
+        let first = at + 2;
+        return power_digits(t, s, first, false);
+    }
+    if sign == b'-' {
+        let first = at + 2;
+        return power_digits(t, s, first, true);
+    }
+    Exponent::Misspelled
+}
+
+// A number after its sign.
+fn unsigned(t: &[u8; 256], s: &[u8], at: usize, minus: bool) -> Number
+    requires { ⌜ (now t ≡ table) × (at ≤ length (now s)) ⌝ }
+    ensures { λ r. ⌜ UnsignedFound (now (s .entry)) at minus r ⌝ }
+{
+    match mantissa(t, s, at) {
+        Mantissa::Misspelled => Number::Misspelled,
+        Mantissa::Digits { value, behind, end } => match exponent(t, s, end) {
+            Exponent::Misspelled => Number::Misspelled,
+            Exponent::Power { power, end: past } => {
+                let lowered = power - behind;
+                Number::Decimal {
+                    minus,
+                    mantissa: value,
+                    power: lowered,
+                    end: past,
+                }
+            }
+        },
+    }
+}
+
+// The number at a place of a text. An inner function: it is lent the byte table, and the place is one of the text or its end.
+// What stands after the number is the caller's to judge.
+pub fn number(t: &[u8; 256], s: &[u8], at: usize) -> Number
+    requires { ⌜ (now t ≡ table) × (at ≤ length (now s)) ⌝ }
+    ensures { λ r. ⌜ NumberFound (now (s .entry)) at r ⌝ }
+{
+    let sign = byte_at(s, at);
+    if sign == b'+' {
+        let first = at + 1;
+        return unsigned(t, s, first, false);
+    }
+    if sign == b'-' {
+        let first = at + 1;
+        return unsigned(t, s, first, true);
+    }
+    unsigned(t, s, at, false)
+}
+
+// The number of digits only at a place of a text, as NPOINTS has it. An inner function, as `number` is.
+pub fn count(t: &[u8; 256], s: &[u8], at: usize) -> Count
+    requires { ⌜ (now t ≡ table) × (at ≤ length (now s)) ⌝ }
+    ensures { λ r. ⌜ CountFound (now (s .entry)) at r ⌝ }
+{
+    let all = alphabet::digits(t, s, at, 0, MOST_DIGITS);
+    let v = all.v;
+    let end = all.at;
+    let after = all.e;
+    if after < PAST_DIGITS {
+        return Count::Misspelled;
+    }
+    if end == at {
+        return Count::Misspelled;
+    }
+    if v >= BOUND {
+        return Count::Misspelled;
+    }
+    Count::Counted { value: v, end }
+}
+
+// The table of powers of ten, from ten to the 0 on.
+const POWERS: [u64; 19] = [
+    1,
+    10,
+    100,
+    1000,
+    10000,
+    100000,
+    1000000,
+    10000000,
+    100000000,
+    1000000000,
+    10000000000,
+    100000000000,
+    1000000000000,
+    10000000000000,
+    100000000000000,
+    1000000000000000,
+    10000000000000000,
+    100000000000000000,
+    1000000000000000000,
+];
+
+// Ten to the n.
+fn power(n: usize) -> u64
+    requires { ⌜ n < 19 ⌝ }
+    ensures { λ r. ⌜ r ≡ 10 ^ n ⌝ }
+{
+    POWERS[n]
+}
+
+// The size of the whole number nearest to a / b, halves to the larger. Twice the rest is formed, since twice a may not fit.
+fn nearest(minus: bool, a: u64, b: u64) -> u64
+    requires { ⌜ (0 < b) × (b ≤ 1000000000000000000) × (a < 10000000000000000000) ⌝ }
+    ensures { λ r. ⌜ Nearest minus a b r ⌝ }
+{
+    let q = a / b;
+    let rest = a % b;
+    let twice = 2 * rest;
+    let more = q + 1;
+    if twice > b {
+        return more;
+    }
+    if twice < b {
+        return q;
+    }
+    if minus { q } else { more }
+}
+
+// The same held to the limit, with no sign for zero.
+fn limited(minus: bool, a: u64, b: u64, limit: u64) -> Rounded
+    requires { ⌜ (0 < b) × (b ≤ 1000000000000000000) × (a < 10000000000000000000) ⌝ }
+    ensures { λ r. ⌜ IsRounded limit minus a b r ⌝ }
+{
+    let q = nearest(minus, a, b);
+    if q > limit {
+        return Rounded::Beyond;
+    }
+    if q == 0 {
+        return Rounded::Whole {
+            minus: false,
+            size: 0,
+        };
+    }
+    Rounded::Whole { minus, size: q }
+}
+
+// The quotient of two decimals, m1 times ten to the e1 by m2 times ten to the e2. A product is formed only where it is below
+// ten to the 19; where it is not, the answer is zero or beyond without it.
+fn divided(minus: bool, m1: u64, e1: u64, m2: u64, e2: u64, limit: u64) -> Rounded
+    requires { ⌜ (m1 < 1000000000) × (0 < m2) × (m2 < 1000000000) × (limit < 10000000000) ⌝ }
+    ensures { λ r. ⌜ r ≡ roundedOf limit minus (m1 * 10 ^ e1) (m2 * 10 ^ e2) ⌝ }
+{
+    if e1 < e2 {
+        let down = e2 - e1;
+        if down > 9 {
+            return Rounded::Whole {
+                minus: false,
+                size: 0,
+            };
+        }
+        let p = power(down as usize);
+        let b = m2 * p;
+        return limited(minus, m1, b, limit);
+    }
+    if m1 == 0 {
+        return Rounded::Whole {
+            minus: false,
+            size: 0,
+        };
+    }
+    let up = e1 - e2;
+    if up > 18 {
+        return Rounded::Beyond;
+    }
+    let p = power(up as usize);
+    let most = 9999999999999999999 / p;
+    if m1 > most {
+        return Rounded::Beyond;
+    }
+    let a = m1 * p;
+    limited(minus, a, m2, limit)
+}
+
+// The quotient of two decimals, as a file's F, L and first ordinate ask it: exact for all exponents, which are counted from one
+// origin below the least. An inner function: what it requires of the mantissas is what `number` ensures and, of the divisor,
+// that a factor exceeds zero (01, The file); the limit is the caller's.
+pub fn quotient(minus: bool, m1: u64, e1: u64, m2: u64, e2: u64, limit: u64) -> Quotient
+    requires { ⌜ (m1 < 1000000000) × (0 < m2) × (m2 < 1000000000) × (limit < 10000000000) ⌝ }
+    ensures { λ r. ⌜ r ≡ quotientOf limit minus (m1 * 10 ^ e1) (m2 * 10 ^ e2) ⌝ }
+{
+    Quotient {
+        rounded: divided(minus, m1, e1, m2, e2, limit),
+    }
+}

@@ -1,0 +1,181 @@
+-- Heads that are spelled and heads that are read, both ways (01, "Head. Optional sign, 1 to 7 digits, then optionally a point and 0 to 3 digits"). Assumes nothing.
+use mathlib.Core.Path.{_≡_, refl, sym, ap, _∙_}
+use mathlib.Core.Bool.{Bool, true, false}
+use mathlib.Core.List.{List, [], _∷_}
+use Prim.Native.Nat.{ℕ, suc, _+_, _*_, _<_}
+use native.Mathlib.Nat.{add-zero, add-suc}
+use lib.Dec.{eqb}
+use lib.ListN.{drop}
+use lib.Seq.{drop-drop}
+use borrow.Author.Tests.{eqb-true}
+use Rattle.alphabet_spec.specs.Logic.{pick, by-case, no-way}
+use Rattle.alphabet_spec.specs.Digits.{Run, long, run, digits, some}
+use Rattle.alphabet_spec.specs.Bytes.{Byte, digit, lead, sign, quest, blank, point, lf, cr, dollar, other, kind}
+use Rattle.alphabet_spec.specs.KindLaws.{digit-kind, Back, isDigit, kind-digit}
+use Rattle.table_spec.specs.Values.{headed-at}
+use Rattle.table_spec.specs.Reading.{Tokens, head, starts, scaled, pointed as after-whole, thousandths, Mode, fresh, inner, headed, opening, step, tokens}
+use Rattle.table_law.specs.Spelling.{Fraction, Magnitude, whole, pointed, Head, unsigned, positive, negative}
+use Rattle.table_law.specs.Runs.{digits-counted, counted-digits, fraction-counted, counted-fraction, Numeral, numeral, Past, here, byte, past-drop, past-past}
+use Rattle.table_law.specs.Runs.{counted-past, numeral-past, NoDigit, run-zero, some-of, Follows, follows, Begins, begins}
+
+-- ---- texts that do not make a head or a number before them longer: they begin with neither a digit nor a point
+
+abbrev pub lengthens : Byte → Bool
+lengthens (digit d) = true
+lengthens (lead k d) = false
+lengthens (sign m) = false
+lengthens quest = false
+lengthens blank = false
+lengthens point = true
+lengthens lf = false
+lengthens cr = false
+lengthens dollar = false
+lengthens other = false
+
+abbrev pub Apart : Bool → List ℕ → Type 0
+Apart tabs [] = Unit {0}
+Apart tabs (b ∷ s) = lengthens (kind tabs b) ≡ false
+
+no-digit-kind : (c : Byte) → lengthens c ≡ false → isDigit c ≡ false
+no-digit-kind (digit d) h = h
+no-digit-kind (lead k d) h = refl
+no-digit-kind (sign m) h = refl
+no-digit-kind quest h = refl
+no-digit-kind blank h = refl
+no-digit-kind point h = refl
+no-digit-kind lf h = refl
+no-digit-kind cr h = refl
+no-digit-kind dollar h = refl
+no-digit-kind other h = refl
+
+pub apart-digit : (tabs : Bool) (s : List ℕ) → Apart tabs s → NoDigit s
+apart-digit tabs [] h = tt
+apart-digit tabs (b ∷ s) h = kind-digit tabs b ∙ no-digit-kind (kind tabs b) h
+
+apart-point : (tabs : Bool) (s : List ℕ) → Apart tabs s → starts 46 s ≡ false
+unfolding kind
+apart-point tabs [] h = refl
+apart-point tabs (b ∷ s) h = by-case (λ t. t ≡ false) (eqb b 46) (λ e. no-way (sym h ∙ ap (λ x. lengthens (kind tabs x)) (eqb-true b 46 e))) (λ e. refl)
+
+-- ---- a head's digits: a whole number w of 1 to 7 digits, and what follows it: a point and at most 3 digits, or none
+
+pub data Following : ℕ → ℕ → List ℕ → List ℕ → Type 0 where
+  no-point : {w : ℕ} {s : List ℕ} → Following w (w * 1000) s s
+  a-point : {w h : ℕ} {u s : List ℕ} → Fraction 3 w h u s → Following w h (46 ∷ u) s
+
+pub record Parts (h : ℕ) (t s : List ℕ) : Type 0 where
+  pub whole-number : ℕ
+  pub count : ℕ
+  pub between : List ℕ
+  pub before : Numeral 6 whole-number count t between
+  pub behind : Following whole-number h between s
+
+parts-of : {h : ℕ} {t s : List ℕ} → Magnitude h t s → Parts h t s
+parts-of (whole {w = w} {s = s} l r) =
+    let z = digits-counted r in
+    record { whole-number = w; count = suc (z .0); between = s; before = numeral l (z .1); behind = no-point }
+parts-of (pointed {w = w} {u = u} l r f) =
+    let z = digits-counted r in
+    record { whole-number = w; count = suc (z .0); between = 46 ∷ u; before = numeral l (z .1); behind = a-point f }
+
+of-parts : {h w j : ℕ} {t u s : List ℕ} → Numeral 6 w j t u → Following w h u s → Magnitude h t s
+of-parts (numeral l r) no-point = whole l (counted-digits r)
+of-parts (numeral l r) (a-point f) = pointed l (counted-digits r) f
+
+-- ---- a head that is spelled is read
+
+-- bytes that are passed over
+pub skip : (tabs : Bool) {k : ℕ} {t s : List ℕ} → Past k t s → (a : ℕ) (m : Mode) → (c : ℕ) × (tokens tabs t k a m ≡ tokens tabs s 0 c m)
+unfolding tokens
+skip tabs here a m = (a, refl)
+skip tabs (byte r) a m = skip tabs r (suc a) m
+
+following-read : (tabs : Bool) {w h : ℕ} {u s : List ℕ} → Following w h u s → Apart tabs s → (n : ℕ) → (k : ℕ) × (after-whole u w n ≡ run h (n + k)) × Past k u s × NoDigit u
+unfolding after-whole scaled
+following-read tabs (no-point {s = s}) h n = (0, rw (apart-point tabs s h, add-zero n) refl, here, apart-digit tabs s h)
+following-read tabs (a-point {s = s} f) h n =
+    let z = fraction-counted f in
+    (suc (z .0), rw (run-zero (z .3) (apart-digit tabs s h), add-suc n (z .0)) (ap (λ x. run x (suc (n + z .0))) (sym (z .2))), byte (counted-past (z .3)), refl)
+
+-- a head at the place a, and what stands after it
+abbrev Headed : Bool → ℕ → ℕ → Tokens → List ℕ → Type 0
+Headed tabs a h x s = (c : ℕ) × (x ≡ head a h (tokens tabs s 0 c (inner false)))
+
+unsigned-read : (tabs : Bool) (a : ℕ) {w h j : ℕ} {t u s : List ℕ} → Numeral 6 w j t u → Following w h u s → Apart tabs s → Headed tabs a (headed-at false h) (tokens tabs t 0 a fresh) s
+unfolding tokens step opening thousandths
+unsigned-read tabs a (numeral {d = d} {j = j} l r) g h =
+    let z = following-read tabs g h j in
+    let y = skip tabs (past-past (counted-past r) (z .2)) (suc a) (inner false) in
+    (y .0, rw (digit-kind tabs d l, run-zero r (z .3), past-drop (counted-past r), z .1, y .1) refl)
+
+signed-read : (tabs : Bool) (a : ℕ) (m : Bool) {w h j : ℕ} {t u s : List ℕ} → Numeral 6 w j t u → Following w h u s → Apart tabs s
+    → Headed tabs a (headed-at m h) (headed (λ n. tokens tabs t n (suc a)) a m (thousandths t (some (digits t 7 0 0)))) s
+unfolding thousandths
+signed-read tabs a m {j = j} r g h =
+    let z = following-read tabs g h j in
+    let y = skip tabs (past-past (numeral-past r) (z .2)) (suc a) (inner false) in
+    (y .0, rw (some-of r (z .3), past-drop (numeral-past r), z .1, y .1) refl)
+
+pub head-read : (tabs : Bool) (a : ℕ) {h : ℕ} {t s : List ℕ} → Head h t s → Apart tabs s → Headed tabs a h (tokens tabs t 0 a fresh) s
+unfolding tokens step opening kind
+head-read tabs a (unsigned m) h = let z = parts-of m in unsigned-read tabs a (z .before) (z .behind) h
+head-read tabs a (positive m) h = let z = parts-of m in signed-read tabs a false (z .before) (z .behind) h
+head-read tabs a (negative m) h = let z = parts-of m in signed-read tabs a true (z .before) (z .behind) h
+
+-- ---- a head that is read is spelled
+
+-- what follows a whole number w of n digits
+abbrev FollowingIs : ℕ → ℕ → List ℕ → Run → Type 0
+FollowingIs w n u long = Unit {0}
+FollowingIs w n u (run h k) = (j : ℕ) × (k ≡ n + j) × Following w h u (drop j u)
+
+scaled-is : (w n : ℕ) (u : List ℕ) (x : Run) → Follows 3 w u x → FollowingIs w n (46 ∷ u) (scaled n x)
+unfolding scaled
+scaled-is w n u long r = tt
+scaled-is w n u (run f k) r = (suc k, sym (add-suc n k), a-point (counted-fraction r))
+
+following-is : (u : List ℕ) (w n : ℕ) → FollowingIs w n u (after-whole u w n)
+unfolding after-whole
+following-is [] w n = (0, sym (add-zero n), no-point)
+following-is (b ∷ u) w n =
+    by-case (λ t. eqb b 46 ≡ t → FollowingIs w n (b ∷ u) (pick t (scaled n (digits u 3 w 0)) (run (w * 1000) n))) (eqb b 46)
+    (λ _ e. rw (eqb-true b 46 e) (scaled-is w n u (digits u 3 w 0) (follows u 3 w))) (λ _ e. (0, sym (add-zero n), no-point)) refl
+
+-- the digits of a head are at the front of t, so many bytes of s belong to them
+abbrev pub MagnitudeIs : List ℕ → List ℕ → Run → Type 0
+MagnitudeIs t s long = Unit {0}
+MagnitudeIs t s (run h k) = Magnitude h t (drop k s)
+
+joined : (t s : List ℕ) (w n j : ℕ) → Numeral 6 w j t (drop n s) → (x : Run) → FollowingIs w n (drop n s) x → MagnitudeIs t s x
+joined t s w n j m long r = tt
+joined t s w n j m (run h k) r = rw (r .1, ← drop-drop (r .0) n s) (of-parts m (r .2))
+
+unsigned-whole : (d : ℕ) (s : List ℕ) → d < 10 → (x : Run) → Follows 6 d s x → MagnitudeIs ((48 + d) ∷ s) s (thousandths s x)
+unfolding thousandths
+unsigned-whole d s l long r = tt
+unsigned-whole d s l (run w n) r = joined ((48 + d) ∷ s) s w n (suc n) (numeral l r) (after-whole (drop n s) w n) (following-is (drop n s) w n)
+
+signed-whole : (s : List ℕ) (x : Run) → Begins 6 s x → MagnitudeIs s s (thousandths s x)
+unfolding thousandths
+signed-whole s long r = tt
+signed-whole s (run w n) r = joined s s w n n r (after-whole (drop n s) w n) (following-is (drop n s) w n)
+
+-- a head of the sign m, whose first byte is b
+abbrev pub HeadIs : Bool → ℕ → List ℕ → Run → Type 0
+HeadIs m b s long = Unit {0}
+HeadIs m b s (run h k) = Head (headed-at m h) (b ∷ s) (drop k s)
+
+no-sign : (b : ℕ) (s : List ℕ) (x : Run) → MagnitudeIs (b ∷ s) s x → HeadIs false b s x
+no-sign b s long r = tt
+no-sign b s (run h k) r = unsigned r
+
+a-sign : (tabs m : Bool) (b : ℕ) (s : List ℕ) → Back tabs b (sign m) → (x : Run) → MagnitudeIs s s x → HeadIs m b s x
+a-sign tabs m b s e long r = tt
+a-sign tabs true b s e (run h k) r = rw e (negative r)
+a-sign tabs false b s e (run h k) r = rw e (positive r)
+
+pub unsigned-is : (d b : ℕ) (s : List ℕ) → d < 10 → b ≡ 48 + d → HeadIs false b s (thousandths s (digits s 6 d 0))
+unsigned-is d b s l e = rw e (no-sign (48 + d) s (thousandths s (digits s 6 d 0)) (unsigned-whole d s l (digits s 6 d 0) (follows s 6 d)))
+
+pub signed-is : (tabs m : Bool) (b : ℕ) (s : List ℕ) → Back tabs b (sign m) → HeadIs m b s (thousandths s (some (digits s 7 0 0)))
+signed-is tabs m b s e = a-sign tabs m b s e (thousandths s (some (digits s 7 0 0))) (signed-whole s (some (digits s 7 0 0)) (begins s 6))

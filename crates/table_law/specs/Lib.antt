@@ -1,0 +1,9 @@
+pub mod Spelling
+pub mod Runs
+pub mod Heads
+pub mod Tokens
+pub mod Meaning
+pub mod Complete
+pub mod Sound
+pub mod Small
+pub mod Outcome
