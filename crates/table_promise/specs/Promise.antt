@@ -34,7 +34,7 @@ module _ (f l : ℤ) (n : ℕ) (body : List ℕ) (out out' : List ℤ) where
       subst Promised (sym h) (o, λ one two. numbered-none f l n body (length out) c a one two e)
   promised-by (accept ys) e r h o =
       subst Promised (sym h)
-      (refl, ys, accepted-spells f l n body (length out) ys e, λ zs z. spells-unique (rules (abscissa f) (abscissa l) n) body zs ys z (accepted-spells f l n body (length out) ys e), o ∙ accepted-stored f l n body out ys e)
+      (refl, (ys, accepted-spells f l n body (length out) ys e, λ zs z. spells-unique (rules (abscissa f) (abscissa l) n) body zs ys z (accepted-spells f l n body (length out) ys e), o ∙ accepted-stored f l n body out ys e))
 
   -- the contract of the public function, restated
   pub promise : {r : TableRead} → TableSays f l n body out out' r → Promised r

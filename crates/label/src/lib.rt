@@ -1,0 +1,290 @@
+// The labels and records of a file (01, The file).
+ghost use mathlib.Core.Path.{_≡_};
+ghost use mathlib.Core.Bool.{true, false};
+ghost use mathlib.Core.List.{[]};
+ghost use Prim.Native.Nat.{_+_, _-_, _<_, _≤_};
+ghost use lib.ListN.{length, take, drop};
+ghost use Rattle.label_spec.specs.Names.{norm};
+ghost use Rattle.label_spec.specs.Labels.{from, hashed};
+ghost use Rattle.label_spec.specs.File.{refusal, openedAt, opened, judged, labelled};
+ghost use Rattle.label_spec.specs.Records.{recordOf, recordFor, textOf};
+ghost use Rattle.label.specs.Answers.{Passed, TitleAt, openIn, walkedIn, labelledIn, foundIn, findIn};
+ghost use Rattle.label.specs.Post.{Told};
+use crate::lines::is_hashed;
+use crate::lines::label_here;
+use crate::lines::name_end;
+use crate::lines::next_label;
+use crate::lines::next_mark;
+use crate::names::is_empty;
+use crate::names::is_end;
+use crate::names::is_title;
+use crate::names::is_word;
+use crate::names::same_name;
+use crate::space::is_opening;
+use crate::space::is_space;
+use label_spec::Found;
+use label_spec::Label;
+use label_spec::Labelled;
+use label_spec::Opened;
+use label_spec::Record;
+use label_spec::Walked;
+use terms::Refusal;
+
+mod lines;
+mod names;
+mod space;
+
+// The most bytes of a file.
+const LONGEST_FILE: usize = 1048576;
+
+// What the next label says by itself, before it is compared with those before it: the walk is done, or goes on after its `=`.
+enum Judged {
+    Done(Walked),
+    Empty {
+        eq: usize,
+    },
+    Named {
+        mark: usize,
+        start: usize,
+        eq: usize,
+    },
+}
+
+// The place after blanks, line ends and comments.
+pub fn past_space(s: &[u8], at: usize) -> usize
+    requires { ⌜ at ≤ length (now s) ⌝ }
+    ensures { λ r. ⌜ Passed (now (s .entry)) at r ⌝ }
+{
+    let mut i = at;
+    let mut inside = false;
+    while i < s.len() {
+        let next = i + 1;
+        if inside {
+            inside = s[i] != 10;
+            i = next;
+        } else if is_space(s[i]) {
+            i = next;
+        } else if is_opening(s, i) {
+            inside = true;
+            i = next;
+        } else {
+            return i;
+        }
+    }
+    i
+}
+
+// TITLE is not first: another byte stands there, or the end (21).
+fn untitled(place: usize) -> Opened
+    ensures { λ r. ⌜ r ≡ Opened.Refused (refusal 21 place) ⌝ }
+{
+    Opened::Refused(Refusal { number: 21, place })
+}
+
+// The label whose `##` stands here, if it is TITLE.
+fn title_here(s: &[u8], at: usize) -> Opened
+    requires { ⌜ hashed (now s) at ≡ true ⌝ }
+    ensures { λ r. ⌜ (r ≡ openedAt (now (s .entry)) at) × openIn (now (s .entry)) r ⌝ }
+{
+    match label_here(s, at) {
+        Label::None => untitled(at),
+        Label::Bad { mark: _ } => untitled(at),
+        Label::At { mark, start, eq } => {
+            if is_title(s, start, eq) {
+                Opened::Title { mark, eq }
+            } else {
+                untitled(at)
+            }
+        }
+    }
+}
+
+// TITLE, if it is first: only blank or comment lines precede it (21).
+pub fn open_title(file: &[u8]) -> Opened
+    ensures { λ r. ⌜ (r ≡ opened (now (file .entry))) × openIn (now (file .entry)) r ⌝ }
+{
+    let place = past_space(file, 0);
+    if place >= file.len() {
+        return untitled(place);
+    }
+    if !is_hashed(file, place) {
+        return untitled(place);
+    }
+    title_here(file, place)
+}
+
+// A fault of the walk.
+fn fault(number: u64, place: usize) -> Walked
+    ensures { λ r. ⌜ r ≡ Walked.Refused (refusal number place) ⌝ }
+{
+    Walked::Refused(Refusal { number, place })
+}
+
+// The next label by itself: 22 without one, 20 if it is bad, END, and 24 if it is TITLE.
+fn next_judged(s: &[u8], at: usize) -> Judged
+    requires { ⌜ at ≤ length (now s) ⌝ }
+    ensures { λ r. ⌜ Told (now (s .entry)) at r ⌝ }
+{
+    match next_label(s, at) {
+        Label::None => Judged::Done(fault(22, s.len())),
+        Label::Bad { mark } => Judged::Done(fault(20, mark)),
+        Label::At { mark, start, eq } => {
+            if is_end(s, start, eq) {
+                return Judged::Done(Walked::Ended { mark, eq });
+            }
+            if is_title(s, start, eq) {
+                return Judged::Done(fault(24, mark));
+            }
+            if is_empty(s, start, eq) {
+                return Judged::Empty { eq };
+            }
+            Judged::Named { mark, start, eq }
+        }
+    }
+}
+
+// The walk over the labels of a part of a file, from after TITLE's `=`: up to END, or to the first of 20, 22, 23, 24.
+// Each label is compared with every label before it: two nested scans, left from inside at the first equal name (23).
+pub fn walk(part: &[u8], start: usize) -> Walked
+    requires { ⌜ start ≤ length (now part) ⌝ }
+    ensures { λ r. ⌜ (r ≡ judged (length (now (part .entry))) [] (from (now (part .entry)) start false)) × walkedIn start (length (now (part .entry))) r ⌝ }
+{
+    let mut at = start;
+    let mut second = start;
+    'walk: loop {
+        match next_judged(part, at) {
+            Judged::Done(walked) => {
+                return walked;
+            }
+            Judged::Empty { eq } => {
+                at = eq + 1;
+            }
+            Judged::Named {
+                mark,
+                start: name,
+                eq,
+            } => {
+                let mut from = start;
+                loop {
+                    let earlier = next_mark(part, from);
+                    if earlier >= mark {
+                        break;
+                    }
+                    let other = earlier + 2;
+                    let end = name_end(part, other);
+                    if same_name(part, other, end, part, name, eq) {
+                        second = mark;
+                        break 'walk;
+                    }
+                    from = end + 1;
+                }
+                at = eq + 1;
+            }
+        }
+    }
+    fault(23, second)
+}
+
+// The text of the first record with a name, among the labels of a part of a file after the place `start` and before `stop`.
+pub fn find_record(part: &[u8], start: usize, stop: usize, name: &[u8]) -> Found
+    requires { ⌜ start ≤ length (now part) ⌝ }
+    ensures { λ r. ⌜ (r ≡ recordOf (length (now (part .entry))) stop (norm (now (name .entry))) (from (now (part .entry)) start false)) × foundIn start (length (now (part .entry))) r ⌝ }
+{
+    let mut at = start;
+    loop {
+        match next_label(part, at) {
+            Label::None => {
+                return Found::Absent;
+            }
+            Label::Bad { mark } => {
+                at = mark + 1;
+            }
+            Label::At { mark, start: n, eq } => {
+                if mark >= stop {
+                    return Found::Absent;
+                }
+                let next = eq + 1;
+                if is_word(part, n, eq, name) {
+                    let end = next_mark(part, next);
+                    return Found::Text {
+                        from: next,
+                        to: end,
+                    };
+                }
+                at = next;
+            }
+        }
+    }
+}
+
+// What the labels of a file say: 19, 21, then 20, 22, 23, 24 in one walk; or the places of TITLE and END.
+pub fn labels(file: &[u8]) -> Labelled
+    ensures { λ r. ⌜ (r ≡ labelled (now (file .entry))) × labelledIn (now (file .entry)) r ⌝ }
+{
+    if file.len() > LONGEST_FILE {
+        return Labelled::Refused(Refusal {
+            number: 19,
+            place: 0,
+        });
+    }
+    match open_title(file) {
+        Opened::Refused(refusal) => Labelled::Refused(refusal),
+        Opened::Title { mark, eq } => {
+            let start = eq + 1;
+            match walk(file, start) {
+                Walked::Refused(refusal) => Labelled::Refused(refusal),
+                Walked::Ended { mark: end, eq: _ } => Labelled::Places {
+                    title: mark,
+                    eq,
+                    end,
+                },
+            }
+        }
+    }
+}
+
+// The text of the record with a name, TITLE's own among them, before END.
+fn find_from_title(file: &[u8], title: usize, eq: usize, end: usize, name: &[u8]) -> Found
+    requires { ⌜ TitleAt (now file) title eq × (title < end) ⌝ }
+    ensures { λ r. ⌜ (r ≡ recordOf (length (now (file .entry))) end (norm (now (name .entry))) (from (now (file .entry)) title true)) × foundIn eq (length (now (file .entry))) r ⌝ }
+{
+    let start = title + 2;
+    let next = eq + 1;
+    if is_word(file, start, eq, name) {
+        let to = next_mark(file, next);
+        return Found::Text { from: next, to };
+    }
+    find_record(file, next, end, name)
+}
+
+// Where the text of the record with a name stands in a file, if its labels are not refused.
+pub fn find(file: &[u8], name: &[u8]) -> Record
+    ensures { λ r. ⌜ (r ≡ recordFor (now (file .entry)) (norm (now (name .entry)))) × findIn (length (now (file .entry))) r ⌝ }
+{
+    match labels(file) {
+        Labelled::Refused(refusal) => Record::Refused(refusal),
+        Labelled::Places { title, eq, end } => match find_from_title(file, title, eq, end, name) {
+            Found::Text { from, to } => Record::Text { from, to },
+            Found::Absent => Record::Absent,
+        },
+    }
+}
+
+// The part of a file from one place up to another.
+fn part_of<'a>(file: &'a [u8], from: usize, to: usize) -> &'a [u8]
+    requires { ⌜ (from ≤ to) × (to ≤ length (now file)) ⌝ }
+    ensures { λ r. ⌜ now r ≡ take (to - from) (drop from (now (file .entry))) ⌝ }
+{
+    &file[from..to]
+}
+
+// The text of the record with a name, shown where it stands; an empty part where there is none, or the labels are refused.
+pub fn record_text<'a>(file: &'a [u8], name: &[u8]) -> &'a [u8]
+    ensures { λ r. ⌜ now r ≡ textOf (now (file .entry)) (recordFor (now (file .entry)) (norm (now (name .entry)))) ⌝ }
+{
+    match find(file, name) {
+        Record::Text { from, to } => part_of(file, from, to),
+        Record::Absent => &file[..0],
+        Record::Refused(_) => &file[..0],
+    }
+}

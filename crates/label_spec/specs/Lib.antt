@@ -1,0 +1,10 @@
+pub mod Names
+pub mod Labels
+pub mod Space
+pub mod File
+pub mod Records
+pub mod Scans
+pub mod NameLaws
+pub mod LabelLaws
+pub mod SpaceLaws
+pub mod RecordLaws
