@@ -7,3 +7,4 @@ pub mod Complete
 pub mod Sound
 pub mod Small
 pub mod Outcome
+pub mod Places

@@ -1,0 +1,58 @@
+use mathlib.Core.Path.{_≡_, refl, sym, ap, _∙_, subst}
+use native.Mathlib.Omega.{arith}
+use borrow.Author.Tests.{ne-eqb, eq-eqb}
+use mir.Facts.{toZ-ofZ}
+use Rattle.file_spec.specs.Figures.{equals, agrees}
+use Rattle.file.specs.Spans.{roundedIn}
+use borrow.Author.Needs.{needs}
+use Rattle.file.proofs.agree.Statement.{statement}
+use Rattle.file.proofs.agree.Tie as tie
+use Rattle.file.proofs.agree.Reads as reads
+use Rattle.file.proofs.agree.Lts as lts
+use Rattle.file.proofs.equal_to.Reads as equal-to-reads
+use Rattle.signed.proofs.ordinate_of.Reads as ordinate-of-reads
+
+-- src/lib.rt:361:9
+ordinate-of-requires : tie.Need-ordinate-of-requires
+ordinate-of-requires c κs = search needs
+
+-- src/lib.rt:363:9
+returns : tie.Need-returns
+returns c = let e = rw (toZ-ofZ (c .before .before .fits .y)) at (c .before .ordinate-of .ensures .0) in rw (sym e ∙ c .if1 .taken) refl
+
+-- src/lib.rt:366:28
+enum-told : tie.Need-enum-told
+enum-told c = search needs
+
+-- src/lib.rt:367:26
+enum-known-r : tie.Need-enum-known-r
+enum-known-r c = search needs
+
+-- src/lib.rt:367:43
+equal-to-requires : tie.Need-equal-to-requires
+equal-to-requires c κs = let x = subst roundedIn (c .before .r .given .1) (c .before .before .before .before .before .pre) in let n = c .before .before .before .if1 .left in (omega (arith, n), x)
+
+-- src/lib.rt:357:1
+returns-2 : tie.Need-returns-2
+unfolding equals
+returns-2 c =
+    let e = rw (toZ-ofZ (c .before .before .before .before .fits .y)) at (c .before .before .before .ordinate-of .ensures .0) in rw (ne-eqb _ 0 (λ z. c .before .before .if1 .left (e ∙ z)), c .enum-told .given .1) refl
+
+-- src/lib.rt:357:1
+returns-3 : tie.Need-returns-3
+unfolding equals
+returns-3 c =
+    let e = rw (toZ-ofZ (c .before .before .before .before .before .before .fits .y)) at (c .before .before .before .before .before .ordinate-of .ensures .0) in
+    rw (ne-eqb _ 0 (λ z. c .before .before .before .before .if1 .left (e ∙ z)), c .before .before .r .given .1) (rw e at (c .equal-to .ensures))
+
+pub agree-spec : {M : Type 1} → statement M
+agree-spec =
+    tie.close
+    (tie.spec
+    ordinate-of-requires
+    returns
+    enum-told
+    enum-known-r
+    equal-to-requires
+    returns-2
+    returns-3)

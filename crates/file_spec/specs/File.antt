@@ -1,0 +1,96 @@
+-- 01, "The file": what a file says. "Order: 19; 21; then 20, 22, 23, 24 in one walk; 25; 26 in the order that 25 lists; 27; 28 (F first); 1 to 13 on the body; 29." Assumes nothing.
+use mathlib.Core.Bool.{Bool, true, false}
+use mathlib.Core.List.{List, [], _∷_, map}
+use Prim.Native.Nat.{ℕ, suc, _+_, _-_}
+use lib.Dec.{ltb, leb}
+use lib.IntN.{ℤ}
+use lib.ListN.{length, getD, take, drop}
+use lib.Seq.{sets}
+use Rattle.alphabet_spec.specs.Logic.{pick}
+use Rattle.terms.specs.Refusals.{refusal}
+use Rattle.table_spec.specs.Frame.{entry-for}
+use Rattle.table_spec.specs.Reading.{Answer, refuse, accept, readTable}
+use Rattle.label_spec.specs.File.{labelled}
+use Rattle.label_spec.specs.declared.Labelled.{Labelled}
+use Rattle.decimal_spec.specs.declared.Rounded.{Rounded}
+use Rattle.file_spec.specs.declared.Span.{Span}
+use Rattle.file_spec.specs.declared.Needed.{Needed}
+use Rattle.file_spec.specs.declared.Gathered.{Gathered}
+use Rattle.file_spec.specs.declared.Gathered.the-variants as gathered
+use Rattle.file_spec.specs.declared.Numbers.{Numbers}
+use Rattle.file_spec.specs.declared.Figures.{Figures}
+use Rattle.file_spec.specs.declared.Figures.the-variants as figures
+use Rattle.file_spec.specs.declared.Listed.{Listed}
+use Rattle.file_spec.specs.declared.Listed.the-variants as listed
+use Rattle.file_spec.specs.declared.FileTable.{FileTable}
+use Rattle.file_spec.specs.declared.FileRead.{FileRead}
+use Rattle.file_spec.specs.declared.FileRead.the-variants as reads
+use Rattle.file_spec.specs.Texts.{gatheredFrom, markOf, listedIn}
+use Rattle.file_spec.specs.Figures.{figuresOf, ratio, abscissa-of, whole, agrees}
+
+-- what a file answers: a refusal, its number and place; or N, F, L and the ordinates
+pub data FileAnswer : Type 0 where
+  refuse-file : ℕ → ℕ → FileAnswer
+  accept-file : ℕ → ℤ → ℤ → List ℕ → FileAnswer
+
+-- places of the body are counted in the file, of 1 and 2 still 0
+abbrev pub inFile : ℕ → ℕ → ℕ → ℕ
+inFile start c a = pick (leb c 2) 0 (start + a)
+
+-- the body is the part of the file from its start to the next label's `##`
+abbrev pub bodyOf : List ℕ → ℕ → ℕ → List ℕ
+bodyOf s a b = take (b - a) (drop a s)
+
+module _ (s : List ℕ) (space : ℕ) where
+  -- 29, after the body was read without fault
+  unfoldable pub byFirst : Needed → Numbers → ℤ → ℤ → ℕ → Answer → FileAnswer
+  byFirst t n f l start (refuse c a) = refuse-file c (inFile start c a)
+  byFirst t n f l start (accept ys) =
+      pick (agrees (getD ys 0 0) (ratio 0 (n .firsty) (n .yfactor))) (accept-file (n .npoints) f l ys) (refuse-file 29 (markOf s (t .firsty)))
+
+  -- 1 to 13 on the body
+  unfoldable pub byTable : Needed → Numbers → ℕ → ℤ → ℤ → FileAnswer
+  byTable t n start f l = byFirst t n f l start (readTable f l (n .npoints) (bodyOf s start (t .xydata .to)) space)
+
+  -- 28, F first
+  unfoldable pub byLast : Needed → Numbers → ℕ → ℤ → Rounded → FileAnswer
+  byLast t n start f Rounded.Beyond = refuse-file 28 (markOf s (t .lastx))
+  byLast t n start f (Rounded.Whole minus q) = byTable t n start f (whole minus q)
+
+  unfoldable pub byAbscissas : Needed → Numbers → ℕ → Rounded → FileAnswer
+  byAbscissas t n start Rounded.Beyond = refuse-file 28 (markOf s (t .firstx))
+  byAbscissas t n start (Rounded.Whole minus q) = byLast t n start (whole minus q) (abscissa-of (n .lastx) (n .xfactor))
+
+  -- 27
+  unfoldable pub byList : Needed → Numbers → Listed → FileAnswer
+  byList t n listed.Unlisted = refuse-file 27 (markOf s (t .xydata))
+  byList t n (listed.Body start) = byAbscissas t n start (abscissa-of (n .firstx) (n .xfactor))
+
+  -- 26
+  unfoldable pub byFigures : Needed → Figures → FileAnswer
+  byFigures t (figures.Wrong a) = refuse-file 26 a
+  byFigures t (figures.All n) = byList t n (listedIn s (t .xydata))
+
+  -- 25, at END's `##`
+  unfoldable pub byRecords : ℕ → Gathered → FileAnswer
+  byRecords stop gathered.Lacking = refuse-file 25 stop
+  byRecords stop (gathered.All t) = byFigures t (figuresOf s t)
+
+  -- 19, 21, and 20, 22, 23, 24 in one walk
+  unfoldable pub byLabels : Labelled → FileAnswer
+  byLabels (Labelled.Refused r) = refuse-file (r .number) (r .place)
+  byLabels (Labelled.Places m e x) = byRecords x (gatheredFrom s (suc e) x)
+
+  -- what a file says, with room for so many ordinates
+  unfoldable pub readFile : FileAnswer
+  readFile = byLabels (labelled s)
+
+-- the answer for each of its cases
+abbrev pub toldFile : FileAnswer → FileRead
+toldFile (refuse-file c a) = reads.Refused (refusal c a)
+toldFile (accept-file n f l ys) = reads.Accepted (record { points = n; first = f; last = l })
+
+-- the lent slice afterwards
+abbrev pub storedFile : List ℤ → FileAnswer → List ℤ
+storedFile out (refuse-file c a) = out
+storedFile out (accept-file n f l ys) = sets out 0 (map entry-for ys)

@@ -1,0 +1,6 @@
+pub mod HeadSteps
+pub mod NumberSteps
+pub mod TokenSteps
+pub mod TextSteps
+pub mod LineSteps
+pub mod AnswerSteps

@@ -1,0 +1,146 @@
+-- What the writing of lines needs. No place of the code is named here. Assumes nothing.
+use mathlib.Core.Path.{_≡_, refl, sym, ap, _∙_}
+use mathlib.Core.Bool.{Bool, true, false}
+use mathlib.Core.List.{List, [], _∷_, _++_}
+use Prim.Native.Nat.{ℕ, zero, suc, _+_, _-_, _*_, _≤_, _<_}
+use native.Mathlib.Omega.{arith}
+use lib.Dec.{leb}
+use lib.ListN.{length, getD}
+use lib.Seq.{sets, length-sets}
+use borrow.Author.Tests.{le-leb, lt-leb}
+use Rattle.alphabet_spec.specs.Logic.{pick, no-way}
+use Rattle.table_spec.specs.Numerals.{numeral}
+use Rattle.table_spec.specs.Groups.{sqzText, dupText}
+use Rattle.table_spec.specs.Writing.{check, close, lines-of}
+use Rattle.table_write.specs.declared.Group.{Group}
+use Rattle.table_write.specs.declared.State.{State}
+use Rattle.table_write.specs.Pieces.{Put, Ahead, number, put-then, ahead-of}
+use Rattle.table_write.specs.Tokens.{Found, group-at, count-at, dif-at}
+use Rattle.table_write.specs.Lines.{from, next-state, after, opening, Started, Wrote, Going}
+use Rattle.table_write.proofs.TextSteps.{from-fits, from-break, from-end, start, lines-start}
+
+-- ---- the start of a line, and the last line
+
+pub sqz-up : (u : ℕ) → 2147483648 ≤ u → sqzText u ≡ number 64 (u - 2147483648)
+unfolding sqzText numeral number
+sqz-up u h = rw (le-leb 2147483648 u h) refl
+
+pub sqz-down : (u : ℕ) → u < 2147483648 → sqzText u ≡ number 96 (2147483648 - u)
+unfolding sqzText numeral number
+sqz-down u h = rw (lt-leb 2147483648 u h) refl
+
+module _ (hd : ℕ → List ℕ) (i p : ℕ) where
+  pub check-is : check hd i p ≡ hd (i - 1) ++ sqzText p
+  unfolding check
+  check-is = refl
+
+  pub opening-dif : (dif : Bool) → dif ≡ true → opening hd dif i p ≡ check hd i p
+  opening-dif dif e = rw e refl
+
+  pub opening-not : (dif : Bool) → dif ≡ false → opening hd dif i p ≡ hd i
+  opening-not dif e = rw e refl
+
+  pub close-dif : (dif : Bool) → dif ≡ true → close hd dif i p ≡ check hd i p ++ 13 ∷ 10 ∷ []
+  unfolding close
+  close-dif dif e = rw e refl
+
+  pub close-not : (dif : Bool) → dif ≡ false → close hd dif i p ≡ []
+  unfolding close
+  close-not dif e = rw e refl
+
+-- ---- a group
+
+module _ (hd : ℕ → List ℕ) (ys : List ℕ) where
+  pub filled : (i p at column last : ℕ) (g : Group) (o o' : List ℕ) → Found ys i p g → o' ≡ sets o at (number (g .base) (g .size) ++ dupText (g .more))
+      → last ≡ getD ys (i + g .more) 0 → last < 4294967296 → column ≤ at
+      → Wrote hd ys i at (after hd ys i p column) o o' (record { given = i + g .more + 1; at = at + g .width; column = column + g .width; last = last; dif = g .dif }) × (at + g .width ≤ at + 20)
+  unfolding after from
+  filled i p at column last g o o' h e f b l =
+      let q : Put o at o' (at + length (group-at ys i p)) (group-at ys i p) = record { next = refl; stored = e ∙ rw (h .text) refl } in
+      let inside = h .inside in let slim = h .slim in (
+        record {
+          law = λ x n a. rw (f, h .more-is, h .width-is, h .dif-is) (ahead-of (from hd ys (next-state hd ys i p 0 column)) q a);
+          same = ap length e ∙ length-sets o at (number (g .base) (g .size) ++ dupText (g .more));
+          on = omega arith;
+          inside = omega arith;
+          most = omega arith;
+          column-most = omega arith;
+          small = b;
+        },
+        omega arith,
+      )
+
+  -- ---- a turn
+
+  wrote-as : {i at : ℕ} {o o' : List ℕ} {s : State} (t t' : List ℕ) → t ≡ t' → Wrote hd ys i at t' o o' s → Wrote hd ys i at t o o' s
+  wrote-as t t' e w = rw e w
+
+  module _ (s : State) (g : Group) (inside : s .given < length ys) (h : Found ys (s .given) (s .last) g) where
+    pub turn-fits : {o o' : List ℕ} {r : State} → s .column + g .width ≤ 80 → Wrote hd ys (s .given) (s .at) (after hd ys (s .given) (s .last) (s .column)) o o' r
+        → Wrote hd ys (s .given) (s .at) (from hd ys s) o o' r
+    turn-fits l w = let width = h .width-is in wrote-as (from hd ys s) (after hd ys (s .given) (s .last) (s .column)) (from-fits hd ys s inside (omega arith)) w
+
+    pub turn-breaks : {o o₁ o₂ o₃ : List ℕ} {a b : ℕ} {r : State} (q : ℕ) → 80 < s .column + g .width → q ≡ pick (s .dif) (s .last) 0
+        → Put o (s .at) o₁ a (13 ∷ 10 ∷ []) → Put o₁ a o₂ b (opening hd (s .dif) (s .given) (s .last)) → b ≤ a + 25
+        → Wrote hd ys (s .given) b (after hd ys (s .given) q (b - a)) o₂ o₃ r → r .at ≤ b + 20 → Wrote hd ys (s .given) (s .at) (from hd ys s) o o₃ r
+    turn-breaks {o = o} {o₁ = o₁} {a = a} {b = b} q l f u v m w z =
+        let width = h .width-is in
+        let t₀ = opening hd (s .dif) (s .given) (s .last) in
+        let n : b - a ≡ length t₀ = omega (arith, v .next) in
+        let t : from hd ys s ≡ 13 ∷ 10 ∷ t₀ ++ after hd ys (s .given) q (b - a) = from-break hd ys s inside (omega arith) ∙ rw (f, n) refl in
+        let e = u .next in
+        record {
+          law = λ x c k. w .law x c (ahead-of (after hd ys (s .given) q (b - a)) v (ahead-of (t₀ ++ after hd ys (s .given) q (b - a)) u (rw t at k)));
+          same = w .same ∙ ap length (v .stored) ∙ length-sets o₁ a t₀ ∙ ap length (u .stored) ∙ length-sets o (s .at) (13 ∷ 10 ∷ []);
+          on = w .on;
+          inside = w .inside;
+          most = omega arith;
+          column-most = w .column-most;
+          small = w .small;
+        }
+
+  -- ---- the whole
+
+  pub starts : (o : List ℕ) (n : ℕ) → n ≤ 15 → Going hd ys o (start hd n) o (start hd n) 0
+  starts o n h =
+      record {
+        is = refl;
+        law = λ x m r. r;
+        same = refl;
+        inside = omega arith;
+        most = omega arith;
+        column-most = omega arith;
+        started = record { some = λ e. no-way e; small = omega arith };
+      }
+
+  pub goes : {o₀ o o' : List ℕ} {s₀ s r : State} {i : ℕ} → Going hd ys o₀ s₀ o s i → Wrote hd ys (s .given) (s .at) (from hd ys s) o o' r → Going hd ys o₀ s₀ o' r (r .given)
+  goes g w =
+      let on = w .on in let most = w .most in let most₀ = g .most in
+      record {
+        is = refl;
+        law = λ x n q. w .law x n (g .law x n q);
+        same = w .same ∙ g .same;
+        inside = w .inside;
+        most = omega arith;
+        column-most = w .column-most;
+        started = record { some = λ _. omega arith; small = w .small };
+      }
+
+  done : {x o o' : List ℕ} {n at r : ℕ} {g : List ℕ} → Ahead x n o at g → Put o at o' r g → (r ≡ n) × (o' ≡ x)
+  done a b = (b .next ∙ a .ends, b .stored ∙ a .whole)
+
+  again-as : {x o : List ℕ} {n at : ℕ} {t t' : List ℕ} → t ≡ t' → Ahead x n o at t → Ahead x n o at t'
+  again-as e r = rw e at r
+
+  pub finish : {o o₁ o₃ o₄ o₅ : List ℕ} {st e r i : ℕ} {s : State} (n : ℕ) → 0 < length ys → st ≤ 15 → Put o 0 o₁ st (hd 0) → Going hd ys o₁ (start hd st) o₃ s i
+      → length ys ≤ i → length ys ≡ n → Put o₃ (s .at) o₄ e (13 ∷ 10 ∷ []) → Put o₄ e o₅ r (close hd (s .dif) n (s .last)) → Put o 0 o₅ r (lines-of hd ys)
+  finish {o = o} {st = st} {s = s} n l b h g k m u v =
+      let all = lines-of hd ys in
+      let a : Ahead (sets o 0 all) (0 + length all) o 0 all = record { whole = refl; ends = refl } in
+      let t : all ≡ hd 0 ++ from hd ys (start hd st) = lines-start hd ys st l (omega (arith, h .next)) (omega arith) in
+      let d = g .law (sets o 0 all) (0 + length all) (ahead-of (from hd ys (start hd st)) h (again-as t a)) in
+      let is = g .is in let inside = g .inside in
+      let j : s .given ≡ n = omega arith in
+      let f : from hd ys s ≡ 13 ∷ 10 ∷ close hd (s .dif) n (s .last) = from-end hd ys s (omega arith) ∙ rw j refl in
+      let y = done (ahead-of (close hd (s .dif) n (s .last)) u (again-as f d)) v in
+      record { next = y .0; stored = y .1 }

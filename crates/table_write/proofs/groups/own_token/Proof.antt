@@ -1,0 +1,21 @@
+use Rattle.table_write.proofs.TokenSteps.{own-up, own-down}
+use borrow.Author.Needs.{needs}
+use Rattle.table_write.proofs.groups.own_token.Statement.{statement}
+use Rattle.table_write.proofs.groups.own_token.Tie as tie
+use Rattle.table_write.proofs.groups.own_token.Reads as reads
+use Rattle.table_write.proofs.groups.own_token.Lts as lts
+
+-- src/groups.rt:27:9
+returns : tie.Need-returns
+returns c = own-up _ (c .before .pre .0) (c .before .pre .1) (c .if1 .taken)
+
+-- src/groups.rt:37:15
+sub-t4 : tie.Need-sub-t4
+sub-t4 c = search needs
+
+-- src/groups.rt:22:1
+returns-2 : tie.Need-returns-2
+returns-2 c = own-down _ (c .before .pre .0) (c .before .pre .1) (c .if1 .left)
+
+pub own-token-spec : {M : Type 1} → statement M
+own-token-spec = tie.close (tie.spec returns sub-t4 returns-2)

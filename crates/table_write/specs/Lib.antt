@@ -1,0 +1,5 @@
+pub mod Digits
+pub mod Pieces
+pub mod Tokens
+pub mod Lines
+pub mod Answers

@@ -1,0 +1,54 @@
+-- The written text from a point on, and what the functions on lines ensure (01, "The written text"). Assumes nothing.
+use mathlib.Core.Path.{_≡_}
+use mathlib.Core.Bool.{Bool, true, false}
+use mathlib.Core.List.{List, [], _∷_, _++_}
+use Prim.Native.Nat.{ℕ, zero, suc, _+_, _*_, _≤_, _<_}
+use lib.ListN.{length, getD, drop}
+use Rattle.alphabet_spec.specs.Logic.{pick}
+use Rattle.table_spec.specs.Writing.{check, text}
+use Rattle.table_write.specs.declared.State.{State}
+use Rattle.table_write.specs.Pieces.{Ahead}
+use Rattle.table_write.specs.Tokens.{count-at, group-at, dif-at}
+
+module _ (head-of : ℕ → List ℕ) where
+  -- what is left to write in a state
+  unfoldable pub from : List ℕ → State → List ℕ
+  from ys s = text head-of (drop (s .given) ys) 0 (s .given) (s .last) (s .dif) (s .column)
+
+  -- the state after the group at i after p
+  abbrev pub next-state : List ℕ → ℕ → ℕ → ℕ → ℕ → State
+  next-state ys i p at column =
+      record { given = i + count-at ys i p + 1; at = at; column = column + length (group-at ys i p); last = getD ys (i + count-at ys i p) 0; dif = dif-at ys i p }
+
+  -- the group at i after p, whatever room there is, and what is left then
+  unfoldable pub after : List ℕ → ℕ → ℕ → ℕ → List ℕ
+  after ys i p column = group-at ys i p ++ from ys (next-state ys i p 0 column)
+
+  -- the start of a line
+  abbrev pub opening : Bool → ℕ → ℕ → List ℕ
+  opening dif i p = pick dif (check head-of i p) (head-of i)
+
+-- a last form that is DIF has a point before it; ordinates have 32 bits
+pub record Started (s : State) : Type 0 where
+  pub some : s .dif ≡ true → 0 < s .given
+  pub small : s .last < 4294967296
+
+-- some text was written, and the state is that after it: t was left before, at the place `at`, after i points
+pub record Wrote (head-of : ℕ → List ℕ) (ys : List ℕ) (i at : ℕ) (t o o' : List ℕ) (s : State) : Type 0 where
+  pub law : (x : List ℕ) (n : ℕ) → Ahead x n o at t → Ahead x n o' (s .at) (from head-of ys s)
+  pub same : length o' ≡ length o
+  pub on : i < s .given
+  pub inside : s .given ≤ length ys
+  pub most : s .at ≤ at + 64
+  pub column-most : s .column ≤ s .at
+  pub small : s .last < 4294967296
+
+-- what the pass keeps, from the state where its loop began
+pub record Going (head-of : ℕ → List ℕ) (ys o₀ : List ℕ) (s₀ : State) (o : List ℕ) (s : State) (i : ℕ) : Type 0 where
+  pub is : i ≡ s .given
+  pub law : (x : List ℕ) (n : ℕ) → Ahead x n o₀ (s₀ .at) (from head-of ys s₀) → Ahead x n o (s .at) (from head-of ys s)
+  pub same : length o ≡ length o₀
+  pub inside : s .given ≤ length ys
+  pub most : s .at ≤ 64 * s .given + 64
+  pub column-most : s .column ≤ s .at
+  pub started : Started s

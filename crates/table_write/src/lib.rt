@@ -1,0 +1,137 @@
+// Writing a table (01, "The written text"): the public function, and the types that its parts share.
+ghost use mathlib.Core.Path.{_≡_};
+ghost use Prim.Native.Nat.{ℕ, _+_, _-_, _≤_, _<_};
+ghost use lib.ListN.{length};
+ghost use Rattle.table_spec.specs.Frame.{apart};
+ghost use Rattle.table_spec.specs.Writing.{lines-of};
+ghost use Rattle.frame.specs.Legal.{Sound};
+ghost use Rattle.table_write.specs.Pieces.{Put, headOf};
+ghost use Rattle.table_write.specs.Tokens.{ordinates};
+ghost use Rattle.table_write.specs.Answers.{Answered, FramedAnswer};
+use crate::heads::put_head;
+use crate::lines::put_close;
+use crate::lines::put_end;
+use crate::lines::turn;
+use frame::Frame;
+use frame::Framed;
+use terms::Refusal;
+use terms::TableWritten;
+
+mod digits;
+mod groups;
+mod heads;
+mod lines;
+
+// A token: its number is `size`, and its first digit is written as `base` plus the digit. The next ordinate has the same token if it plus `down` is the one
+// before it plus `up`, and it is missing or not as `dif` says, which is true of the DIF form.
+struct Token {
+    base: u64,
+    size: u64,
+    up: u64,
+    down: u64,
+    dif: bool,
+}
+
+// A group: its token, how many digits follow the token's first, how many more ordinates have the token, its bytes, and whether its form is DIF.
+struct Group {
+    base: u64,
+    size: u64,
+    digits: usize,
+    more: usize,
+    width: usize,
+    dif: bool,
+}
+
+// How far the writing has come: points given, the place after the last byte, the bytes of the line so far, the last ordinate, and whether its form is DIF.
+struct State {
+    given: usize,
+    at: usize,
+    column: usize,
+    last: u64,
+    dif: bool,
+}
+
+// The whole text from the start of the lent bytes; what is past their end is not stored. The text's length.
+fn pass(ys: &[i32], text: &mut [u8], fr: Frame) -> usize
+    requires { ⌜ Sound fr × (length (now ys) ≡ fr .points) ⌝ }
+    ensures { λ r. ⌜ Put (now (text .entry)) 0 (now (text .exit)) r (lines-of (headOf fr) (ordinates (now (ys .entry)))) ⌝ }
+{
+    let n = ys.len();
+    let start = put_head(text, 0, fr, 0);
+    let mut s = State {
+        given: 0,
+        at: start,
+        column: start,
+        last: 0,
+        dif: false,
+    };
+    let mut i = 0;
+    while i < n {
+        s = turn(ys, text, fr, s);
+        i = s.given;
+    }
+    let at = s.at;
+    let dif = s.dif;
+    let last = s.last;
+    let e = put_end(text, at);
+    put_close(text, e, fr, dif, last)
+}
+
+// How far apart F and L are.
+fn spread(fr: Frame) -> u64
+    ensures { λ r. ⌜ r ≡ apart (fr .last) (fr .first) ⌝ }
+{
+    let first = fr.first;
+    let last = fr.last;
+    if first < last {
+        return last - first;
+    }
+    first - last
+}
+
+// A refusal of the writer: its place is 0.
+fn refused(number: u64) -> TableWritten
+    ensures { λ r. ⌜ r ≡ Rattle.table_write.specs.Answers.refused number ⌝ }
+{
+    TableWritten::Refused(Refusal::new(number, 0))
+}
+
+// Writing in a legal frame: refusals 2, 14 and 15, or the text. The first pass measures it and stores nothing.
+fn write_framed(fr: Frame, ordinates: &[i32], text: &mut [u8]) -> TableWritten
+    requires { ⌜ Sound fr ⌝ }
+    ensures { λ r. ⌜ FramedAnswer fr (now (ordinates .entry)) (now (text .entry)) (now (text .exit)) r ⌝ }
+{
+    let n = fr.points;
+    if ordinates.len() < n {
+        return refused(2);
+    }
+    let steps = (n - 1) as u64;
+    if spread(fr) < steps {
+        return refused(14);
+    }
+    let ys = &ordinates[..n];
+    let room = text.len();
+    let needed = pass(ys, &mut text[..0], fr);
+    if room < needed {
+        return refused(15);
+    }
+    let length = pass(ys, text, fr);
+    TableWritten::Length(length)
+}
+
+// Writes the table of a frame, its numbers as they come, and its ordinates into the lent bytes; or refuses and leaves them as they were.
+pub fn write_table(
+    first: i64,
+    last: i64,
+    points: usize,
+    ordinates: &[i32],
+    text: &mut [u8],
+) -> TableWritten
+    ensures { λ r. ⌜ Answered first last points (now (ordinates .entry)) (now (text .entry)) (now (text .exit)) r ⌝ }
+{
+    let framed = Frame::new(first, last, points);
+    match framed {
+        Framed::Outside => refused(1),
+        Framed::Legal(fr) => write_framed(fr, ordinates, text),
+    }
+}

@@ -1,0 +1,154 @@
+// Groups on lines (01, "The written text").
+ghost use mathlib.Core.Path.{_≡_};
+ghost use mathlib.Core.Bool.{true, false};
+ghost use mathlib.Core.List.{[], _∷_};
+ghost use Prim.Native.Nat.{ℕ, _+_, _^_, _≤_, _<_};
+ghost use lib.ListN.{length};
+ghost use Rattle.table_spec.specs.Writing.{check, close};
+ghost use Rattle.table_spec.specs.Groups.{sqzText};
+ghost use Rattle.frame.specs.Legal.{Sound};
+ghost use Rattle.table_write.specs.Pieces.{Put, headOf};
+ghost use Rattle.table_write.specs.Tokens.{ordinates, Found};
+ghost use Rattle.table_write.specs.Lines.{opening, after, from, Wrote, Started};
+use crate::Group;
+use crate::State;
+use crate::digits::further_digits;
+use crate::digits::put;
+use crate::digits::put_number;
+use crate::groups::find;
+use crate::groups::put_group;
+use crate::heads::put_head;
+use frame::Frame;
+use signed::ordinate_at;
+
+// The most bytes of a line.
+const LONGEST_LINE: usize = 80;
+
+// CR LF. The place after it.
+pub fn put_end(out: &mut [u8], at: usize) -> usize
+    requires { ⌜ at < 2 ^ 61 ⌝ }
+    ensures { λ r. ⌜ Put (now (out .entry)) at (now (out .exit)) r (13 ∷ 10 ∷ []) ⌝ }
+{
+    put(out, at, 13);
+    put(out, at + 1, 10);
+    at + 2
+}
+
+// An ordinate in SQZ form. The place after it.
+fn put_own(out: &mut [u8], at: usize, u: u64) -> usize
+    requires { ⌜ (u < 4294967296) × (at < 2 ^ 60) ⌝ }
+    ensures { λ r. ⌜ Put (now (out .entry)) at (now (out .exit)) r (sqzText u) × (r ≤ at + 10) ⌝ }
+{
+    if 2147483648 <= u {
+        let v = u - 2147483648;
+        let n = further_digits(v);
+        return put_number(out, at, 64, v, n);
+    }
+    let w = 2147483648 - u;
+    let m = further_digits(w);
+    put_number(out, at, 96, w, m)
+}
+
+// The head and the first value of a check line, after i points, the last of them p. The place after them.
+fn put_check(out: &mut [u8], at: usize, fr: Frame, i: usize, p: u64) -> usize
+    requires { ⌜ Sound fr × (0 < i) × (i ≤ fr .points) × (p < 4294967296) × (at < 2 ^ 58) ⌝ }
+    ensures { λ r. ⌜ Put (now (out .entry)) at (now (out .exit)) r (check (headOf fr) i p) × (r ≤ at + 25) ⌝ }
+{
+    let before = i - 1;
+    let h = put_head(out, at, fr, before);
+    put_own(out, h, p)
+}
+
+// The start of a new line: a check line's, or the head of the next point. The place after it.
+fn put_opening(out: &mut [u8], at: usize, fr: Frame, s: State) -> usize
+    requires { ⌜ Sound fr × Started s × (s .given < fr .points) × (at < 2 ^ 58) ⌝ }
+    ensures { λ r. ⌜ Put (now (out .entry)) at (now (out .exit)) r (opening (headOf fr) (s .dif) (s .given) (s .last)) × (r ≤ at + 25) ⌝ }
+{
+    let i = s.given;
+    let p = s.last;
+    if s.dif {
+        return put_check(out, at, fr, i, p);
+    }
+    put_head(out, at, fr, i)
+}
+
+// The last check line, if the text ends in DIF form. The place after it.
+pub fn put_close(out: &mut [u8], at: usize, fr: Frame, dif: bool, p: u64) -> usize
+    requires { ⌜ Sound fr × (p < 4294967296) × (at < 2 ^ 58) ⌝ }
+    ensures { λ r. ⌜ Put (now (out .entry)) at (now (out .exit)) r (close (headOf fr) dif (fr .points) p) ⌝ }
+{
+    if !dif {
+        return at;
+    }
+    let n = fr.points;
+    let a = put_check(out, at, fr, n, p);
+    put_end(out, a)
+}
+
+// The group g at i, after p, is put on the line.
+fn fill(
+    ys: &[i32],
+    out: &mut [u8],
+    fr: Frame,
+    i: usize,
+    p: u64,
+    g: Group,
+    at: usize,
+    column: usize,
+) -> State
+    requires { ⌜ Found (ordinates (now ys)) i p g × (length (now ys) ≤ 65536) × (at < 2 ^ 59) × (column ≤ at) ⌝ }
+    ensures { λ r. ⌜ Wrote (headOf fr) (ordinates (now (ys .entry))) i at (after (headOf fr) (ordinates (now (ys .entry))) i p column) (now (out .entry)) (now (out .exit)) r × (r .at ≤ at + 20) ⌝ }
+{
+    let more = g.more;
+    let width = g.width;
+    let dif = g.dif;
+    put_group(out, at, g);
+    let index = i + more;
+    let last = ordinate_at(ys, index);
+    let given = index + 1;
+    let place = at + width;
+    let bytes = column + width;
+    State {
+        given,
+        at: place,
+        column: bytes,
+        last,
+        dif,
+    }
+}
+
+// A new line, and the next group on it: as it was found on a check line, found afresh on another.
+fn break_line(ys: &[i32], out: &mut [u8], fr: Frame, s: State, g: Group) -> State
+    requires { ⌜ Sound fr × (length (now ys) ≡ fr .points) × Started s × (s .given < length (now ys)) × Found (ordinates (now ys)) (s .given) (s .last) g × (80 < s .column + g .width) × (s .at < 2 ^ 57) ⌝ }
+    ensures { λ r. ⌜ Wrote (headOf fr) (ordinates (now (ys .entry))) (s .given) (s .at) (from (headOf fr) (ordinates (now (ys .entry))) s) (now (out .entry)) (now (out .exit)) r ⌝ }
+{
+    let i = s.given;
+    let p = s.last;
+    let at = s.at;
+    let a = put_end(out, at);
+    let b = put_opening(out, a, fr, s);
+    let used = b - a;
+    if s.dif {
+        return fill(ys, out, fr, i, p, g, b, used);
+    }
+    let h = find(ys, i, 0);
+    fill(ys, out, fr, i, 0, h, b, used)
+}
+
+// One group more, on this line if it fits whole, else on a new one.
+pub fn turn(ys: &[i32], out: &mut [u8], fr: Frame, s: State) -> State
+    requires { ⌜ Sound fr × (length (now ys) ≡ fr .points) × Started s × (s .given < length (now ys)) × (s .at < 2 ^ 57) × (s .column ≤ s .at) ⌝ }
+    ensures { λ r. ⌜ Wrote (headOf fr) (ordinates (now (ys .entry))) (s .given) (s .at) (from (headOf fr) (ordinates (now (ys .entry))) s) (now (out .entry)) (now (out .exit)) r ⌝ }
+{
+    let i = s.given;
+    let p = s.last;
+    let at = s.at;
+    let column = s.column;
+    let g = find(ys, i, p);
+    let group = g.width;
+    let all = column + group;
+    if all <= LONGEST_LINE {
+        return fill(ys, out, fr, i, p, g, at, column);
+    }
+    break_line(ys, out, fr, s, g)
+}

@@ -1,0 +1,168 @@
+-- "Lines hold at most 80 bytes, then CR LF" (01, "The written text"): the written text is such lines, and no CR or LF stands within them. Assumes nothing.
+use mathlib.Core.Path.{_≡_, refl, sym, subst}
+use mathlib.Core.Bool.{Bool, true, false}
+use mathlib.Core.List.{List, [], _∷_, _++_}
+use Prim.Native.Nat.{ℕ, zero, suc, _+_, _-_, _/_, _%_, _≤_, _<_}
+use native.Mathlib.Omega.{arith}
+use native.Mathlib.Nat.{add-zero, zero-add, add-suc, suc-add, not-suc-le-zero, le-of-suc-le-suc}
+use lib.Dec.{ltb, leb, eqb, lit≤}
+use lib.ListN.{length}
+use borrow.Author.Tests.{leb-true}
+use Rattle.alphabet_spec.specs.Logic.{pick, by-case, no-way}
+use Rattle.alphabet_spec.specs.Kinds.{Lead, sqz, dif, dup}
+use Rattle.table_spec.specs.Frame.{nearest, zero-ordinate, zero-abscissa}
+use Rattle.table_spec.specs.Values.{Form, Own, Gap, By, Dup, isDif}
+use Rattle.table_spec.specs.Numerals.{top, low, leadByte, numeral, fraction, magnitude, headText}
+use Rattle.table_spec.specs.Groups.{form, sqzText, tokenText, many, dupText, group}
+use Rattle.table_spec.specs.Writing.{longest-line, put, check, open-line, go-on, close, text, lines-of, written}
+use Rattle.table_write_law.specs.Tokens.{many-le}
+use Rattle.table_write_law.specs.Written.{Takes}
+use Rattle.table_write_law.specs.Lengths.{group-most, check-most, head-most}
+
+-- a text after c bytes of its first line: lines of at most 80 bytes, none of them CR or LF, and after each of them CR LF
+pub data Lined : ℕ → List ℕ → Type 0 where
+  over : Lined 0 []
+  ends : {c : ℕ} {s : List ℕ} → c ≤ longest-line → Lined 0 s → Lined c (13 ∷ 10 ∷ s)
+  byte : {c b : ℕ} {s : List ℕ} → (b ≡ 13 → ⊥) → (b ≡ 10 → ⊥) → Lined (suc c) s → Lined c (b ∷ s)
+
+-- ---- the bytes of tokens and heads
+
+-- each is above CR
+abbrev Above : List ℕ → Type 0
+Above [] = Unit {0}
+Above (b ∷ s) = (13 < b) × Above s
+
+joined : (a b : List ℕ) → Above a → Above b → Above (a ++ b)
+joined [] b h k = k
+joined (x ∷ a) b h k = (h .0, joined a b (h .1) k)
+
+low-above : (f v : ℕ) (acc : List ℕ) → Above acc → Above (low f v acc)
+unfolding low
+low-above zero v acc h = h
+low-above (suc f) v acc h =
+    by-case (λ q. Above (pick q acc (low f (v / 10) ((48 + v % 10) ∷ acc)))) (ltb v 10) (λ _. h) (λ _. low-above f (v / 10) ((48 + v % 10) ∷ acc) (omega arith, h))
+
+lead-above : (k : Lead) (d : ℕ) → 13 < leadByte k d
+lead-above (sqz false) d = omega arith
+lead-above (sqz true) d = omega arith
+lead-above (dif false) d = by-case (λ q. 13 < pick q 37 (73 + d)) (eqb d 0) (λ _. omega arith) (λ _. omega arith)
+lead-above (dif true) d = omega arith
+lead-above dup d = by-case (λ q. 13 < pick q 115 (82 + d)) (eqb d 9) (λ _. omega arith) (λ _. omega arith)
+
+numeral-above : (k : Lead) (v : ℕ) → Above (numeral k v)
+unfolding numeral
+numeral-above k v = (lead-above k (top 9 v), low-above 9 v [] tt)
+
+sqz-above : (u : ℕ) → Above (sqzText u)
+unfolding sqzText
+sqz-above u =
+    by-case (λ t. Above (pick t (numeral (sqz false) (u - zero-ordinate)) (numeral (sqz true) (zero-ordinate - u)))) (leb zero-ordinate u)
+    (λ _. numeral-above (sqz false) (u - zero-ordinate)) (λ _. numeral-above (sqz true) (zero-ordinate - u))
+
+token-above : (r : Form) (y : ℕ) → Above (tokenText r y)
+unfolding tokenText
+token-above Own y = sqz-above y
+token-above Gap y = (omega arith, tt)
+token-above (By m d) y = numeral-above (dif m) d
+token-above (Dup b) y = tt
+
+dup-above : (n : ℕ) → Above (dupText n)
+unfolding dupText
+dup-above zero = tt
+dup-above (suc n) = numeral-above dup (suc (suc n))
+
+group-above : (p y : ℕ) (ys : List ℕ) → Above (group p y ys)
+unfolding group
+group-above p y ys = joined (tokenText (form p y) y) (dupText (many (form p y) y ys)) (token-above (form p y) y) (dup-above (many (form p y) y ys))
+
+fraction-above : (f : ℕ) → Above (fraction f)
+unfolding fraction
+fraction-above f =
+    let third = pick (eqb (f % 10) 0) [] ((48 + f % 10) ∷ []) in
+    by-case (λ q. Above (pick q [] (46 ∷ (48 + f / 100) ∷ pick (eqb (f % 100) 0) [] ((48 + f / 10 % 10) ∷ third)))) (eqb f 0) (λ _. tt)
+    (λ _. (
+      omega arith,
+      (
+        omega arith,
+        by-case (λ q. Above (pick q [] ((48 + f / 10 % 10) ∷ third))) (eqb (f % 100) 0) (λ _. tt)
+            (λ _. (omega arith, by-case (λ q. Above (pick q [] ((48 + f % 10) ∷ []))) (eqb (f % 10) 0) (λ _. tt) (λ _. (omega arith, tt)))),
+      ),
+    ))
+
+magnitude-above : (g : ℕ) → Above (magnitude g)
+unfolding magnitude
+magnitude-above g = (omega arith, joined (low 9 (g / 1000) []) (fraction (g % 1000)) (low-above 9 (g / 1000) [] tt) (fraction-above (g % 1000)))
+
+head-above : (h : ℕ) → Above (headText h)
+unfolding headText
+head-above h =
+    by-case (λ q. Above (pick q (magnitude (h - zero-abscissa)) (45 ∷ magnitude (zero-abscissa - h)))) (leb zero-abscissa h)
+    (λ _. magnitude-above (h - zero-abscissa)) (λ _. (omega arith, magnitude-above (zero-abscissa - h)))
+
+-- ---- lines
+
+-- such bytes go on with a line
+onward : {s : List ℕ} (c : ℕ) (g : List ℕ) → Above g → Lined (c + length g) s → Lined c (g ++ s)
+onward c [] h l = rw add-zero at l
+onward c (b ∷ g) h l =
+    let k = h .0 in
+    let cr : b ≡ 13 → ⊥ = λ e. omega arith in
+    let lf : b ≡ 10 → ⊥ = λ e. omega arith in
+    byte cr lf (onward (suc c) g (h .1) (rw (add-suc c (length g), ← suc-add c (length g)) at l))
+
+module _ (N : ℕ) (few : N ≤ 65536) (hd : ℕ → List ℕ) (short : (i : ℕ) → i < N → length (hd i) ≤ 12) (above : (i : ℕ) → Above (hd i)) where
+  abbrev Rows : List ℕ → Type 0
+  Rows zs = (n i p : ℕ) (d : Bool) (col : ℕ) → n ≤ length zs → 0 < i → i + length zs ≡ N → col ≤ 80 → Lined col (text hd zs n i p d col)
+
+  check-above : (i p : ℕ) → Above (check hd i p)
+  unfolding check
+  check-above i p = joined (hd (i - 1)) (sqzText p) (above (i - 1)) (sqz-above p)
+
+  close-lined : (d : Bool) (i p : ℕ) → 0 < i → i ≤ N → Lined 0 (close hd d i p)
+  unfolding close
+  close-lined true i p g l = let k = check-most N few hd short i p g l in onward 0 (check hd i p) (check-above i p) (ends (omega arith) over)
+  close-lined false i p g l = over
+
+  module _ (y : ℕ) (ys : List ℕ) (ih : Rows ys) where
+    put-lined : (i p col : ℕ) → i + length (y ∷ ys) ≡ N → col + length (group p y ys) ≤ 80 → Lined col (put hd (text hd ys) col i p y ys)
+    unfolding put
+    put-lined i p col b l =
+        let r = form p y in
+        onward col (group p y ys) (group-above p y ys)
+        (ih (many r y ys) (suc i) y (isDif r) (col + length (group p y ys)) (many-le r y ys) (omega arith) (omega arith) l)
+
+    opens-lined : (d : Bool) (i p : ℕ) → (d ≡ true → 0 < i) → i + length (y ∷ ys) ≡ N → Lined 0 (open-line hd (text hd ys) d i p y ys)
+    unfolding open-line
+    opens-lined true i p g b =
+        let k = check-most N few hd short i p (g refl) (omega arith) in
+        let w = group-most p y ys (omega arith) in
+        onward 0 (check hd i p) (check-above i p) (rw zero-add (put-lined i p (length (check hd i p)) b (omega (arith, w .1))))
+    opens-lined false i p g b =
+        let k = short i (omega arith) in
+        let w = group-most 0 y ys (omega arith) in
+        onward 0 (hd i) (above i) (rw zero-add (put-lined i 0 (length (hd i)) b (omega (arith, w .1))))
+
+    goes-lined : (d : Bool) (i p col : ℕ) → 0 < i → i + length (y ∷ ys) ≡ N → col ≤ 80 → Lined col (go-on hd (text hd ys) d col i p y ys)
+    unfolding go-on
+    goes-lined d i p col g b l =
+        by-case (λ t. Lined col (pick t (put hd (text hd ys) col i p y ys) (13 ∷ 10 ∷ open-line hd (text hd ys) d i p y ys))) (leb (col + length (group p y ys)) 80)
+        (λ e. put-lined i p col b (leb-true (col + length (group p y ys)) 80 e))
+        (λ _. ends l (opens-lined d i p (λ _. g) b))
+
+  text-lined : (zs : List ℕ) → Rows zs
+  unfolding text
+  text-lined [] zero i p d col l g b c = ends c (close-lined d i p g (omega arith))
+  text-lined [] (suc n) i p d col l g b c = absurd (not-suc-le-zero l)
+  text-lined (y ∷ ys) zero i p d col l g b c = goes-lined y ys (text-lined ys) d i p col g b c
+  text-lined (y ∷ ys) (suc n) i p d col l g b c = text-lined ys n (suc i) y d col (le-of-suc-le-suc l) (omega arith) (omega arith) c
+
+  lines-lined : (ys : List ℕ) → length ys ≡ N → Lined 0 (lines-of hd ys)
+  unfolding lines-of
+  lines-lined [] b = over
+  lines-lined (y ∷ ys) b = opens-lined y ys (text-lined ys) false 0 0 (λ e. no-way e) (omega arith)
+
+-- the text of a frame that the writer takes
+pub written-lined : (first last n : ℕ) (ys : List ℕ) → Takes first last n → length ys ≡ n → Lined 0 (written first last n ys)
+unfolding written
+written-lined first last n ys t e =
+    lines-lined n (t .few) (λ i. headText (nearest first last n i)) (head-most first last n t) (λ i. head-above (nearest first last n i)) ys e

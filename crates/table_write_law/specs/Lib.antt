@@ -1,0 +1,9 @@
+pub mod Numbers
+pub mod Abscissas
+pub mod Heads
+pub mod Tokens
+pub mod Lines
+pub mod Written
+pub mod Lengths
+pub mod EightyBytes
+pub mod ReadBack

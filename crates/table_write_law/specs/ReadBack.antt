@@ -1,0 +1,121 @@
+-- Reading the written text in the same frame gives back exactly the ordinates (01, "The written text" and "What the contracts say"). Assumes nothing.
+use mathlib.Core.Path.{_≡_, refl, sym, ap, _∙_, subst}
+use mathlib.Core.Bool.{Bool, true, false}
+use mathlib.Core.List.{List, [], _∷_, _++_, map}
+use Prim.Native.Nat.{ℕ, zero, suc, _+_, _-_, _*_, _≤_, _<_}
+use native.Mathlib.Omega.{arith}
+use lib.Dec.{ltb, leb}
+use lib.IntN.{ℤ}
+use lib.ListN.{length, take, drop, length-map}
+use lib.Seq.{length-take-le}
+use lib.Signed.{mag}
+use borrow.Author.Tests.{ltb-false, leb-true}
+use Rattle.alphabet_spec.specs.Logic.{pick, both, by-case, no-way}
+use Rattle.table_spec.specs.Frame.{frame-legal, abscissa-legal, abscissa, apart, rules, longest-body, zero-ordinate, ordinate-of, entry-for}
+use Rattle.table_spec.specs.Writing.{Outcome, declined, wrote, fitted, written, writeTable}
+use Rattle.table_spec.specs.Reading.{Answer, accept, read, readTable, stored}
+use Rattle.signed.specs.Scale.{lift-small, lower-lift}
+use Rattle.frame.specs.FrameLaws.{legal-abscissa}
+use Rattle.table_law.specs.Spelling.{Spells}
+use Rattle.table_law.specs.Small.{Small}
+use Rattle.table_law.specs.Complete.{complete}
+use Rattle.table_law.specs.Outcome.{Allowed, spells-accepted, accepted-stored}
+use Rattle.table_write_law.specs.Tokens.{both-parts}
+use Rattle.table_write_law.specs.Written.{Takes, written-spells}
+use Rattle.table_write_law.specs.Lengths.{written-is-a-body, written-ceiling}
+use Rattle.table_write_law.specs.EightyBytes.{Lined, written-lined}
+
+-- in numbers: the text of a list that the writer takes is read as that list
+pub read-written : (first last n : ℕ) (ys : List ℕ) → Takes first last n → Small ys → length ys ≡ n → read (rules first last n) (written first last n ys) ≡ accept ys
+read-written first last n ys t s e = complete (rules first last n) ys (written first last n ys) (written-spells first last n ys t s e)
+
+-- ---- the entries of the lent slice
+
+-- each entry has 32 bits
+abbrev pub Entries : List ℤ → Type 0
+Entries [] = Unit {0}
+Entries (z ∷ zs) = (mag z < zero-ordinate) × Entries zs
+
+entries-take : (n : ℕ) (zs : List ℤ) → Entries zs → Entries (take n zs)
+entries-take zero zs h = tt
+entries-take (suc n) [] h = tt
+entries-take (suc n) (z ∷ zs) h = (h .0, entries-take n zs (h .1))
+
+entries-small : (zs : List ℤ) → Entries zs → Small (map ordinate-of zs)
+entries-small [] h = tt
+entries-small (z ∷ zs) h = (omega (arith, lift-small zero-ordinate z (h .0)), entries-small zs (h .1))
+
+entries-again : (zs : List ℤ) → Entries zs → map entry-for (map ordinate-of zs) ≡ zs
+entries-again [] h = refl
+entries-again (z ∷ zs) h = rw (lower-lift zero-ordinate z (h .0), entries-again zs (h .1)) refl
+
+-- ---- what was written
+
+module _ (f l : ℤ) (n : ℕ) (es : List ℤ) (space : ℕ) (t : List ℕ) where
+  -- the writer took these
+  record Taken : Type 0 where
+    pub legal : frame-legal f l n ≡ true
+    pub enough : n ≤ length es
+    pub far : n - 1 ≤ apart (abscissa l) (abscissa f)
+    pub is : written (abscissa f) (abscissa l) n (map ordinate-of (take n es)) ≡ t
+
+  never : {A : Type 0} {c : ℕ} → declined c ≡ wrote t → A
+  never e = let z : _≡_ {A = ℕ} 0 1 = cc in absurd (omega arith)
+
+  abbrev body : List ℕ
+  body = written (abscissa f) (abscissa l) n (map ordinate-of (take n es))
+
+  taken : writeTable f l n es space ≡ wrote t → Taken
+  unfolding writeTable
+  taken =
+      by-case (λ a. frame-legal f l n ≡ a → pick a (pick (ltb (length es) n) (declined 2)
+      (pick (ltb (apart (abscissa l) (abscissa f)) (n - 1)) (declined 14) (fitted space body))) (declined 1) ≡ wrote t → Taken)
+      (frame-legal f l n)
+      (λ _ a. by-case (λ b. ltb (length es) n ≡ b → pick b (declined 2) (pick (ltb (apart (abscissa l) (abscissa f)) (n - 1)) (declined 14) (fitted space body)) ≡ wrote t → Taken) (ltb (length es) n)
+      (λ _ b e. never e)
+      (λ _ b. by-case (λ c. ltb (apart (abscissa l) (abscissa f)) (n - 1) ≡ c → pick c (declined 14) (fitted space body) ≡ wrote t → Taken) (ltb (apart (abscissa l) (abscissa f)) (n - 1))
+      (λ _ c e. never e)
+      (λ _ c. by-case (λ d. pick d (declined 15) (wrote body) ≡ wrote t → Taken) (ltb space (length body))
+      (λ _ e. never e)
+      (λ _ e. let z : body ≡ t = cc in
+      record { legal = a; enough = ltb-false (length es) n b; far = ltb-false (apart (abscissa l) (abscissa f)) (n - 1) c; is = z })) refl) refl)
+      (λ _ a e. never e) refl
+
+  takes : Taken → Takes (abscissa f) (abscissa l) n
+  unfolding frame-legal
+  takes k =
+      let a = both-parts (abscissa-legal f) _ (k .legal) in let b = both-parts (abscissa-legal l) _ (a .1) in
+      let c = both-parts (leb 1 n) _ (b .1) in let d = both-parts (leb n 65536) _ (c .1) in
+      let x = legal-abscissa f (a .0) in let y = legal-abscissa l (b .0) in
+      record { low-first = x .0; low-last = y .0; high-first = x .1; high-last = y .1; some = leb-true 1 n (c .0); few = leb-true n 65536 (d .0); apart-enough = k .far }
+
+  counted : Taken → length (map ordinate-of (take n es)) ≡ n
+  counted k = length-map (take n es) ordinate-of ∙ length-take-le n es (k .enough)
+
+  -- whatever the writer wrote is a spelling of the ordinates,
+  pub wrote-spells : Entries es → writeTable f l n es space ≡ wrote t → Spells (rules (abscissa f) (abscissa l) n) (map ordinate-of (take n es)) t
+  wrote-spells h e =
+      let k = taken e in
+      rw (k .is) at (written-spells (abscissa f) (abscissa l) n (map ordinate-of (take n es)) (takes k) (entries-small (take n es) (entries-take n es h)) (counted k))
+
+  -- in lines of at most 80 bytes,
+  pub wrote-lined : writeTable f l n es space ≡ wrote t → Lined 0 t
+  wrote-lined e = let k = taken e in rw (k .is) at (written-lined (abscissa f) (abscissa l) n (map ordinate-of (take n es)) (takes k) (counted k))
+
+  -- and no longer than a body may be
+  pub wrote-body : writeTable f l n es space ≡ wrote t → length t ≤ longest-body
+  wrote-body e = let k = taken e in rw (k .is) at (written-is-a-body (abscissa f) (abscissa l) n (map ordinate-of (take n es)) (takes k) (counted k))
+
+  pub wrote-ceiling : writeTable f l n es space ≡ wrote t → length t ≤ 34 * n + 24
+  wrote-ceiling e = let k = taken e in rw (k .is) at (written-ceiling (abscissa f) (abscissa l) n (map ordinate-of (take n es)) (takes k) (counted k))
+
+  -- so it is read back, in the same frame and with room for the ordinates,
+  pub reads-back : Entries es → writeTable f l n es space ≡ wrote t → (room : ℕ) → n ≤ room → readTable f l n t room ≡ accept (map ordinate-of (take n es))
+  reads-back h e room r =
+      spells-accepted f l n t room (map ordinate-of (take n es)) (record { frame = taken e .legal; body = wrote-body e; room = r }) (wrote-spells h e)
+
+  -- and the slice then holds the entries that were written, and its others as they were
+  pub gives-back : Entries es → writeTable f l n es space ≡ wrote t → (out : List ℤ) → n ≤ length out → stored out (readTable f l n t (length out)) ≡ take n es ++ drop n out
+  gives-back h e out r =
+      let a = reads-back h e (length out) r in
+      rw (a, accepted-stored f l n t out (map ordinate-of (take n es)) a, entries-again (take n es) (entries-take n es h)) refl
