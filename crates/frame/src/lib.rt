@@ -18,7 +18,7 @@ pub enum Framed {
 }
 
 // x plus 10,000,000,000, or 0 where x is beyond the largest abscissa.
-fn lift(x: i64) -> u64
+pub fn lift(x: i64) -> u64
     ensures { λ r. ⌜ r ≡ lifted x ⌝ }
 {
     if x < -Frame::LARGEST_ABSCISSA {

@@ -26,6 +26,12 @@ pub fn print_ordinate(y: i32) {
     }
 }
 
+// An abscissa in whole thousandths, within its limit.
+pub fn print_abscissa(x: i64) {
+    let u = frame::lift(x);
+    print_scaled(u, 10000000000);
+}
+
 // A refusal: its number and its place.
 pub fn print_refusal(r: Refusal) {
     io::write_all(1, b"refused ");
@@ -33,4 +39,55 @@ pub fn print_refusal(r: Refusal) {
     io::write_all(1, b" ");
     io::print_decimal(1, r.place as u64);
     end_line();
+}
+
+// What a refusal of a table means, in words, on standard error.
+fn explain_table(number: u64) {
+    match number {
+        1 => say(b"the frame or the body is outside its limits"),
+        2 => say(b"there are more points than there is room for"),
+        3 => say(b"this byte cannot stand here"),
+        4 => say(b"a line must begin with a head: sign, 1 to 7 digits, a point and 0 to 3 digits"),
+        5 => say(b"this value is misspelled, or a digit stands directly after ?"),
+        6 => say(b"this head is not the abscissa of its point"),
+        7 => say(b"no value follows this head"),
+        8 => say(b"a difference or a repeat cannot stand here, or repeats fewer than 2"),
+        9 => say(b"this value gives an ordinate out of range"),
+        10 => say(b"the first value of this line does not equal the last ordinate before it"),
+        11 => say(b"more points than NPOINTS says"),
+        12 => say(b"fewer points than NPOINTS says"),
+        _ => say(b"the last line ends in difference form, and no check line follows"),
+    }
+}
+
+// What a refusal of a file means, in words, on standard error.
+fn explain_file(number: u64) {
+    match number {
+        19 => say(b"the file is too long"),
+        20 => say(b"this label has no =, or its name is too long"),
+        21 => say(b"TITLE must be the first label"),
+        22 => say(b"there is no END"),
+        23 => say(b"this label stands twice"),
+        24 => say(b"TITLE stands again before END"),
+        25 => say(b"one of XFACTOR, YFACTOR, FIRSTX, LASTX, NPOINTS, FIRSTY, XYDATA is absent"),
+        26 => say(b"this number is misspelled or outside its rule"),
+        27 => say(b"the list after XYDATA= is not (X++(Y..Y))"),
+        28 => say(b"FIRSTX or LASTX divided by XFACTOR is beyond its limit"),
+        _ => say(b"the first ordinate does not agree with FIRSTY divided by YFACTOR"),
+    }
+}
+
+// A line on standard error.
+fn say(words: &[u8]) {
+    io::write_all(2, words);
+    io::write_all(2, b"\n");
+}
+
+// What a refusal means, for a person; standard output stays as document 01 has it.
+pub fn explain(r: Refusal) {
+    if r.number < 19 {
+        explain_table(r.number);
+    } else {
+        explain_file(r.number);
+    }
 }
