@@ -68,10 +68,13 @@ pub extern "C" fn lastarunc_read_file(
 {
     match file::read_file(file, out) {
         FileRead::Accepted(t) => {
+            let n = t.points;
+            let f = t.first;
+            let l = t.last;
             *place = 0;
-            *points = t.points as u64;
-            *first = t.first;
-            *last = t.last;
+            *points = n as u64;
+            *first = f;
+            *last = l;
             0
         }
         FileRead::Refused(r) => {

@@ -1,0 +1,549 @@
+/* A reader and a writer of table bodies with all checks of document 01, in plain C. */
+#include "c_table.h"
+
+#include <string.h>
+
+#define ALWAYS_INLINE static inline __attribute__((always_inline))
+#define UNLIKELY(x) __builtin_expect(!!(x), 0)
+
+#define K(kind, digit) ((kind) << 4 | (digit))
+#define RUN9(first, kind, from)                                                                                        \
+    [(first) + 0] = K(kind, from), [(first) + 1] = K(kind, from + 1), [(first) + 2] = K(kind, from + 2),               \
+    [(first) + 3] = K(kind, from + 3), [(first) + 4] = K(kind, from + 4), [(first) + 5] = K(kind, from + 5),           \
+    [(first) + 6] = K(kind, from + 6), [(first) + 7] = K(kind, from + 7), [(first) + 8] = K(kind, from + 8)
+
+/* The byte table; every byte that is not named is outside the alphabet. */
+#pragma GCC diagnostic push
+#pragma GCC diagnostic ignored "-Woverride-init"
+const uint8_t c_kinds[256] = {
+    [0 ... 255] = K(OUTSIDE, 0),
+    ['0'] = K(DIGIT, 0),
+    RUN9('1', DIGIT, 1),
+    ['@'] = K(SQZ, 0),
+    RUN9('A', SQZ, 1),
+    RUN9('a', SQZ_MINUS, 1),
+    ['%'] = K(DIF, 0),
+    RUN9('J', DIF, 1),
+    RUN9('j', DIF_MINUS, 1),
+    [83] = K(DUP, 1), /* S to Z, and s */
+    [84] = K(DUP, 2),
+    [85] = K(DUP, 3),
+    [86] = K(DUP, 4),
+    [87] = K(DUP, 5),
+    [88] = K(DUP, 6),
+    [89] = K(DUP, 7),
+    [90] = K(DUP, 8),
+    [115] = K(DUP, 9),
+    ['?'] = K(MISSING, 0),
+    ['+'] = K(PLUS, 0),
+    ['-'] = K(MINUS, 0),
+    [' '] = K(BLANK, 0),
+    ['\t'] = K(BLANK, 0),
+    ['\n'] = K(LF, 0),
+    ['\r'] = K(CR, 0),
+    ['$'] = K(DOLLAR, 0),
+    ['.'] = K(POINT, 0),
+};
+#pragma GCC diagnostic pop
+
+bool c_frame_in_limits(int64_t first, int64_t last, size_t points)
+{
+    const int64_t most = INT64_C(9999999999);
+    return first >= -most && first <= most && last >= -most && last <= most && points >= 1 && points <= MOST_POINTS
+        && (points == 1) == (first == last);
+}
+
+/* ---- Reading ---- */
+
+/* The text that is being read. */
+struct text {
+    const uint8_t *start, *end;
+};
+
+ALWAYS_INLINE bool is_digit(const uint8_t *p, const uint8_t *end)
+{
+    return p < end && (uint8_t)(*p - '0') <= 9;
+}
+
+ALWAYS_INLINE bool is_blank(uint8_t byte)
+{
+    return byte == ' ' || byte == '\t';
+}
+
+/* The end of the line that p stands at the end of: after its comment and LF or CR LF; NULL if something else is there. */
+static const uint8_t *line_end(const uint8_t *p, const uint8_t *end)
+{
+    if (p == end)
+        return p;
+    if (*p == '\n')
+        return p + 1;
+    if (*p == '\r' && p + 1 < end && p[1] == '\n')
+        return p + 2;
+    if (*p == '$' && p + 1 < end && p[1] == '$') {
+        const uint8_t *lf = memchr(p, '\n', (size_t)(end - p));
+        return lf ? lf + 1 : end;
+    }
+    return NULL;
+}
+
+/* A head: its end (NULL if it is misspelled) and its value in thousandths. */
+struct head {
+    const uint8_t *end;
+    int64_t thousandths;
+};
+
+static struct head read_head(const uint8_t *p, const uint8_t *end)
+{
+    const struct head misspelled = {NULL, 0};
+    bool minus = *p == '-';
+    if (*p == '-' || *p == '+')
+        p++;
+    const uint8_t *digits = p;
+    int64_t h = 0;
+    while (is_digit(p, end) && p - digits <= 7)
+        h = 10 * h + (*p++ - '0');
+    if (p == digits || p - digits > 7)
+        return misspelled;
+    int places = 0;
+    if (p < end && *p == '.') {
+        for (p++; is_digit(p, end) && places <= 3; places++)
+            h = 10 * h + (*p++ - '0');
+        if (places > 3)
+            return misspelled;
+    }
+    for (; places < 3; places++)
+        h *= 10;
+    return (struct head){p, minus ? -h : h};
+}
+
+/* Whether a head of h thousandths passes for point i. */
+ALWAYS_INLINE bool head_passes(const struct frame *f, int64_t h, int64_t i)
+{
+    if (f->points == 1)
+        return h == f->first;
+    int64_t steps = f->points - 1, span = f->last - f->first;
+    int64_t off = (h - f->first) * steps - i * span;
+    return 2 * (off < 0 ? -off : off) < (span < 0 ? -span : span);
+}
+
+/* The number that starts with `lead` and goes on with the digits at *p, which are passed over. */
+ALWAYS_INLINE uint64_t digits(const uint8_t **p, const uint8_t *end, uint64_t lead)
+{
+    const uint8_t *q = *p;
+    uint64_t v = lead;
+    for (uint8_t d; q < end && (d = (uint8_t)(*q - '0')) <= 9; q++)
+        v = 10 * v + d;
+    *p = q;
+    return v;
+}
+
+/* Whether a byte with this entry starts a difference. */
+ALWAYS_INLINE bool is_dif(unsigned entry)
+{
+    return entry >= K(DIF, 0) && entry < K(DUP, 0);
+}
+
+/* Whether the difference at p is spelled right. */
+static bool dif_is_spelled(const uint8_t *p, const uint8_t *end)
+{
+    const uint8_t *at = p++;
+    digits(&p, end, 0);
+    return p - at <= (*at == '%' ? 1 : 10);
+}
+
+/* Whether y is an ordinate. */
+ALWAYS_INLINE bool in_range(int64_t y)
+{
+    return (uint64_t)(y + LARGEST_ORDINATE) <= 2 * (uint64_t)LARGEST_ORDINATE;
+}
+
+/* Goes over a body once, judges it, and stores its ordinates if asked to. The answer is that of c_read_table. */
+ALWAYS_INLINE uint64_t pass(const struct frame *f, struct text body, bool storing, int32_t *restrict out,
+                            uint64_t *place)
+{
+#define REFUSE(number, at)                                                                                             \
+    do {                                                                                                               \
+        *place = (uint64_t)((at)-body.start);                                                                          \
+        return number;                                                                                                 \
+    } while (0)
+
+    const uint8_t *p = body.start, *const end = body.end;
+    const int64_t points = f->points;
+    int64_t i = 0;                         /* points given so far */
+    int64_t y = 0, step = 0;               /* the ordinate before; what a DUP adds to it */
+    enum { NONE, PLAIN, GAP, SLOPE } form = NONE; /* what the last value of the line before was */
+
+    while (p < end) {
+        while (p < end && is_blank(*p))
+            p++;
+        const uint8_t *next = line_end(p, end);
+        if (next) {
+            p = next;
+            continue;
+        }
+        const uint8_t *const head = p;
+        unsigned k = c_kinds[*p] >> 4;
+        if (k >= LF)
+            REFUSE(3, p);
+        if (k != DIGIT && k != PLUS && k != MINUS)
+            REFUSE(4, p);
+        struct head read = read_head(p, end);
+        if (!read.end)
+            REFUSE(4, p);
+        bool check = form == SLOPE; /* the next value repeats the last point */
+        if (!head_passes(f, read.thousandths, i - check))
+            REFUSE(6, head);
+        p = read.end;
+
+        form = NONE;
+        bool repeated = false; /* the last token was a DUP */
+        for (;;) {
+            const uint8_t *at = p;
+            if (p == end)
+                break;
+            unsigned entry = c_kinds[*p++];
+            int64_t value;
+            switch (entry >> 4) {
+            case DIF:
+            case DIF_MINUS:
+                if (form != PLAIN && form != SLOPE)
+                    REFUSE(dif_is_spelled(at, end) ? 8 : 5, at);
+                form = SLOPE;
+                repeated = false;
+                for (;; at = p++) { /* differences mostly come in rows: they have a loop of their own */
+                    value = (int64_t)digits(&p, end, entry & 15);
+                    if (UNLIKELY(p - at > 10 || (entry == K(DIF, 0) && p - at > 1)))
+                        REFUSE(5, at);
+                    step = entry < K(DIF_MINUS, 0) ? value : -value;
+                    y += step;
+                    if (UNLIKELY(!in_range(y)))
+                        REFUSE(9, at);
+                    if (UNLIKELY(i == points))
+                        REFUSE(11, at);
+                    if (storing)
+                        out[i] = (int32_t)y;
+                    i++;
+                    if (p == end || !is_dif(entry = c_kinds[*p]))
+                        break;
+                }
+                continue;
+
+            case DUP: {
+                uint64_t count = digits(&p, end, entry & 15);
+                if (p - at > 5)
+                    REFUSE(5, at);
+                if (form == NONE || repeated || count < 2)
+                    REFUSE(8, at);
+                int64_t more = (int64_t)count - 1, last = y + more * step;
+                if (form == SLOPE && !in_range(last))
+                    REFUSE(9, at);
+                if (more > points - i)
+                    REFUSE(11, at);
+                if (storing)
+                    for (int64_t j = i; j < i + more; j++)
+                        out[j] = (int32_t)(y += step);
+                y = last;
+                i += more;
+                repeated = true;
+                continue;
+            }
+
+            case DIGIT:
+                if (!is_blank(at[-1]))
+                    REFUSE(5, at);
+                value = (int64_t)digits(&p, end, entry & 15);
+                if (p - at > 10)
+                    REFUSE(5, at);
+                break;
+            case PLUS:
+            case MINUS:
+                value = (int64_t)digits(&p, end, 0);
+                if (p - at < 2 || p - at > 11)
+                    REFUSE(5, at);
+                value = entry >> 4 == MINUS ? -value : value;
+                break;
+            case SQZ:
+            case SQZ_MINUS:
+                value = (int64_t)digits(&p, end, entry & 15);
+                if (p - at > 10 || (entry == K(SQZ, 0) && p - at > 1))
+                    REFUSE(5, at);
+                value = entry >> 4 == SQZ_MINUS ? -value : value;
+                break;
+            case MISSING:
+                value = MISSING_ORDINATE;
+                break;
+            case BLANK:
+                continue;
+            case LF:
+                p = at;
+                goto line_ended;
+            case CR:
+            case DOLLAR:
+                p = at;
+                if (!line_end(p, end))
+                    REFUSE(3, p);
+                goto line_ended;
+            default:
+                REFUSE(3, at);
+            }
+
+            /* An ordinate by itself, or a missing one. */
+            bool gap = entry >> 4 == MISSING;
+            if (!gap && !in_range(value))
+                REFUSE(9, at);
+            step = 0;
+            if (check && form == NONE) {
+                if (value != y)
+                    REFUSE(10, at);
+                form = PLAIN;
+                continue;
+            }
+            if (i == points)
+                REFUSE(11, at);
+            if (storing)
+                out[i] = (int32_t)value;
+            i++;
+            y = value;
+            form = gap ? GAP : PLAIN;
+            repeated = false;
+        }
+    line_ended:
+        if (form == NONE)
+            REFUSE(7, head);
+        p = line_end(p, end);
+    }
+    if (i < points)
+        REFUSE(12, end);
+    if (form == SLOPE)
+        REFUSE(13, end);
+    *place = (uint64_t)points;
+    return 0;
+#undef REFUSE
+}
+
+/* The pass that only answers. */
+static uint64_t judge(const struct frame *f, struct text body, uint64_t *place)
+{
+    return pass(f, body, false, NULL, place);
+}
+
+/* The pass that answers and stores. */
+static uint64_t store(const struct frame *f, struct text body, int32_t *restrict out, uint64_t *place)
+{
+    return pass(f, body, true, out, place);
+}
+
+/* Refusals 1 and 2, which need no look at the body; 0 if there is none. */
+ALWAYS_INLINE uint64_t judge_sizes(int64_t first, int64_t last, size_t points, size_t body_len, size_t out_len)
+{
+    if (!c_frame_in_limits(first, last, points) || body_len > MOST_BYTES)
+        return 1;
+    return out_len < points ? 2 : 0;
+}
+
+uint64_t c_read_table(int64_t first, int64_t last, size_t points, const uint8_t *body, size_t body_len, int32_t *out,
+                      size_t out_len, uint64_t *place)
+{
+    *place = 0;
+    uint64_t number = judge_sizes(first, last, points, body_len, out_len);
+    if (number)
+        return number;
+    struct frame f = {first, last, (int64_t)points};
+    struct text t = {body, body + body_len};
+    number = judge(&f, t, place);
+    return number ? number : store(&f, t, out, place);
+}
+
+uint64_t c_read_table_then_decode(int64_t first, int64_t last, size_t points, const uint8_t *body, size_t body_len,
+                                  int32_t *out, size_t out_len, uint64_t *place)
+{
+    *place = 0;
+    uint64_t number = judge_sizes(first, last, points, body_len, out_len);
+    if (number)
+        return number;
+    struct frame f = {first, last, (int64_t)points};
+    number = judge(&f, (struct text){body, body + body_len}, place);
+    return number ? number : c_read_table_unchecked(first, last, points, body, body_len, out, out_len, place);
+}
+
+uint64_t c_read_table_scratch(int64_t first, int64_t last, size_t points, const uint8_t *body, size_t body_len,
+                              int32_t *out, size_t out_len, uint64_t *place)
+{
+    static int32_t scratch[MOST_POINTS];
+    *place = 0;
+    uint64_t number = judge_sizes(first, last, points, body_len, out_len);
+    if (number)
+        return number;
+    struct frame f = {first, last, (int64_t)points};
+    number = store(&f, (struct text){body, body + body_len}, scratch, place);
+    if (!number)
+        memcpy(out, scratch, points * sizeof *out);
+    return number;
+}
+
+/* ---- Writing ---- */
+
+enum { LONGEST_LINE = 80 };
+
+/* The pseudo-digits for 0 to 9, of numbers that are not negative and of negative ones; a space stands for none. */
+static const char sqz[2][11] = {"@ABCDEFGHI", " abcdefghi"};
+static const char dif[2][11] = {"%JKLMNOPQR", " jklmnopqr"};
+static const char dup[11] = " STUVWXYZs";
+
+/* The number of decimal digits of v; small numbers are by far the most. */
+ALWAYS_INLINE unsigned digit_count(uint32_t v)
+{
+    unsigned n = 1;
+    for (; UNLIKELY(v >= 10000); v /= 10000)
+        n += 4;
+    return v < 10 ? n : v < 100 ? n + 1 : v < 1000 ? n + 2 : n + 3;
+}
+
+/* Puts v's n digits at `to`. */
+ALWAYS_INLINE void put_digits(uint8_t *to, uint32_t v, unsigned n)
+{
+    for (uint8_t *p = to + n; p > to; v /= 10)
+        *--p = (uint8_t)('0' + v % 10);
+}
+
+/* Puts v's n digits at `to`, the first one by a row of pseudo-digits. */
+ALWAYS_INLINE void put_pseudo(uint8_t *to, uint32_t v, unsigned n, const char *row)
+{
+    uint8_t *p = to + n;
+    for (; --p > to; v /= 10)
+        *p = (uint8_t)('0' + v % 10);
+    *p = (uint8_t)row[v];
+}
+
+/* The magnitude of an ordinate or a difference, which fits in 32 bits. */
+ALWAYS_INLINE uint32_t magnitude(int64_t v)
+{
+    return (uint32_t)(v < 0 ? -v : v);
+}
+
+/* Puts the head of point i, if `to` is not null; returns its length. */
+static unsigned put_head(const struct frame *f, int64_t i, uint8_t *to)
+{
+    int64_t h = f->first;
+    if (f->points > 1) {
+        int64_t steps = f->points - 1;
+        int64_t above = 2 * i * (f->last - f->first) + steps;
+        h += above / (2 * steps) - (above % (2 * steps) < 0); /* rounded down */
+    }
+    uint32_t whole = (uint32_t)((h < 0 ? -h : h) / 1000), part = (uint32_t)((h < 0 ? -h : h) % 1000);
+    unsigned minus = h < 0, n = digit_count(whole);
+    unsigned places = part == 0 ? 0 : part % 10 ? 3 : part % 100 ? 2 : 1;
+    if (to) {
+        *to = '-';
+        put_digits(to + minus, whole, n);
+        if (places) {
+            to[minus + n] = '.';
+            put_digits(to + minus + n + 1, places == 3 ? part : places == 2 ? part / 10 : part / 100, places);
+        }
+    }
+    return minus + n + (places ? places + 1 : 0);
+}
+
+/* Lays out the whole text, stores it if asked to, and returns its length. */
+ALWAYS_INLINE size_t lay_out(const struct frame *f, const int32_t *restrict y, bool storing, uint8_t *restrict text)
+{
+    const int32_t *const end = y + f->points;
+    const int32_t *next = y;        /* the next point */
+    enum { PLAIN, GAP, SLOPE } form; /* that of the value before */
+    bool check = false;             /* the line before ended in DIF form */
+    size_t start = 0;               /* where the line starts */
+
+    while (next < end || check) {
+        size_t at = start + put_head(f, next - y - check, storing ? text + start : NULL);
+        const size_t full = start + LONGEST_LINE;
+        form = GAP; /* a line starts as if a point were missing before it */
+        if (check) {
+            unsigned n = digit_count(magnitude(next[-1]));
+            if (storing)
+                put_pseudo(text + at, magnitude(next[-1]), n, sqz[next[-1] < 0]);
+            at += n;
+            form = PLAIN;
+        }
+        while (next < end) {
+            const int32_t *after = next + 1; /* the point after the group */
+            const char *row = "?";
+            int64_t value = 0;
+            unsigned more = 0; /* digits of the group's DUP */
+            if (*next == MISSING_ORDINATE) {
+                while (after < end && *after == MISSING_ORDINATE)
+                    after++;
+            } else if (form == GAP) {
+                value = *next;
+                row = sqz[value < 0];
+            } else {
+                value = (int64_t)next[0] - next[-1];
+                while (after < end && (int64_t)after[0] - after[-1] == value && *after != MISSING_ORDINATE)
+                    after++;
+                row = dif[value < 0];
+            }
+            unsigned lead = digit_count(magnitude(value));
+            if (after - next > 1)
+                more = digit_count((uint32_t)(after - next));
+            if (at + lead + more > full)
+                break;
+            if (storing) {
+                put_pseudo(text + at, magnitude(value), lead, row);
+                if (more)
+                    put_pseudo(text + at + lead, (uint32_t)(after - next), more, dup);
+            }
+            at += lead + more;
+            form = *next == MISSING_ORDINATE ? GAP : form == GAP ? PLAIN : SLOPE;
+            next = after;
+        }
+        if (storing)
+            memcpy(text + at, "\r\n", 2);
+        start = at + 2;
+        check = form == SLOPE;
+    }
+    return start;
+}
+
+static size_t measure(const struct frame *f, const int32_t *y)
+{
+    return lay_out(f, y, false, NULL);
+}
+
+static size_t put_text(const struct frame *f, const int32_t *restrict y, uint8_t *restrict text)
+{
+    return lay_out(f, y, true, text);
+}
+
+/* Refusals 1, 2 and 14; 0 if there is none. */
+ALWAYS_INLINE uint64_t judge_table(int64_t first, int64_t last, size_t points, size_t n)
+{
+    if (!c_frame_in_limits(first, last, points))
+        return 1;
+    if (n < points)
+        return 2;
+    int64_t span = last < first ? first - last : last - first;
+    return span < (int64_t)points - 1 ? 14 : 0;
+}
+
+uint64_t c_write_table(int64_t first, int64_t last, size_t points, const int32_t *ordinates, size_t n, uint8_t *text,
+                       size_t room, uint64_t *length)
+{
+    *length = 0;
+    uint64_t number = judge_table(first, last, points, n);
+    if (number)
+        return number;
+    struct frame f = {first, last, (int64_t)points};
+    if (measure(&f, ordinates) > room)
+        return 15;
+    *length = put_text(&f, ordinates, text);
+    return 0;
+}
+
+uint64_t c_write_table_unchecked(int64_t first, int64_t last, size_t points, const int32_t *ordinates, size_t n,
+                                 uint8_t *text, size_t room, uint64_t *length)
+{
+    (void)n;
+    (void)room;
+    struct frame f = {first, last, (int64_t)points};
+    *length = put_text(&f, ordinates, text);
+    return 0;
+}

@@ -1,0 +1,134 @@
+/*
+ * Runs one function on one of the bench's tables a number of times:  measure FUNCTION TABLE TIMES
+ * bench/run takes the instructions of k and of 2k times, so that all else here cancels. With `size` in place of TIMES it
+ * prints the bytes and the points instead; with -time before FUNCTION it prints the seconds for TIMES.
+ */
+#include "c_table.h"
+#include "lastarunc.h"
+#include "tables.h"
+
+#include <stdbool.h>
+#include <stdio.h>
+#include <stdlib.h>
+#include <string.h>
+#include <time.h>
+
+static const struct {
+    const char *name;
+    table_reader *function;
+} readers[] = {
+#ifdef HAVE_READ_TABLE
+    {"read-library", lastarunc_read_table},
+#endif
+    {"read-two", c_read_table},
+    {"read-decode", c_read_table_then_decode},
+    {"read-one", c_read_table_scratch},
+    {"read-unchecked", c_read_table_unchecked},
+};
+
+static const struct {
+    const char *name;
+    table_writer *function;
+} writers[] = {
+#ifdef HAVE_WRITE_TABLE
+    {"write-library", lastarunc_write_table},
+#endif
+    {"write-two", c_write_table},
+    {"write-unchecked", c_write_table_unchecked},
+};
+
+/* Ends the program: the answer was not what the table holds. */
+static void wrong(const char *what)
+{
+    fprintf(stderr, "measure: %s: a wrong answer\n", what);
+    exit(1);
+}
+
+/* Reads the table TIMES times, and looks at the ordinates once. */
+static void run_reader(const char *name, table_reader *read, const struct table *t, long times)
+{
+    int32_t *out = malloc(t->points * sizeof *out);
+    uint64_t place;
+    for (long i = 0; i < times; i++)
+        if (read(t->first, t->last, t->points, t->body, t->length, out, t->points, &place) || place != t->points)
+            wrong(name);
+    if (memcmp(out, t->ordinates, t->points * sizeof *out))
+        wrong(name);
+}
+
+/* Writes the table TIMES times, and looks at the text once. */
+static void run_writer(const char *name, table_writer *write, const struct table *t, long times)
+{
+    uint8_t *text = malloc(t->length);
+    uint64_t length;
+    for (long i = 0; i < times; i++)
+        if (write(t->first, t->last, t->points, t->ordinates, t->points, text, t->length, &length)
+            || length != t->length)
+            wrong(name);
+    if (memcmp(text, t->body, length))
+        wrong(name);
+}
+
+#ifdef HAVE_READ_FILE
+static void run_file(const uint8_t *file, size_t length, long times)
+{
+    int32_t *out = malloc(2400 * sizeof *out);
+    uint64_t place, points;
+    int64_t first, last;
+    for (long i = 0; i < times; i++)
+        if (lastarunc_read_file(file, length, out, 2400, &place, &points, &first, &last) || points != 2400)
+            wrong("file");
+}
+#endif
+
+/* Runs the named function; false if there is none of that name. */
+static bool run(const char *name, const char *table, const char *times)
+{
+    bool size = !strcmp(times, "size");
+    if (!strcmp(table, "file")) {
+        size_t length;
+        uint8_t *file = make_file(&length);
+        if (size)
+            printf("%zu 2400\n", length);
+#ifdef HAVE_READ_FILE
+        else
+            run_file(file, length, atol(times));
+        return true;
+#endif
+        (void)file;
+        return size;
+    }
+    struct table *t = make_table(table);
+    if (!t)
+        return false;
+    if (size) {
+        printf("%zu %zu\n", t->length, t->points);
+        return true;
+    }
+    for (size_t i = 0; i < sizeof readers / sizeof *readers; i++)
+        if (!strcmp(name, readers[i].name))
+            return run_reader(name, readers[i].function, t, atol(times)), true;
+    for (size_t i = 0; i < sizeof writers / sizeof *writers; i++)
+        if (!strcmp(name, writers[i].name))
+            return run_writer(name, writers[i].function, t, atol(times)), true;
+    return false;
+}
+
+int main(int argc, char **argv)
+{
+    bool timed = argc == 5 && !strcmp(argv[1], "-time");
+    if (argc != 4 + timed) {
+        fprintf(stderr, "measure [-time] FUNCTION typical|quiet|noisy|file TIMES|size\n");
+        return 2;
+    }
+    struct timespec before, after;
+    clock_gettime(CLOCK_MONOTONIC, &before);
+    if (!run(argv[1 + timed], argv[2 + timed], argv[3 + timed])) {
+        fprintf(stderr, "measure: no such function or table\n");
+        return 2;
+    }
+    clock_gettime(CLOCK_MONOTONIC, &after);
+    if (timed)
+        printf("%.6f\n", (double)(after.tv_sec - before.tv_sec) + 1e-9 * (double)(after.tv_nsec - before.tv_nsec));
+    return 0;
+}

@@ -1,0 +1,117 @@
+/* Makes the bench's spectra: ion peaks on a baseline that drifts, with noise, in whole numbers only. */
+#include "tables.h"
+
+#include "c_table.h"
+
+#include <stdio.h>
+#include <stdlib.h>
+#include <string.h>
+
+/* The kinds of spectrum: how wide the noise is, one point in how many changes at all, one in how many is missing. */
+static const struct spectrum {
+    const char *name;
+    int32_t noise, change, missing;
+} spectra[] = {
+    {"typical", 110, 1, 5000},
+    {"quiet", 9, 5, 5000},
+    {"noisy", 950, 1, 5000},
+};
+
+/* splitmix64. */
+static uint64_t random_bits(uint64_t *seed)
+{
+    uint64_t z = *seed += UINT64_C(0x9E3779B97F4A7C15);
+    z = (z ^ z >> 30) * UINT64_C(0xBF58476D1CE4E5B9);
+    z = (z ^ z >> 27) * UINT64_C(0x94D049BB133111EB);
+    return z ^ z >> 31;
+}
+
+/* Noise about 0: the sum of four even draws, so that it falls off as a bell does. */
+static int64_t noise(uint64_t *seed, int32_t width)
+{
+    int64_t sum = 0;
+    for (int i = 0; i < 4; i++)
+        sum += (int64_t)(random_bits(seed) % (uint64_t)(2 * width + 1)) - width;
+    return sum / 2;
+}
+
+/* A peak of this height and half width at its centre, seen from x: a Lorentz curve. */
+static int64_t peak(int64_t x, int64_t centre, int64_t height, int64_t width)
+{
+    return height * width * width / (width * width + (x - centre) * (x - centre));
+}
+
+/* The spectrum's ordinates: a reactant ion peak, six smaller ones and a slow drift, spread over the points. */
+static void make_ordinates(const struct spectrum *s, uint64_t seed, int32_t *y, size_t points)
+{
+    int64_t centre[7], height[7], width[7];
+    for (int k = 0; k < 7; k++) {
+        centre[k] = (int64_t)(random_bits(&seed) % points);
+        height[k] = k == 0 ? 180000 : (int64_t)(2000 + random_bits(&seed) % 40000);
+        width[k] = (int64_t)(points / 160 + random_bits(&seed) % (points / 160 + 1));
+    }
+    int64_t held = 0;
+    for (size_t i = 0; i < points; i++) {
+        int64_t x = (int64_t)i, sum = 350 - 200 * x / (int64_t)points;
+        for (int k = 0; k < 7; k++)
+            sum += peak(x, centre[k], height[k], width[k]);
+        if (random_bits(&seed) % (uint64_t)s->change == 0)
+            held = noise(&seed, s->noise);
+        y[i] = random_bits(&seed) % (uint64_t)s->missing == 0 ? MISSING_ORDINATE : (int32_t)(sum + held);
+    }
+}
+
+static void *memory(size_t n)
+{
+    void *m = malloc(n);
+    if (!m)
+        exit(2);
+    return m;
+}
+
+/* A table of this kind: ordinates, and the body as the C writer writes it. */
+static struct table *table_of(const struct spectrum *s, uint64_t seed, size_t points, int64_t last)
+{
+    struct table *t = memory(sizeof *t);
+    *t = (struct table){s->name, 0, last, points, 0, memory(points * sizeof(int32_t)), memory(34 * points + 24)};
+    make_ordinates(s, seed, t->ordinates, points);
+    uint64_t length;
+    if (c_write_table(t->first, t->last, points, t->ordinates, points, t->body, 34 * points + 24, &length))
+        exit(2);
+    t->length = length;
+    return t;
+}
+
+struct table *make_table(const char *name)
+{
+    for (size_t k = 0; k < sizeof spectra / sizeof *spectra; k++)
+        if (!strcmp(name, spectra[k].name))
+            return table_of(&spectra[k], 1981 + k, 65536, 13107000); /* a point each 200 thousandths */
+    return NULL;
+}
+
+uint8_t *make_file(size_t *length)
+{
+    static const char *const before[] = {
+        "TITLE=drift time spectrum, synthetic", "JCAMP-DX=5.01", "DATA TYPE=ION MOBILITY SPECTRUM",
+        "DATA CLASS=XYDATA", "ORIGIN=bench", "OWNER=public domain", "LONGDATE=2026/11/15", "TIME=05:48:31",
+        "SOURCE REFERENCE=none $$ made by bench/tables.c", "SPECTROMETER/DATA SYSTEM=none", "INSTRUMENT PARAMETERS=none",
+        "SAMPLE DESCRIPTION=nothing", "CAS NAME=", "CAS REGISTRY NO=", "MOLFORM=", ".IMS PRESSURE=100.5",
+        ".CARRIER GAS=air", ".DRIFT GAS=air", ".ELECTRIC FIELD=(280,280)", ".ION POLARITY=POSITIVE",
+        ".IONIZATION MODE=RN", ".IONIZATION ENERGY=(60)", ".IONIZATION SOURCE=Ni-63", ".SHUTTER OPENING TIME=0.3",
+        ".REPETITION RATE=50", ".DRIFT CHAMBER=12", ".AVERAGES=64", ".TEMPERATURE=20", "RESOLUTION=0.02", "DELTAX=0.02",
+        "XUNITS=MILLISECONDS", "YUNITS=PICOAMPERES",
+    };
+    struct table *t = table_of(&spectra[0], 63, 2400, 479800);
+    char *file = memory(t->length + 8192), *p = file;
+    for (size_t k = 0; k < sizeof before / sizeof *before; k++)
+        p += sprintf(p, "##%s\r\n", before[k]);
+    p += sprintf(p, "##XFACTOR=0.1\r\n##YFACTOR=1\r\n##FIRSTX=0\r\n##LASTX=47.98\r\n##NPOINTS=2400\r\n##FIRSTY=%d\r\n",
+                 t->ordinates[0]);
+    p += sprintf(p, "##XYDATA=(X++(Y..Y))\r\n");
+    memcpy(p, t->body, t->length);
+    p += t->length;
+    p += sprintf(p, "##END=\r\n");
+    *length = (size_t)(p - file);
+    return (uint8_t *)file;
+}

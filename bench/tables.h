@@ -1,0 +1,23 @@
+/* Synthetic ion mobility spectra for the bench: seeded, the same on every machine. */
+#ifndef TABLES_H
+#define TABLES_H
+
+#include <stddef.h>
+#include <stdint.h>
+
+/* A table: its frame (abscissas in thousandths), its ordinates, its body in DIFDUP form, and a name. */
+struct table {
+    const char *name;
+    int64_t first, last;
+    size_t points, length;
+    int32_t *ordinates;
+    uint8_t *body;
+};
+
+/* Makes the table of this name (typical, quiet or noisy) with 65,536 points; NULL if there is no such name. */
+struct table *make_table(const char *name);
+
+/* Makes a file with 40 records and a typical table of 2,400 points; its length goes to *length. */
+uint8_t *make_file(size_t *length);
+
+#endif

@@ -1,0 +1,216 @@
+//! The seeded generator of cases: bodies, tables to be written, files and records.
+
+pub mod damage;
+pub mod files;
+pub mod spell;
+pub mod tables;
+
+use crate::frame::{Frame, LONGEST};
+use crate::random::Random;
+use crate::stream::{put_body_case, put_file_case, put_record_case, put_write_case, BodyCase, WriteCase};
+use crate::text::write_body;
+use std::io::{self, Write};
+
+/// Writes as many cases of each kind as are asked for; a file case is often followed by a record case.
+pub fn write_cases(out: &mut impl Write, seed: u64, bodies: usize, writes: usize, files: usize) -> io::Result<()> {
+    let random = &mut Random::new(seed);
+    for index in 0..bodies {
+        put_body_case(out, &body_case(random, index, bodies))?;
+    }
+    for index in 0..writes {
+        put_write_case(out, &write_case(random, index, writes))?;
+    }
+    for index in 0..files {
+        let case = files::file_case(random, index, files);
+        put_file_case(out, &case)?;
+        if case.file.len() < 100_000 && random.once_in(2) {
+            put_record_case(out, &files::record_case(random, case.file))?;
+        }
+    }
+    Ok(())
+}
+
+/// How many of so many cases are large ones: a few, at the end.
+pub fn large_cases(cases: usize) -> usize {
+    (cases / 500).min(12)
+}
+
+/// One body case.
+fn body_case(random: &mut Random, index: usize, bodies: usize) -> BodyCase {
+    if index + large_cases(bodies) >= bodies {
+        return large_body_case(random, index % 12);
+    }
+    if random.once_in(4_000) {
+        return long_run_case(random);
+    }
+    match random.below(20) {
+        0..=6 => right_body_case(random),
+        7..=13 => damaged_body_case(random),
+        14..=18 => soup_case(random),
+        _ => odd_frame_case(random),
+    }
+}
+
+/// Room for so many points: mostly enough.
+fn room(random: &mut Random, points: u64) -> u32 {
+    let points = points.min(70_000) as u32;
+    match random.below(60) {
+        0 => points.saturating_sub(1),
+        1 => random.below(points as usize + 1) as u32,
+        2 => 0,
+        3..=6 => points + 1 + random.below(9) as u32,
+        _ => points,
+    }
+}
+
+/// A right spelling of a random table, and the table.
+pub fn right_body(random: &mut Random, points: usize) -> (Frame, Vec<i32>, Vec<u8>) {
+    let frame = tables::frame(random, points);
+    let ordinates = tables::ordinates(random, points);
+    let style = spell::style(random);
+    let body = spell::body(random, &style, &frame, &ordinates);
+    (frame, ordinates, body)
+}
+
+/// A right spelling, now and then with one point too many or too few in the frame.
+fn right_body_case(random: &mut Random) -> BodyCase {
+    let points = tables::points(random);
+    let (mut frame, _, body) = right_body(random, points);
+    if random.once_in(12) {
+        frame.points = (frame.points as i64 + random.between(-1, 1)) as u64;
+    }
+    BodyCase { frame, body, room: room(random, frame.points) }
+}
+
+/// A right spelling of a long table with very long runs, and so with DUPs of five digits.
+fn long_run_case(random: &mut Random) -> BodyCase {
+    let points = 10_000 + random.below(55_537);
+    let frame = tables::frame(random, points);
+    let ordinates = tables::long_runs(random, points);
+    let style = spell::Style { duplicates: 1, new_line: 1_000, ..spell::style(random) };
+    let body = spell::body(random, &style, &frame, &ordinates);
+    BodyCase { frame, body, room: frame.points as u32 }
+}
+
+/// A damaged spelling, or the damaged text of the writer.
+fn damaged_body_case(random: &mut Random) -> BodyCase {
+    let points = tables::points(random);
+    let (frame, ordinates, spelled) = right_body(random, points);
+    let written = write_body(frame.first, frame.last, frame.points, &ordinates, usize::MAX);
+    let mut body = if random.once_in(5) { written.unwrap_or(spelled) } else { spelled };
+    damage::damage(random, &mut body);
+    BodyCase { frame, body, room: room(random, frame.points) }
+}
+
+/// A soup of tokens in a small frame.
+fn soup_case(random: &mut Random) -> BodyCase {
+    let points = 1 + random.below(7) as u64;
+    let last = if points == 1 { 0 } else { 1000 * (points as i64 - 1) };
+    let body = damage::soup(random);
+    BodyCase { frame: Frame { first: 0, last, points }, body, room: room(random, points) }
+}
+
+/// A frame that is often outside its limits, with a small body.
+fn odd_frame_case(random: &mut Random) -> BodyCase {
+    let frame = tables::odd_frame(random);
+    let body = damage::soup(random);
+    BodyCase { frame, body, room: room(random, frame.points) }
+}
+
+/// A body of about the greatest length, or with the greatest number of points, or with one part that is very long.
+fn large_body_case(random: &mut Random, kind: usize) -> BodyCase {
+    let points = [65_536, 65_536, 65_536, 20_000, 300, 65_536, 4, 65_536, 65_536, 65_536, 300, 4][kind];
+    let (frame, _, mut body) = right_body(random, points);
+    let rows = Frame { first: 0, last: 1000 * (points as i64 - 1), points: points as u64 };
+    match kind {
+        0 => pad(random, &mut body, LONGEST),
+        1 => pad(random, &mut body, LONGEST + 1),
+        3 => damage::damage(random, &mut body),
+        4 | 10 => body
+            .splice(0..0, [b"$$".to_vec(), vec![b'$'; LONGEST - 3 - body.len()], b"\n".to_vec()].concat())
+            .for_each(drop),
+        _ => {}
+    }
+    let (frame, body) = match kind {
+        2 => extremes(),
+        5 => (rows, b"0AX5536".to_vec()),
+        6 => (rows, [b"0A".to_vec(), vec![b'\t'; LONGEST - 5], b"BCD".to_vec()].concat()),
+        7 => (rows, [b"0".to_vec(), vec![b'A'; LONGEST - 1]].concat()),
+        8 | 9 => (rows, one_a_line(random, points, kind == 9)),
+        11 => (rows, [b"0 ".to_vec(), vec![b'1'; LONGEST - 2]].concat()),
+        _ => (frame, body),
+    };
+    BodyCase { frame, body, room: frame.points as u32 }
+}
+
+/// The longest text that the writer makes, about: alternating extremes between the farthest abscissas.
+fn extremes() -> (Frame, Vec<u8>) {
+    let frame = Frame { first: -9_999_999_999, last: 9_999_999_999, points: 65_536 };
+    let list: Vec<i32> = (0..65_536).map(|k| if k % 2 == 0 { i32::MAX } else { -i32::MAX }).collect();
+    let text = write_body(frame.first, frame.last, frame.points, &list, usize::MAX);
+    (frame, text.unwrap_or_default())
+}
+
+/// One point a line with whole heads, as long as a body may be; perhaps damaged.
+fn one_a_line(random: &mut Random, points: usize, damaged: bool) -> Vec<u8> {
+    let mut body: Vec<u8> = (0..points).flat_map(|k| format!("{k} {}\r\n", k % 1000).into_bytes()).collect();
+    if damaged {
+        let mut tail = body.split_off(body.len() - 100);
+        damage::damage(random, &mut tail);
+        body.extend(tail);
+    }
+    pad(random, &mut body, LONGEST);
+    body
+}
+
+/// Makes bytes exactly so long, with a comment, blanks or lines of blanks at the end, or cuts them off.
+pub fn pad(random: &mut Random, bytes: &mut Vec<u8>, wanted: usize) {
+    bytes.truncate(wanted);
+    let filler = random.pick(&[b" ", b"\n", b"c"]);
+    if filler == b"c" && bytes.len() + 3 <= wanted {
+        bytes.extend(b"\n$$");
+    }
+    let filler = if bytes.ends_with(b"$$") {
+        b'c'
+    } else if filler == b"c" {
+        b' '
+    } else {
+        filler[0]
+    };
+    bytes.resize(wanted, filler);
+}
+
+/// One writer's case.
+fn write_case(random: &mut Random, index: usize, writes: usize) -> WriteCase {
+    let large = index + large_cases(writes) >= writes;
+    let points = if large { random.pick(&[65_536, 65_535, 10_000, 40_000]) } else { tables::points_to_write(random) };
+    let mut frame = match random.below(12) {
+        0..=2 => tables::tight_frame(random, points),
+        3 => Frame { first: 0, last: 1000 * (points as i64 - 1), points: points as u64 },
+        _ => tables::frame(random, points),
+    };
+    let runs = large && random.once_in(2);
+    let mut ordinates = if runs { tables::long_runs(random, points) } else { tables::ordinates(random, points) };
+    match random.below(30) {
+        0 => frame = tables::odd_frame(random),
+        1 => drop(ordinates.pop()),
+        2 => ordinates.truncate(random.below(points)),
+        3..=6 => ordinates.extend(tables::ordinates(random, 3)),
+        _ => {}
+    }
+    let room = text_room(random, &frame, &ordinates);
+    WriteCase { frame, ordinates, room }
+}
+
+/// Bytes lent to the writer: exact, one too few, none, few, or more.
+fn text_room(random: &mut Random, frame: &Frame, ordinates: &[i32]) -> u32 {
+    let text = write_body(frame.first, frame.last, frame.points, ordinates, usize::MAX);
+    let length = text.map_or(0, |text| text.len()) as u32;
+    match random.below(10) {
+        0 => length.saturating_sub(1),
+        1 => random.pick(&[0, 1, length / 2]),
+        2..=4 => length + 1 + random.below(40) as u32,
+        5 => length + 1_000,
+        _ => length,
+    }
+}

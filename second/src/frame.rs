@@ -1,0 +1,71 @@
+//! The frame of a table, its limits and a refusal (01, The frame of a table; 01, Refusal numbers).
+
+/// Most points of a table.
+pub const MOST_POINTS: u64 = 65_536;
+
+/// Largest magnitude of an abscissa, in thousandths.
+pub const LARGEST_ABSCISSA: i128 = 9_999_999_999;
+
+/// Longest body, and longest file, in bytes.
+pub const LONGEST: usize = 1_048_576;
+
+/// Largest magnitude of an ordinate.
+pub const LARGEST_ORDINATE: i128 = 2_147_483_647;
+
+/// The mark of a missing ordinate in a slice of 32-bit numbers.
+pub const MISSING: i32 = i32::MIN;
+
+/// A refusal: its number in 01's tables and its place, in bytes from 0.
+#[derive(Clone, Copy, Debug, PartialEq, Eq)]
+pub struct Refusal {
+    pub number: u32,
+    pub place: u64,
+}
+
+/// A refusal with this number at this place.
+pub fn refusal(number: u32, place: usize) -> Refusal {
+    Refusal { number, place: place as u64 }
+}
+
+/// The frame of a table: first and last abscissa in thousandths, and the number of points.
+#[derive(Clone, Copy, Debug, PartialEq, Eq)]
+pub struct Frame {
+    pub first: i64,
+    pub last: i64,
+    pub points: u64,
+}
+
+impl Frame {
+    /// Whether the frame keeps its limits.
+    pub fn in_limits(&self) -> bool {
+        let abscissas = [self.first, self.last];
+        let small = abscissas.iter().all(|x| (*x as i128).abs() <= LARGEST_ABSCISSA);
+        let ends = if self.points == 1 { self.first == self.last } else { self.first != self.last };
+        small && self.points >= 1 && self.points <= MOST_POINTS && ends
+    }
+
+    /// L - F, exact.
+    pub fn span(&self) -> i128 {
+        self.last as i128 - self.first as i128
+    }
+
+    /// N - 1, the number of steps from the first to the last point.
+    pub fn steps(&self) -> i128 {
+        self.points as i128 - 1
+    }
+
+    /// Whether a head of h thousandths passes for index i (01, Checks).
+    pub fn head_passes(&self, h: i128, i: u64) -> bool {
+        let first = self.first as i128;
+        if self.points == 1 {
+            return h == first;
+        }
+        let off = h * self.steps() - first * self.steps() - i as i128 * self.span();
+        2 * off.abs() < self.span().abs()
+    }
+}
+
+/// A quotient of whole numbers rounded to the nearest whole number, halves to the larger; below must exceed zero.
+pub fn nearest(above: i128, below: i128) -> i128 {
+    (2 * above + below).div_euclid(2 * below)
+}

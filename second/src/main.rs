@@ -1,0 +1,98 @@
+//! A second reader and writer of JCAMP-DX tables, written from document 01 to compare answers with the proved one.
+
+mod body;
+mod cases;
+mod file;
+mod frame;
+mod random;
+mod selftest;
+mod stream;
+mod text;
+
+use frame::{Refusal, MISSING};
+use std::io::{self, BufReader, BufWriter, Read, Write};
+use std::process::exit;
+
+/// Most bytes and points that 01's program takes (01, Bench samples).
+const PROGRAM_BYTES: usize = 49_152;
+const PROGRAM_POINTS: usize = 4_096;
+
+/// Prints how the program is used, and ends it.
+fn usage() -> ! {
+    eprintln!("second cases --seed S --bodies A --writes B --files C > stream");
+    eprintln!("second count < stream");
+    eprintln!("second body F L N < body");
+    eprintln!("second file [--whole] < file    (--whole: the library's limits, not the program's)");
+    eprintln!("second selftest");
+    exit(2)
+}
+
+/// The number after an option, or the one given if the option is absent.
+fn option(arguments: &[String], name: &str, otherwise: u64) -> u64 {
+    match arguments.iter().position(|argument| argument == name) {
+        Some(at) => arguments.get(at + 1).and_then(|text| text.parse().ok()).unwrap_or_else(|| usage()),
+        None => otherwise,
+    }
+}
+
+/// All of standard input.
+fn input() -> io::Result<Vec<u8>> {
+    let mut bytes = Vec::new();
+    io::stdin().read_to_end(&mut bytes)?;
+    Ok(bytes)
+}
+
+/// An answer in the form of 01's program.
+fn print_answer(answer: Result<(u64, i64, i64, Vec<i32>), Refusal>) {
+    match answer {
+        Err(fault) => println!("refused {} {}", fault.number, fault.place),
+        Ok((points, first, last, ordinates)) => {
+            let rows = ordinates.iter().map(|y| if *y == MISSING { "?\n".into() } else { format!("{y}\n") });
+            print!("ok {points} {first} {last}\n{}", rows.collect::<String>());
+        }
+    }
+}
+
+/// Writes the stream of cases that is asked for.
+fn cases_command(arguments: &[String]) -> io::Result<()> {
+    let out = &mut BufWriter::new(io::stdout().lock());
+    let number = |name| option(arguments, name, 0) as usize;
+    let seed = option(arguments, "--seed", 1);
+    cases::write_cases(out, seed, number("--bodies"), number("--writes"), number("--files"))?;
+    out.flush()
+}
+
+/// Reads a body from standard input.
+fn body_command(arguments: &[String]) -> io::Result<()> {
+    let [first, last, points] = arguments else { usage() };
+    let (Ok(first), Ok(last), Ok(points)) = (first.parse(), last.parse(), points.parse()) else { usage() };
+    let ordinates = body::read_body(first, last, points, &input()?, usize::MAX);
+    print_answer(ordinates.map(|list| (points, first, last, list)));
+    Ok(())
+}
+
+/// Reads a file from standard input.
+fn file_command(arguments: &[String]) -> io::Result<()> {
+    let whole = arguments.iter().any(|argument| argument == "--whole");
+    let file = input()?;
+    if !whole && file.len() > PROGRAM_BYTES {
+        print_answer(Err(frame::refusal(19, 0)));
+        return Ok(());
+    }
+    let room = if whole { usize::MAX } else { PROGRAM_POINTS };
+    print_answer(file::read_file(&file, room).map(|t| (t.points, t.first, t.last, t.ordinates)));
+    Ok(())
+}
+
+/// Does what the first argument asks for.
+fn main() -> io::Result<()> {
+    let arguments: Vec<String> = std::env::args().skip(1).collect();
+    match arguments.first().map(String::as_str) {
+        Some("cases") => cases_command(&arguments[1..]),
+        Some("count") => stream::count(BufReader::new(io::stdin().lock())),
+        Some("body") => body_command(&arguments[1..]),
+        Some("file") => file_command(&arguments[1..]),
+        Some("selftest") => exit(selftest::run()),
+        _ => usage(),
+    }
+}

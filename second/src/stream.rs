@@ -1,0 +1,251 @@
+//! The stream of cases with their answers: writing it, and counting what is in it. README.md gives the format.
+
+use crate::body::read_body;
+use crate::file::{read_file, record_text, RecordText};
+use crate::frame::{Frame, Refusal};
+use crate::text::write_body;
+use std::collections::BTreeMap;
+use std::io::{self, Read, Write};
+
+/// A body to be read.
+pub struct BodyCase {
+    pub frame: Frame,
+    pub body: Vec<u8>,
+    pub room: u32,
+}
+
+/// A table to be written.
+pub struct WriteCase {
+    pub frame: Frame,
+    pub ordinates: Vec<i32>,
+    pub room: u32,
+}
+
+/// A file to be read.
+pub struct FileCase {
+    pub file: Vec<u8>,
+    pub room: u32,
+}
+
+/// A record to be shown.
+pub struct RecordCase {
+    pub file: Vec<u8>,
+    pub name: Vec<u8>,
+}
+
+/// A 32-bit number, little endian.
+fn put_u32(out: &mut impl Write, number: u32) -> io::Result<()> {
+    out.write_all(&number.to_le_bytes())
+}
+
+/// A 64-bit number, little endian.
+fn put_u64(out: &mut impl Write, number: u64) -> io::Result<()> {
+    out.write_all(&number.to_le_bytes())
+}
+
+/// Bytes after their length.
+fn put_bytes(out: &mut impl Write, bytes: &[u8]) -> io::Result<()> {
+    put_u32(out, bytes.len() as u32)?;
+    out.write_all(bytes)
+}
+
+/// Ordinates one after the other.
+fn put_ordinates(out: &mut impl Write, ordinates: &[i32]) -> io::Result<()> {
+    ordinates.iter().try_for_each(|y| out.write_all(&y.to_le_bytes()))
+}
+
+/// F, L and N.
+fn put_frame(out: &mut impl Write, frame: &Frame) -> io::Result<()> {
+    put_u64(out, frame.first as u64)?;
+    put_u64(out, frame.last as u64)?;
+    put_u64(out, frame.points)
+}
+
+/// The number and the place of an answer: 0 and 0 if it is accepted.
+fn put_verdict(out: &mut impl Write, refused: Option<Refusal>) -> io::Result<()> {
+    put_u32(out, refused.map_or(0, |fault| fault.number))?;
+    put_u64(out, refused.map_or(0, |fault| fault.place))
+}
+
+/// Writes a body case and its answer.
+pub fn put_body_case(out: &mut impl Write, case: &BodyCase) -> io::Result<()> {
+    out.write_all(b"B")?;
+    put_frame(out, &case.frame)?;
+    put_u32(out, case.room)?;
+    put_bytes(out, &case.body)?;
+    let Frame { first, last, points } = case.frame;
+    let answer = read_body(first, last, points, &case.body, case.room as usize);
+    put_verdict(out, answer.as_ref().err().copied())?;
+    let ordinates = answer.unwrap_or_default();
+    put_u64(out, ordinates.len() as u64)?;
+    put_ordinates(out, &ordinates)
+}
+
+/// Writes a writer's case and its answer.
+pub fn put_write_case(out: &mut impl Write, case: &WriteCase) -> io::Result<()> {
+    out.write_all(b"W")?;
+    put_frame(out, &case.frame)?;
+    put_u32(out, case.ordinates.len() as u32)?;
+    put_ordinates(out, &case.ordinates)?;
+    put_u32(out, case.room)?;
+    let Frame { first, last, points } = case.frame;
+    let answer = write_body(first, last, points, &case.ordinates, case.room as usize);
+    put_verdict(out, answer.as_ref().err().copied())?;
+    let text = answer.unwrap_or_default();
+    put_u64(out, text.len() as u64)?;
+    out.write_all(&text)
+}
+
+/// Writes a file case and its answer.
+pub fn put_file_case(out: &mut impl Write, case: &FileCase) -> io::Result<()> {
+    out.write_all(b"F")?;
+    put_u32(out, case.room)?;
+    put_bytes(out, &case.file)?;
+    let answer = read_file(&case.file, case.room as usize);
+    put_verdict(out, answer.as_ref().err().copied())?;
+    let Ok(table) = answer else {
+        return put_frame_of_file(out, 0, 0, 0);
+    };
+    put_frame_of_file(out, table.points, table.first, table.last)?;
+    put_ordinates(out, &table.ordinates)
+}
+
+/// N, F and L, in the order of a file's answer.
+fn put_frame_of_file(out: &mut impl Write, points: u64, first: i64, last: i64) -> io::Result<()> {
+    put_u64(out, points)?;
+    put_u64(out, first as u64)?;
+    put_u64(out, last as u64)
+}
+
+/// Writes a record case and its answer.
+pub fn put_record_case(out: &mut impl Write, case: &RecordCase) -> io::Result<()> {
+    out.write_all(b"R")?;
+    put_bytes(out, &case.file)?;
+    put_bytes(out, &case.name)?;
+    let (kind, from, to) = match record_text(&case.file, &case.name) {
+        RecordText::Part(from, to) => (0, from, to),
+        RecordText::Absent => (1, 0, 0),
+        RecordText::Refused(fault) => (2, u64::from(fault.number), fault.place),
+    };
+    put_u32(out, kind)?;
+    put_u64(out, from)?;
+    put_u64(out, to)
+}
+
+/// A stream that is being read.
+struct Stream<R: Read> {
+    input: R,
+}
+
+impl<R: Read> Stream<R> {
+    /// The next `count` bytes.
+    fn bytes(&mut self, count: usize) -> io::Result<Vec<u8>> {
+        let mut bytes = vec![0; count];
+        self.input.read_exact(&mut bytes)?;
+        Ok(bytes)
+    }
+
+    /// The next 32-bit number.
+    fn u32(&mut self) -> io::Result<u32> {
+        Ok(u32::from_le_bytes(self.bytes(4)?.try_into().expect("four bytes")))
+    }
+
+    /// The next 64-bit number.
+    fn u64(&mut self) -> io::Result<u64> {
+        Ok(u64::from_le_bytes(self.bytes(8)?.try_into().expect("eight bytes")))
+    }
+
+    /// Bytes after their length.
+    fn counted(&mut self) -> io::Result<usize> {
+        let length = self.u32()? as usize;
+        self.bytes(length)?;
+        Ok(length)
+    }
+
+    /// The kind of the next case, or nothing at the end.
+    fn kind(&mut self) -> io::Result<Option<u8>> {
+        let mut one = [0];
+        Ok(if self.input.read(&mut one)? == 1 { Some(one[0]) } else { None })
+    }
+
+    /// Reads the rest of a case: its number and the bytes of its body, text or file.
+    fn case(&mut self, kind: u8) -> io::Result<(u32, usize)> {
+        match kind {
+            b'B' => self.body_case(),
+            b'W' => self.write_case(),
+            b'F' => self.file_case(),
+            b'R' => self.record_case(),
+            _ => Err(io::Error::new(io::ErrorKind::InvalidData, "no such kind of case")),
+        }
+    }
+
+    /// The rest of a body case.
+    fn body_case(&mut self) -> io::Result<(u32, usize)> {
+        self.bytes(28)?;
+        let length = self.counted()?;
+        let number = self.u32()?;
+        self.u64()?;
+        let count = self.u64()? as usize;
+        self.bytes(4 * count)?;
+        Ok((number, length))
+    }
+
+    /// The rest of a writer's case.
+    fn write_case(&mut self) -> io::Result<(u32, usize)> {
+        self.bytes(24)?;
+        let count = self.u32()? as usize;
+        self.bytes(4 * count + 4)?;
+        let number = self.u32()?;
+        self.u64()?;
+        let length = self.u64()? as usize;
+        self.bytes(length)?;
+        Ok((number, length))
+    }
+
+    /// The rest of a file case.
+    fn file_case(&mut self) -> io::Result<(u32, usize)> {
+        self.u32()?;
+        let length = self.counted()?;
+        let number = self.u32()?;
+        self.u64()?;
+        let points = self.u64()? as usize;
+        self.bytes(16 + 4 * points)?;
+        Ok((number, length))
+    }
+
+    /// The rest of a record case; its number is 0 for a part, 100 for absent, or that of the refusal.
+    fn record_case(&mut self) -> io::Result<(u32, usize)> {
+        let length = self.counted()?;
+        self.counted()?;
+        let kind = self.u32()?;
+        let from = self.u64()?;
+        self.u64()?;
+        Ok(([0, 100, from as u32][kind as usize], length))
+    }
+}
+
+/// Counts the answers of a stream by kind of case and number, and prints them.
+pub fn count(input: impl Read) -> io::Result<()> {
+    let mut stream = Stream { input };
+    let mut counts: BTreeMap<(u8, u32), usize> = BTreeMap::new();
+    let mut sizes: BTreeMap<u8, (usize, usize)> = BTreeMap::new();
+    while let Some(kind) = stream.kind()? {
+        let (number, length) = stream.case(kind)?;
+        *counts.entry((kind, number)).or_default() += 1;
+        let (cases, bytes) = sizes.entry(kind).or_default();
+        *cases += 1;
+        *bytes += length;
+    }
+    for (kind, (cases, bytes)) in sizes {
+        println!("{} {cases} cases, {bytes} bytes of body, text or file", char::from(kind));
+        for ((_, number), times) in counts.range((kind, 0)..=(kind, u32::MAX)) {
+            let name = match number {
+                0 => "accepted".into(),
+                100 => "absent".into(),
+                n => format!("refused {n}"),
+            };
+            println!("  {name}: {times}");
+        }
+    }
+    Ok(())
+}
