@@ -28,7 +28,9 @@ same-length c = search needs
 
 -- src/lib.rt:58:1
 returns : tie.Need-returns
-returns c = rw (toZ-ofZ (sfits-of {w = w64} (c .before .struct-told .given)), toZ-ofZ (sfits-of {w = w64} (c .struct-told2 .given))) (told-file (rw (c .before .before .before .t .given .1) at (c .before .before .before .before .before .before .read-file .ensures)))
+returns c =
+    let k = c .before .struct-told .given in
+    rw (toZ-ofZ (sfits-of {w = w64} (k .1 .0 .1)), toZ-ofZ (sfits-of {w = w64} (k .1 .1 .0 .1))) (told-file (rw (c .before .before .before .t .given .1) at (c .before .before .before .before .before .before .read-file .ensures)))
 
 -- src/lib.rt:58:1
 same-length-2 : tie.Need-same-length-2
