@@ -4,7 +4,7 @@
  * entry of lent memory, and that what is only lent to be read is unaltered.
  *
  * -DHAVE_READ_TABLE, -DHAVE_WRITE_TABLE, -DHAVE_READ_FILE, -DHAVE_FIND_RECORD say which functions the library has; cases
- * for others are counted as not compared. -DCOMPARE_C compares the C reader and writer of bench/c_table.c instead, and
+ * for others are counted as not compared. -DCOMPARE_C compares the C reader and writer of benchmark/c_table.c instead, and
  * -DREADER=NAME takes another reader of it.
  */
 #include "lastarunc.h"

@@ -1,6 +1,6 @@
 /*
  * Runs one function on one of the bench's tables a number of times:  measure FUNCTION TABLE TIMES
- * bench/run takes the instructions of k and of 2k times, so that all else here cancels. With `size` in place of TIMES it
+ * ./bench takes the instructions of k and of 2k times, so that all else here cancels. With `size` in place of TIMES it
  * prints the bytes and the points instead; with -time before FUNCTION it prints the seconds for TIMES.
  */
 #include "c_table.h"

@@ -95,7 +95,7 @@ uint8_t *make_file(size_t *length)
     static const char *const before[] = {
         "TITLE=drift time spectrum, synthetic", "JCAMP-DX=5.01", "DATA TYPE=ION MOBILITY SPECTRUM",
         "DATA CLASS=XYDATA", "ORIGIN=bench", "OWNER=public domain", "LONGDATE=2026/11/15", "TIME=05:48:31",
-        "SOURCE REFERENCE=none $$ made by bench/tables.c", "SPECTROMETER/DATA SYSTEM=none", "INSTRUMENT PARAMETERS=none",
+        "SOURCE REFERENCE=none $$ made by benchmark/tables.c", "SPECTROMETER/DATA SYSTEM=none", "INSTRUMENT PARAMETERS=none",
         "SAMPLE DESCRIPTION=nothing", "CAS NAME=", "CAS REGISTRY NO=", "MOLFORM=", ".IMS PRESSURE=100.5",
         ".CARRIER GAS=air", ".DRIFT GAS=air", ".ELECTRIC FIELD=(280,280)", ".ION POLARITY=POSITIVE",
         ".IONIZATION MODE=RN", ".IONIZATION ENERGY=(60)", ".IONIZATION SOURCE=Ni-63", ".SHUTTER OPENING TIME=0.3",
