@@ -28,7 +28,8 @@ legal-sound : (f l : ℤ) (n : ℕ) → frame-legal f l n ≡ true → Sound (re
 unfolding frame-legal
 legal-sound f l n e =
     let a = both-true (abscissa-legal f) _ e in let b = both-true (abscissa-legal l) _ (a .1) in let c = both-true (leb 1 n) _ (b .1) in let d = both-true (leb n 65536) _ (c .1) in
-    record { first = legal-abscissa f (a .0) .1; last = legal-abscissa l (b .0) .1; some = leb-true 1 n (c .0); few = leb-true n 65536 (d .0) }
+    let x = legal-abscissa f (a .0) in let y = legal-abscissa l (b .0) in
+    record { low-first = x .0; low-last = y .0; first = x .1; last = y .1; some = leb-true 1 n (c .0); few = leb-true n 65536 (d .0) }
 
 -- a legal frame: F, L and N within their limits, and no other numbers than theirs
 pub record Framing (f l : ℤ) (n : ℕ) (fr : Frame) : Type 0 where

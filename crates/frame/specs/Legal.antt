@@ -19,6 +19,8 @@ lifted x = pick (abscissa-legal x) (abscissa x) 0
 
 -- a frame within its limits: whatever `Frame::new` answers is such a one
 pub record Sound (fr : Frame) : Type 0 where
+  pub low-first : 0 < fr .first
+  pub low-last : 0 < fr .last
   pub first : fr .first < 20000000000
   pub last : fr .last < 20000000000
   pub some : 1 ≤ fr .points

@@ -1,21 +1,24 @@
 -- From the tests of the writer to its outcomes. No place of the code is named here. Assumes nothing.
 use mathlib.Core.Path.{_≡_, refl, sym, ap, _∙_}
+use mathlib.Core.Bool.{Bool, true, false}
 use mathlib.Core.List.{List, [], _∷_, _++_, map}
-use Prim.Native.Nat.{ℕ, zero, suc, _+_, _-_, _≤_, _<_}
+use Prim.Native.Nat.{ℕ, zero, suc, _+_, _-_, _*_, _≤_, _<_}
 use native.Mathlib.Omega.{arith}
-use lib.Dec.{ltb}
+use lib.Dec.{ltb, leb}
 use lib.IntN.{ℤ}
-use lib.ListN.{length, take}
-use borrow.Author.Tests.{lt-ltb, le-ltb}
+use lib.ListN.{length, take, length-map}
+use borrow.Author.Tests.{lt-ltb, le-ltb, le-leb}
 use Rattle.terms.specs.declared.TableWritten.{TableWritten}
 use Rattle.terms.specs.declared.TableWritten.the-variants.{Length}
 use Rattle.alphabet_spec.specs.Logic.{pick}
 use Rattle.frame.specs.declared.Frame.{Frame}
 use Rattle.frame.specs.declared.Framed.the-variants.{Legal, Outside}
-use Rattle.frame.specs.Legal.{framed}
+use Rattle.frame.specs.Legal.{framed, Sound}
 use Rattle.frame.specs.FrameLaws.{framed-outside, framed-legal}
 use Rattle.table_spec.specs.Frame.{apart, ordinate-of}
 use Rattle.table_spec.specs.Writing.{lines-of, written, writeTable, laid}
+use Rattle.table_write_law.specs.Written.{Takes}
+use Rattle.table_write_law.specs.Lengths.{written-most}
 use Rattle.table_write.specs.Pieces.{Put, headOf}
 use Rattle.table_write.specs.Tokens.{ordinates}
 use Rattle.table_write.specs.Answers.{refused, Answered, FramedAnswer}
@@ -52,9 +55,14 @@ module _ (fr : Frame) (ys : List ℤ) (o : List ℕ) {o' : List ℕ} {r : TableW
         rw (le-ltb (length ys) (fr .points) h, le-ltb (apart (fr .last) (fr .first)) (fr .points - 1) l, is-body fr ys, le-ltb (length o) (length (body fr ys)) k)
         (record { answer = e ∙ ap Length (p .next ∙ omega arith); bytes = p .stored })
 
-pub empty-front : (e o : List ℕ) → length e ≡ 0 → e ++ o ≡ o
-empty-front [] o h = refl
-empty-front (x ∷ e) o h = absurd (omega arith)
+-- so many bytes a point, and 44 more, are enough
+pub always-room : (fr : Frame) (ys : List ℤ) {room : ℕ} → Sound fr → length ys ≡ fr .points → fr .points - 1 ≤ apart (fr .last) (fr .first)
+    → 15 * fr .points + 44 ≤ room → leb (length (lines-of (headOf fr) (ordinates ys))) room ≡ true
+unfolding written headOf
+always-room fr ys {room} s e far enough =
+    let t : Takes (fr .first) (fr .last) (fr .points) = record { low-first = s .low-first; low-last = s .low-last; high-first = s .first; high-last = s .last; some = s .some; few = s .few; apart-enough = far } in
+    let m = written-most (fr .first) (fr .last) (fr .points) (ordinates ys) t (length-map ys ordinate-of ∙ e) in
+    le-leb (length (lines-of (headOf fr) (ordinates ys))) room (omega (arith, m, enough))
 
 -- ---- the frame
 

@@ -1,6 +1,7 @@
 // Writing a table (01, "The written text"): the public function, and the types that its parts share.
 ghost use mathlib.Core.Path.{_≡_};
 ghost use Prim.Native.Nat.{ℕ, _+_, _-_, _≤_, _<_};
+ghost use lib.Dec.{leb};
 ghost use lib.ListN.{length};
 ghost use Rattle.table_spec.specs.Frame.{apart};
 ghost use Rattle.table_spec.specs.Writing.{lines-of};
@@ -96,7 +97,21 @@ fn refused(number: u64) -> TableWritten
     TableWritten::Refused(Refusal::new(number, 0))
 }
 
-// Writing in a legal frame: refusals 2, 14 and 15, or the text. The first pass measures it and stores nothing.
+// Whether the text fits into so many bytes: 15 a point and 44 more are always enough (table_write_law, `written-most`); if there are fewer, a pass measures it.
+fn fits(ys: &[i32], fr: Frame, room: usize) -> bool
+    requires { ⌜ Sound fr × (length (now ys) ≡ fr .points) × (fr .points - 1 ≤ apart (fr .last) (fr .first)) ⌝ }
+    ensures { λ r. ⌜ r ≡ leb (length (lines-of (headOf fr) (ordinates (now (ys .entry))))) room ⌝ }
+{
+    let n = fr.points;
+    if 15 * n + 44 <= room {
+        return true;
+    }
+    let mut one = [0u8; 1];
+    let needed = pass(ys, &mut one, fr);
+    needed <= room
+}
+
+// Writing in a legal frame: refusals 2, 14 and 15, or the text.
 fn write_framed(fr: Frame, ordinates: &[i32], text: &mut [u8]) -> TableWritten
     requires { ⌜ Sound fr ⌝ }
     ensures { λ r. ⌜ FramedAnswer fr (now (ordinates .entry)) (now (text .entry)) (now (text .exit)) r ⌝ }
@@ -110,13 +125,11 @@ fn write_framed(fr: Frame, ordinates: &[i32], text: &mut [u8]) -> TableWritten
         return refused(14);
     }
     let ys = &ordinates[..n];
-    let room = text.len();
-    let needed = pass(ys, &mut text[..0], fr);
-    if room < needed {
-        return refused(15);
+    if fits(ys, fr, text.len()) {
+        let length = pass(ys, text, fr);
+        return TableWritten::Length(length);
     }
-    let length = pass(ys, text, fr);
-    TableWritten::Length(length)
+    refused(15)
 }
 
 // Writes the table of a frame, its numbers as they come, and its ordinates into the lent bytes; or refuses and leaves them as they were.
