@@ -26,15 +26,18 @@ static const struct {
     {"read-unchecked", c_read_table_unchecked},
 };
 
+/* Writers, and whether they are lent just the text's length, or as much as any text of so many points needs. */
 static const struct {
     const char *name;
     table_writer *function;
+    bool roomy;
 } writers[] = {
 #ifdef HAVE_WRITE_TABLE
-    {"write-library", lastarunc_write_table},
+    {"write-library", lastarunc_write_table, false},
+    {"write-library-roomy", lastarunc_write_table, true},
 #endif
-    {"write-two", c_write_table},
-    {"write-unchecked", c_write_table_unchecked},
+    {"write-two", c_write_table, false},
+    {"write-unchecked", c_write_table_unchecked, false},
 };
 
 /* Ends the program: the answer was not what the table holds. */
@@ -56,14 +59,13 @@ static void run_reader(const char *name, table_reader *read, const struct table 
         wrong(name);
 }
 
-/* Writes the table TIMES times, and looks at the text once. */
-static void run_writer(const char *name, table_writer *write, const struct table *t, long times)
+/* Writes the table TIMES times into so much room, and looks at the text once. */
+static void run_writer(const char *name, table_writer *write, const struct table *t, size_t room, long times)
 {
-    uint8_t *text = malloc(t->length);
+    uint8_t *text = malloc(room);
     uint64_t length;
     for (long i = 0; i < times; i++)
-        if (write(t->first, t->last, t->points, t->ordinates, t->points, text, t->length, &length)
-            || length != t->length)
+        if (write(t->first, t->last, t->points, t->ordinates, t->points, text, room, &length) || length != t->length)
             wrong(name);
     if (memcmp(text, t->body, length))
         wrong(name);
@@ -78,6 +80,18 @@ static void run_file(const uint8_t *file, size_t length, long times)
     for (long i = 0; i < times; i++)
         if (lastarunc_read_file(file, length, out, 2400, &place, &points, &first, &last) || points != 2400)
             wrong("file");
+}
+
+/* Reads a file of nothing but labels, which is refused with 25 once all were compared. */
+static void run_labels(size_t length, long times)
+{
+    uint8_t *file = make_labels(length);
+    int32_t out;
+    uint64_t place, points;
+    int64_t first, last;
+    for (long i = 0; i < times; i++)
+        if (lastarunc_read_file(file, length, &out, 1, &place, &points, &first, &last) != 25)
+            wrong("labels");
 }
 #endif
 
@@ -98,6 +112,10 @@ static bool run(const char *name, const char *table, const char *times)
         (void)file;
         return size;
     }
+#ifdef HAVE_READ_FILE
+    if (!strncmp(table, "labels-", 7))
+        return run_labels(strtoul(table + 7, NULL, 10), atol(times)), true;
+#endif
     struct table *t = make_table(table);
     if (!t)
         return false;
@@ -110,7 +128,8 @@ static bool run(const char *name, const char *table, const char *times)
             return run_reader(name, readers[i].function, t, atol(times)), true;
     for (size_t i = 0; i < sizeof writers / sizeof *writers; i++)
         if (!strcmp(name, writers[i].name))
-            return run_writer(name, writers[i].function, t, atol(times)), true;
+            return run_writer(name, writers[i].function, t, writers[i].roomy ? 15 * t->points + 44 : t->length, atol(times)),
+                   true;
     return false;
 }
 
@@ -118,7 +137,7 @@ int main(int argc, char **argv)
 {
     bool timed = argc == 5 && !strcmp(argv[1], "-time");
     if (argc != 4 + timed) {
-        fprintf(stderr, "measure [-time] FUNCTION typical|quiet|noisy|file TIMES|size\n");
+        fprintf(stderr, "measure [-time] FUNCTION typical|quiet|noisy|file|labels-BYTES TIMES|size\n");
         return 2;
     }
     struct timespec before, after;

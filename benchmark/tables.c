@@ -115,3 +115,23 @@ uint8_t *make_file(size_t *length)
     *length = (size_t)(p - file);
     return (uint8_t *)file;
 }
+
+uint8_t *make_labels(size_t length)
+{
+    static const char letters[] = "ABCDEFGHIJKLM0123456789"; /* no N: END would end the file */
+    uint8_t *file = malloc(length);
+    size_t at = 9;
+    memset(file, '\n', length);
+    memcpy(file, "##TITLE=\n", 9);
+    for (unsigned n = 0; at + 8 + 6 <= length; n++) {
+        file[at++] = '#';
+        file[at++] = '#';
+        for (unsigned rest = n, k = 0; k < 4; k++, rest /= 23)
+            if (k < 1 || rest)
+                file[at++] = letters[rest % 23];
+        file[at++] = '=';
+        file[at++] = '\n';
+    }
+    memcpy(file + at, "##END=", 6);
+    return file;
+}

@@ -1,8 +1,8 @@
 # For scripts that link the proved library: sets LIB, its archive, unless the caller has set it, and LIBRARY_HAS, compiler
-# flags -DHAVE_.. for the functions of include/lastarunc.h that are in it. A missing archive is made. To be sourced in
-# the repository's root.
+# flags -DHAVE_.. for the functions of include/lastarunc.h that are in it. The archive is made anew, so that it is never an
+# old one. To be sourced in the repository's root.
+[ -n "${LIB:-}" ] || rt staticlib host >&2
 LIB=${LIB:-target/staticlib/libhost.a}
-[ -f "$LIB" ] || rt staticlib host >&2
 if [ ! -f "$LIB" ]; then
     echo "there is no library archive at $LIB" >&2
     exit 1

@@ -3,3 +3,4 @@ pub mod Pieces
 pub mod Tokens
 pub mod Lines
 pub mod Answers
+pub mod Unique
