@@ -10,7 +10,8 @@ use borrow.Author.Tests.{eq-eqb, ne-eqb, eqb-true, eqb-false, ltb-true, ltb-fals
 use Rattle.label_spec.specs.Names.{pick, nameIn, sames, TITLE, END}
 use Rattle.label_spec.specs.Labels.{Walk, over, bad, label, longestName, from, hashed}
 use Rattle.label_spec.specs.LabelLaws.{resume, from-end, hash-in}
-use Rattle.label_spec.specs.File.{refusal, judged}
+use Rattle.terms.specs.Refusals.{refusal}
+use Rattle.label_spec.specs.File.{judged}
 use Rattle.label_spec.specs.Scans.{known, clash, judge}
 use Rattle.label_spec.specs.Records.{markOf}
 use Rattle.label_spec.specs.RecordLaws.{mark-hashed}

@@ -8,7 +8,7 @@ use lib.ListN.{length, getD}
 use Rattle.label_spec.specs.Names.{pick, nameIn, ignored, blank}
 use Rattle.label_spec.specs.Labels.{Walk, over, bad, label, from, hashed}
 use Rattle.label_spec.specs.LabelLaws.{eqAt, spotAt, resume}
-use Rattle.label_spec.specs.File.{refusal}
+use Rattle.terms.specs.Refusals.{refusal}
 use Rattle.label_spec.specs.Scans.{known, judge}
 use Rattle.label_spec.specs.declared.Label.{Label}
 use Rattle.label_spec.specs.declared.Label.the-variants.{At, Bad, None}

@@ -6,7 +6,8 @@ ghost use Prim.Native.Nat.{_+_, _-_, _<_, _≤_};
 ghost use lib.ListN.{length, take, drop};
 ghost use Rattle.label_spec.specs.Names.{norm};
 ghost use Rattle.label_spec.specs.Labels.{from, hashed};
-ghost use Rattle.label_spec.specs.File.{refusal, openedAt, opened, judged, labelled};
+ghost use Rattle.terms.specs.Refusals.{refusal};
+ghost use Rattle.label_spec.specs.File.{openedAt, opened, judged, labelled};
 ghost use Rattle.label_spec.specs.Records.{recordOf, recordFor, textOf};
 ghost use Rattle.label.specs.Answers.{Passed, TitleAt, openIn, walkedIn, labelledIn, foundIn, findIn};
 ghost use Rattle.label.specs.Post.{Told};
@@ -78,7 +79,7 @@ pub fn past_space(s: &[u8], at: usize) -> usize
 fn untitled(place: usize) -> Opened
     ensures { λ r. ⌜ r ≡ Opened.Refused (refusal 21 place) ⌝ }
 {
-    Opened::Refused(Refusal { number: 21, place })
+    Opened::Refused(Refusal::new(21, place))
 }
 
 // The label whose `##` stands here, if it is TITLE.
@@ -117,7 +118,7 @@ pub fn open_title(file: &[u8]) -> Opened
 fn fault(number: u64, place: usize) -> Walked
     ensures { λ r. ⌜ r ≡ Walked.Refused (refusal number place) ⌝ }
 {
-    Walked::Refused(Refusal { number, place })
+    Walked::Refused(Refusal::new(number, place))
 }
 
 // The next label by itself: 22 without one, 20 if it is bad, END, and 24 if it is TITLE.
@@ -217,15 +218,19 @@ pub fn find_record(part: &[u8], start: usize, stop: usize, name: &[u8]) -> Found
     }
 }
 
+// The file is longer than a file may be (19).
+fn too_long() -> Labelled
+    ensures { λ r. ⌜ r ≡ Labelled.Refused (refusal 19 0) ⌝ }
+{
+    Labelled::Refused(Refusal::new(19, 0))
+}
+
 // What the labels of a file say: 19, 21, then 20, 22, 23, 24 in one walk; or the places of TITLE and END.
 pub fn labels(file: &[u8]) -> Labelled
     ensures { λ r. ⌜ (r ≡ labelled (now (file .entry))) × labelledIn (now (file .entry)) r ⌝ }
 {
     if file.len() > LONGEST_FILE {
-        return Labelled::Refused(Refusal {
-            number: 19,
-            place: 0,
-        });
+        return too_long();
     }
     match open_title(file) {
         Opened::Refused(refusal) => Labelled::Refused(refusal),

@@ -9,7 +9,8 @@ use Rattle.label_spec.specs.declared.Record.{Record}
 use Rattle.label_spec.specs.Names.{blank, ignored, upper, norm, sames, TITLE, END}
 use Rattle.label_spec.specs.Labels.{eqIn, headed, step, walk, from, hashed}
 use Rattle.label_spec.specs.Space.{space, opens, past, pastAt}
-use Rattle.label_spec.specs.File.{refusal, longestFile, titled, openedAt, opened, member, twice, judged, placed, afterTitle, labelled}
+use Rattle.terms.specs.Refusals.{refusal}
+use Rattle.label_spec.specs.File.{longestFile, titled, openedAt, opened, member, twice, judged, placed, afterTitle, labelled}
 use Rattle.label_spec.specs.Records.{markOf, recordOf, asRecord, recordIn, recordFor}
 
 -- A file too long: 19 at 0, before all else.

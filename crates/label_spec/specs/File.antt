@@ -4,17 +4,13 @@ use mathlib.Core.List.{List, [], _∷_, _++_}
 use Prim.Native.Nat.{ℕ, _+_}
 use lib.Dec.{leb}
 use lib.ListN.{length}
-use Rattle.terms.specs.declared.Refusal.{Refusal}
+use Rattle.terms.specs.Refusals.{refusal}
 use Rattle.label_spec.specs.declared.Opened.{Opened}
 use Rattle.label_spec.specs.declared.Walked.{Walked}
 use Rattle.label_spec.specs.declared.Labelled.{Labelled}
 use Rattle.label_spec.specs.Names.{pick, sames, TITLE, END}
 use Rattle.label_spec.specs.Labels.{Walk, over, bad, label, from, hashed}
 use Rattle.label_spec.specs.Space.{pastSpace}
-
--- The refusal of a number at a place.
-abbrev pub refusal : ℕ → ℕ → Refusal
-refusal n p = record { number = n; place = p }
 
 -- "At most 1,048,576 bytes" (19).
 abbrev pub longestFile : ℕ

@@ -7,7 +7,7 @@ use lib.Dec.{ltb}
 use Rattle.label_spec.specs.declared.Walked.{Walked}
 use Rattle.label_spec.specs.Names.{pick, sames, TITLE, END}
 use Rattle.label_spec.specs.Labels.{Walk, over, bad, label}
-use Rattle.label_spec.specs.File.{refusal}
+use Rattle.terms.specs.Refusals.{refusal}
 
 -- The inner scan: does a label before the place m have the name w?
 unfoldable pub known : ℕ → List ℕ → Walk → Bool
