@@ -36,7 +36,7 @@ pub fn large_cases(cases: usize) -> usize {
 }
 
 /// One body case.
-fn body_case(random: &mut Random, index: usize, bodies: usize) -> BodyCase {
+pub fn body_case(random: &mut Random, index: usize, bodies: usize) -> BodyCase {
     if index + large_cases(bodies) >= bodies {
         return large_body_case(random, index % 12);
     }
@@ -181,7 +181,7 @@ pub fn pad(random: &mut Random, bytes: &mut Vec<u8>, wanted: usize) {
 }
 
 /// One writer's case.
-fn write_case(random: &mut Random, index: usize, writes: usize) -> WriteCase {
+pub fn write_case(random: &mut Random, index: usize, writes: usize) -> WriteCase {
     let large = index + large_cases(writes) >= writes;
     let points = if large { random.pick(&[65_536, 65_535, 10_000, 40_000]) } else { tables::points_to_write(random) };
     let mut frame = match random.below(12) {

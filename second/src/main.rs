@@ -6,10 +6,12 @@ mod file;
 mod frame;
 mod random;
 mod selftest;
+mod stored;
 mod stream;
 mod text;
 
 use frame::{Refusal, MISSING};
+use std::fs::File;
 use std::io::{self, BufReader, BufWriter, Read, Write};
 use std::process::exit;
 
@@ -20,6 +22,7 @@ const PROGRAM_POINTS: usize = 4_096;
 /// Prints how the program is used, and ends it.
 fn usage() -> ! {
     eprintln!("second cases --seed S --bodies A --writes B --files C > stream");
+    eprintln!("second stored --seed S --bodies A --writes B --files C --cases PATH --answers PATH");
     eprintln!("second count < stream");
     eprintln!("second body F L N < body");
     eprintln!("second file [--whole] < file    (--whole: the library's limits, not the program's)");
@@ -33,6 +36,12 @@ fn option(arguments: &[String], name: &str, otherwise: u64) -> u64 {
         Some(at) => arguments.get(at + 1).and_then(|text| text.parse().ok()).unwrap_or_else(|| usage()),
         None => otherwise,
     }
+}
+
+/// The word after an option.
+fn path<'a>(arguments: &'a [String], name: &str) -> &'a str {
+    let at = arguments.iter().position(|argument| argument == name).unwrap_or_else(|| usage());
+    arguments.get(at + 1).unwrap_or_else(|| usage())
 }
 
 /// All of standard input.
@@ -62,6 +71,15 @@ fn cases_command(arguments: &[String]) -> io::Result<()> {
     out.flush()
 }
 
+/// Writes the stored cases and their answers to the two files that are named.
+fn stored_command(arguments: &[String]) -> io::Result<()> {
+    let cases = BufWriter::new(File::create(path(arguments, "--cases"))?);
+    let answers = BufWriter::new(File::create(path(arguments, "--answers"))?);
+    let number = |name| option(arguments, name, 0) as usize;
+    let seed = option(arguments, "--seed", 1);
+    stored::Stored { cases, answers }.write(seed, number("--bodies"), number("--writes"), number("--files"))
+}
+
 /// Reads a body from standard input.
 fn body_command(arguments: &[String]) -> io::Result<()> {
     let [first, last, points] = arguments else { usage() };
@@ -89,6 +107,7 @@ fn main() -> io::Result<()> {
     let arguments: Vec<String> = std::env::args().skip(1).collect();
     match arguments.first().map(String::as_str) {
         Some("cases") => cases_command(&arguments[1..]),
+        Some("stored") => stored_command(&arguments[1..]),
         Some("count") => stream::count(BufReader::new(io::stdin().lock())),
         Some("body") => body_command(&arguments[1..]),
         Some("file") => file_command(&arguments[1..]),

@@ -1,0 +1,296 @@
+// Replays stored cases (second/README.md, "The stored cases"): tables to read, tables to write and files to read, with the answers of the second reader as the expected output.
+// Lent memory is filled first; a line `touched` tells that an entry past the answer was altered.
+use file_spec::FileRead;
+use file_spec::FileTable;
+use terms::Refusal;
+use terms::TableRead;
+use terms::TableWritten;
+
+// What stands before each case: F, L and N, the room that is lent, and how many bytes or ordinates follow.
+struct Asked {
+    first: i64,
+    last: i64,
+    points: usize,
+    room: usize,
+    count: usize,
+}
+
+// A byte as a number.
+fn wide(x: u8) -> u64 {
+    x as u64
+}
+
+// Eight bytes as a number, the highest first.
+fn number(b: &[u8; 8]) -> u64 {
+    let high = (wide(b[0]) << 56) | (wide(b[1]) << 48) | (wide(b[2]) << 40) | (wide(b[3]) << 32);
+    let low = (wide(b[4]) << 24) | (wide(b[5]) << 16) | (wide(b[6]) << 8) | wide(b[7]);
+    high | low
+}
+
+// The next number of the input, in eight bytes; 0 at its end.
+fn next_number() -> u64 {
+    let mut b = [0u8; 8];
+    io::read_full(0, &mut b);
+    number(&b)
+}
+
+// The next abscissa of the input: any number of 64 bits, in two's complement.
+fn next_abscissa() -> i64 {
+    let u = next_number();
+    if u > 9223372036854775807 {
+        let below = 18446744073709551615 - u;
+        return !(below as i64);
+    }
+    u as i64
+}
+
+// The next ordinate of the input, in four bytes: its distance from the mark of a missing one.
+fn next_ordinate() -> i32 {
+    let mut b = [0u8; 8];
+    io::read_full(0, &mut b[4..]);
+    let u = number(&b);
+    if u > 4294967295 {
+        return 0;
+    }
+    signed::entry_for(u)
+}
+
+// The next n ordinates of the input.
+fn take_ordinates(ys: &mut [i32], n: usize) {
+    let mut i = 0;
+    while i < ys.len() {
+        if i >= n {
+            return;
+        }
+        ys[i] = next_ordinate();
+        i += 1;
+    }
+}
+
+// The first n ordinates, and the line's end.
+fn show_points(out: &[i32; 1024], n: usize) {
+    let mut i = 0;
+    while i < 1024 {
+        if i < n {
+            io::write_all(1, b" ");
+            report::print_ordinate(out[i]);
+        }
+        i += 1;
+    }
+    report::end_line();
+}
+
+// A line if an ordinate from index n on is not what the slice was filled with.
+fn show_touched(out: &[i32; 1024], n: usize) {
+    let mut i = 0;
+    while i < 1024 {
+        if i >= n {
+            if out[i] != -1234567891 {
+                io::write_all(1, b"touched\n");
+                return;
+            }
+        }
+        i += 1;
+    }
+}
+
+// A line if a byte from index n on is not what the slice was filled with.
+fn show_touched_text(text: &[u8], n: usize) {
+    let mut i = 0;
+    while i < text.len() {
+        if i >= n {
+            if text[i] != b'~' {
+                io::write_all(1, b"touched\n");
+                return;
+            }
+        }
+        i += 1;
+    }
+}
+
+// The first n bytes of a text, and a line's end.
+fn show_text(text: &[u8], n: usize) {
+    if n <= text.len() {
+        io::write_all(1, &text[0..n]);
+    }
+    report::end_line();
+}
+
+// The answer to a body: `ok`, the points and the ordinates, or the refusal.
+fn show_read(answer: TableRead, out: &[i32; 1024]) {
+    match answer {
+        TableRead::Accepted(n) => {
+            io::write_all(1, b"ok ");
+            io::print_decimal(1, n as u64);
+            show_points(out, n);
+            show_touched(out, n);
+        }
+        TableRead::Refused(r) => {
+            report::print_refusal(r);
+            show_touched(out, 0);
+        }
+    }
+}
+
+// The answer to a table: `ok`, the length and the text from the next line on, or the refusal.
+fn show_written(answer: TableWritten, text: &[u8]) {
+    match answer {
+        TableWritten::Length(n) => {
+            io::write_all(1, b"ok ");
+            io::print_decimal(1, n as u64);
+            report::end_line();
+            show_text(text, n);
+            show_touched_text(text, n);
+        }
+        TableWritten::Refused(r) => {
+            report::print_refusal(r);
+            show_touched_text(text, 0);
+        }
+    }
+}
+
+// An accepted file: `ok`, the points, F and L, and the ordinates.
+fn show_table(table: FileTable, out: &[i32; 1024]) {
+    io::write_all(1, b"ok ");
+    io::print_decimal(1, table.points as u64);
+    io::write_all(1, b" ");
+    report::print_abscissa(table.first);
+    io::write_all(1, b" ");
+    report::print_abscissa(table.last);
+    show_points(out, table.points);
+    show_touched(out, table.points);
+}
+
+// The answer to a file: its table, or the refusal.
+fn show_file(answer: FileRead, out: &[i32; 1024]) {
+    match answer {
+        FileRead::Accepted(table) => show_table(table, out),
+        FileRead::Refused(r) => {
+            report::print_refusal(r);
+            show_touched(out, 0);
+        }
+    }
+}
+
+// What stands before the next case.
+fn next_asked() -> Asked {
+    let first = next_abscissa();
+    let last = next_abscissa();
+    let points = next_number() as usize;
+    let room = next_number() as usize;
+    let count = next_number() as usize;
+    Asked {
+        first,
+        last,
+        points,
+        room,
+        count,
+    }
+}
+
+// The next n bytes of the input, if there is room for them.
+fn take_bytes(bytes: &mut [u8], n: usize) {
+    if n <= bytes.len() {
+        io::read_full(0, &mut bytes[0..n]);
+    }
+}
+
+// Reads the table, or refusal 0 if this program has too little room.
+fn read_table(a: Asked, body: &[u8], out: &mut [i32]) -> TableRead {
+    let count = a.count;
+    let room = a.room;
+    if count <= body.len() {
+        if room <= out.len() {
+            return table_read::read_table(
+                a.first,
+                a.last,
+                a.points,
+                &body[0..count],
+                &mut out[0..room],
+            );
+        }
+    }
+    TableRead::Refused(Refusal::new(0, 0))
+}
+
+// Writes the table, or refusal 0 if this program has too little room.
+fn write_table(a: Asked, ys: &[i32], text: &mut [u8]) -> TableWritten {
+    let count = a.count;
+    let room = a.room;
+    if count <= ys.len() {
+        if room <= text.len() {
+            return table_write::write_table(
+                a.first,
+                a.last,
+                a.points,
+                &ys[0..count],
+                &mut text[0..room],
+            );
+        }
+    }
+    TableWritten::Refused(Refusal::new(0, 0))
+}
+
+// Reads the file, or refusal 0 if this program has too little room.
+fn read_file(a: Asked, file: &[u8], out: &mut [i32]) -> FileRead {
+    let count = a.count;
+    let room = a.room;
+    if count <= file.len() {
+        if room <= out.len() {
+            return file::read_file(&file[0..count], &mut out[0..room]);
+        }
+    }
+    FileRead::Refused(Refusal::new(0, 0))
+}
+
+// A body to read: its bytes follow.
+fn body_case(a: Asked) {
+    let mut body = [0u8; 4096];
+    take_bytes(&mut body, a.count);
+    let mut out = [-1234567891i32; 1024];
+    let answer = read_table(a, &body, &mut out);
+    show_read(answer, &out);
+}
+
+// A table to write: its ordinates follow.
+fn write_case(a: Asked) {
+    let mut ys = [0i32; 256];
+    take_ordinates(&mut ys, a.count);
+    let mut text = [b'~'; 4096];
+    let answer = write_table(a, &ys, &mut text);
+    show_written(answer, &text);
+}
+
+// A file to read: its bytes follow.
+fn file_case(a: Asked) {
+    let mut file = [0u8; 4096];
+    take_bytes(&mut file, a.count);
+    let mut out = [-1234567891i32; 1024];
+    let answer = read_file(a, &file, &mut out);
+    show_file(answer, &out);
+}
+
+// The next case, and that there was one: 1 is a body, 2 a table to write, 3 a file.
+fn next_case() -> bool {
+    let kind = next_number();
+    if kind == 0 {
+        return false;
+    }
+    let a = next_asked();
+    match kind {
+        1 => body_case(a),
+        2 => write_case(a),
+        _ => file_case(a),
+    }
+    true
+}
+
+fn main() {
+    let mut i = 0usize;
+    while i < 100000 {
+        if !next_case() {
+            return;
+        }
+        i += 1;
+    }
+}

@@ -1,0 +1,113 @@
+//! The stored cases of crates/replay: small cases in one file, their answers in another. README.md gives the format.
+
+use crate::body::read_body;
+use crate::cases::{body_case, files, write_case};
+use crate::file::read_file;
+use crate::frame::{Frame, Refusal, MISSING};
+use crate::random::Random;
+use crate::stream::{BodyCase, FileCase, WriteCase};
+use crate::text::write_body;
+use std::io::{self, Write};
+
+/// Most bytes of a body, a text or a file, and most ordinates lent and given, that crates/replay has room for.
+const MOST_BYTES: usize = 4_096;
+const MOST_LENT: u32 = 1_024;
+const MOST_GIVEN: usize = 256;
+
+/// The two files that are being written.
+pub struct Stored<C: Write, A: Write> {
+    pub cases: C,
+    pub answers: A,
+}
+
+impl<C: Write, A: Write> Stored<C, A> {
+    /// Writes as many cases of each kind as are asked for, none of them large.
+    pub fn write(&mut self, seed: u64, bodies: usize, writes: usize, files: usize) -> io::Result<()> {
+        let random = &mut Random::new(seed);
+        for _ in 0..bodies {
+            let case = small(|| body_case(random, 0, usize::MAX), |case| case.body.len() <= MOST_BYTES);
+            self.body(&case)?;
+        }
+        for _ in 0..writes {
+            let case = small(|| write_case(random, 0, usize::MAX), fits);
+            self.table(&case)?;
+        }
+        for _ in 0..files {
+            let case = small(|| files::file_case(random, 0, usize::MAX), |case| case.file.len() <= MOST_BYTES);
+            self.file(&case)?;
+        }
+        self.cases.flush()?;
+        self.answers.flush()
+    }
+
+    /// What stands before a case: its kind, F, L and N, the room and the count, in 64 bits each, big endian.
+    fn put_header(&mut self, kind: u64, frame: &Frame, room: u32, count: usize) -> io::Result<()> {
+        let numbers = [kind, frame.first as u64, frame.last as u64, frame.points, u64::from(room), count as u64];
+        numbers.iter().try_for_each(|number| self.cases.write_all(&number.to_be_bytes()))
+    }
+
+    /// A body and its answer.
+    fn body(&mut self, case: &BodyCase) -> io::Result<()> {
+        let room = case.room.min(MOST_LENT);
+        self.put_header(1, &case.frame, room, case.body.len())?;
+        self.cases.write_all(&case.body)?;
+        let Frame { first, last, points } = case.frame;
+        match read_body(first, last, points, &case.body, room as usize) {
+            Ok(ordinates) => writeln!(self.answers, "ok {points}{}", words(&ordinates)),
+            Err(fault) => self.refused(fault),
+        }
+    }
+
+    /// A table to write and its answer.
+    fn table(&mut self, case: &WriteCase) -> io::Result<()> {
+        self.put_header(2, &case.frame, case.room, case.ordinates.len())?;
+        for y in &case.ordinates {
+            self.cases.write_all(&((i64::from(*y) - i64::from(MISSING)) as u32).to_be_bytes())?;
+        }
+        let Frame { first, last, points } = case.frame;
+        match write_body(first, last, points, &case.ordinates, case.room as usize) {
+            Ok(text) => {
+                writeln!(self.answers, "ok {}", text.len())?;
+                self.answers.write_all(&text)?;
+                writeln!(self.answers)
+            }
+            Err(fault) => self.refused(fault),
+        }
+    }
+
+    /// A file and its answer.
+    fn file(&mut self, case: &FileCase) -> io::Result<()> {
+        let room = case.room.min(MOST_LENT);
+        self.put_header(3, &Frame { first: 0, last: 0, points: 0 }, room, case.file.len())?;
+        self.cases.write_all(&case.file)?;
+        match read_file(&case.file, room as usize) {
+            Ok(t) => writeln!(self.answers, "ok {} {} {}{}", t.points, t.first, t.last, words(&t.ordinates)),
+            Err(fault) => self.refused(fault),
+        }
+    }
+
+    /// The answer of a refusal.
+    fn refused(&mut self, fault: Refusal) -> io::Result<()> {
+        writeln!(self.answers, "refused {} {}", fault.number, fault.place)
+    }
+}
+
+/// The first case made that is small enough.
+fn small<T>(mut make: impl FnMut() -> T, fits: impl Fn(&T) -> bool) -> T {
+    loop {
+        let case = make();
+        if fits(&case) {
+            return case;
+        }
+    }
+}
+
+/// Whether there is room for a table to write and for its text.
+fn fits(case: &WriteCase) -> bool {
+    case.ordinates.len() <= MOST_GIVEN && case.room as usize <= MOST_BYTES
+}
+
+/// Ordinates with a blank before each, `?` for a missing one.
+fn words(ordinates: &[i32]) -> String {
+    ordinates.iter().map(|y| if *y == MISSING { " ?".into() } else { format!(" {y}") }).collect()
+}
