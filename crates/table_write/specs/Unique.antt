@@ -6,5 +6,5 @@ use lib.IntN.{ℤ}
 use Rattle.terms.specs.declared.TableWritten.{TableWritten}
 use Rattle.table_write.specs.Answers.{Answered}
 
-pub outcome-unique : {f l : ℤ} {n : ℕ} {ys : List ℤ} {out a b : List ℕ} {r q : TableWritten} → Answered f l n ys out a r → Answered f l n ys out b q → (r ≡ q) × (a ≡ b)
-outcome-unique x y = (x .answer ∙ sym (y .answer), x .bytes ∙ sym (y .bytes))
+pub outcome-unique : (f l : ℤ) (n : ℕ) (ys : List ℤ) {out a b : List ℕ} {r q : TableWritten} → Answered f l n ys out a r → Answered f l n ys out b q → (r ≡ q) × (a ≡ b)
+outcome-unique f l n ys x y = (x .answer ∙ sym (y .answer), x .bytes ∙ sym (y .bytes))
