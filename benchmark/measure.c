@@ -72,13 +72,13 @@ static void run_writer(const char *name, table_writer *write, const struct table
 }
 
 #ifdef HAVE_READ_FILE
-static void run_file(const uint8_t *file, size_t length, long times)
+static void run_file(const uint8_t *file, size_t length, size_t wanted, long times)
 {
-    int32_t *out = malloc(2400 * sizeof *out);
+    int32_t *out = malloc(wanted * sizeof *out);
     uint64_t place, points;
     int64_t first, last;
     for (long i = 0; i < times; i++)
-        if (lastarunc_read_file(file, length, out, 2400, &place, &points, &first, &last) || points != 2400)
+        if (lastarunc_read_file(file, length, out, wanted, &place, &points, &first, &last) || points != wanted)
             wrong("file");
 }
 
@@ -99,14 +99,14 @@ static void run_labels(size_t length, long times)
 static bool run(const char *name, const char *table, const char *times)
 {
     bool size = !strcmp(times, "size");
-    if (!strcmp(table, "file")) {
-        size_t length;
-        uint8_t *file = make_file(&length);
+    if (!strncmp(table, "file-", 5)) {
+        size_t length, points = strtoul(table + 5, NULL, 10);
+        uint8_t *file = make_file(points, &length);
         if (size)
-            printf("%zu 2400\n", length);
+            printf("%zu %zu\n", length, points);
 #ifdef HAVE_READ_FILE
         else
-            run_file(file, length, atol(times));
+            run_file(file, length, points, atol(times));
         return true;
 #endif
         (void)file;
@@ -137,7 +137,7 @@ int main(int argc, char **argv)
 {
     bool timed = argc == 5 && !strcmp(argv[1], "-time");
     if (argc != 4 + timed) {
-        fprintf(stderr, "measure [-time] FUNCTION typical|quiet|noisy|file|labels-BYTES TIMES|size\n");
+        fprintf(stderr, "measure [-time] FUNCTION typical|quiet|noisy|file-POINTS|labels-BYTES TIMES|size\n");
         return 2;
     }
     struct timespec before, after;

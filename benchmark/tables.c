@@ -90,7 +90,7 @@ struct table *make_table(const char *name)
     return NULL;
 }
 
-uint8_t *make_file(size_t *length)
+uint8_t *make_file(size_t points, size_t *length)
 {
     static const char *const before[] = {
         "TITLE=drift time spectrum, synthetic", "JCAMP-DX=5.01", "DATA TYPE=ION MOBILITY SPECTRUM",
@@ -102,12 +102,12 @@ uint8_t *make_file(size_t *length)
         ".REPETITION RATE=50", ".DRIFT CHAMBER=12", ".AVERAGES=64", ".TEMPERATURE=20", "RESOLUTION=0.02", "DELTAX=0.02",
         "XUNITS=MILLISECONDS", "YUNITS=PICOAMPERES",
     };
-    struct table *t = table_of(&spectra[0], 63, 2400, 479800);
+    struct table *t = table_of(&spectra[0], 63, points, 200 * ((int64_t)points - 1));
     char *file = memory(t->length + 8192), *p = file;
     for (size_t k = 0; k < sizeof before / sizeof *before; k++)
         p += sprintf(p, "##%s\r\n", before[k]);
-    p += sprintf(p, "##XFACTOR=0.1\r\n##YFACTOR=1\r\n##FIRSTX=0\r\n##LASTX=47.98\r\n##NPOINTS=2400\r\n##FIRSTY=%d\r\n",
-                 t->ordinates[0]);
+    p += sprintf(p, "##XFACTOR=0.1\r\n##YFACTOR=1\r\n##FIRSTX=0\r\n##LASTX=%.2f\r\n##NPOINTS=%zu\r\n##FIRSTY=%d\r\n",
+                 0.02 * ((double)points - 1), points, t->ordinates[0]);
     p += sprintf(p, "##XYDATA=(X++(Y..Y))\r\n");
     memcpy(p, t->body, t->length);
     p += t->length;

@@ -17,8 +17,8 @@ struct table {
 /* Makes the table of this name (typical, quiet or noisy) with 65,536 points; NULL if there is no such name. */
 struct table *make_table(const char *name);
 
-/* Makes a file with 40 records and a typical table of 2,400 points; its length goes to *length. */
-uint8_t *make_file(size_t *length);
+/* Makes a file with 40 records and a typical table of so many points; its length goes to *length. */
+uint8_t *make_file(size_t points, size_t *length);
 
 /* Makes a file of so many bytes, full of short different labels: the worst case of comparing each with all before it. */
 uint8_t *make_labels(size_t length);
