@@ -84,9 +84,11 @@ static struct table *table_of(const struct spectrum *s, uint64_t seed, size_t po
 
 struct table *make_table(const char *name)
 {
+    const char *dash = strchr(name, '-');
+    size_t letters = dash ? (size_t)(dash - name) : strlen(name), points = dash ? strtoul(dash + 1, NULL, 10) : 65536;
     for (size_t k = 0; k < sizeof spectra / sizeof *spectra; k++)
-        if (!strcmp(name, spectra[k].name))
-            return table_of(&spectra[k], 1981 + k, 65536, 13107000); /* a point each 200 thousandths */
+        if (strlen(spectra[k].name) == letters && !strncmp(name, spectra[k].name, letters))
+            return table_of(&spectra[k], 1981 + k, points, 200 * ((int64_t)points - 1)); /* a point each 200 thousandths */
     return NULL;
 }
 
