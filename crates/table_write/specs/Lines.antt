@@ -2,7 +2,7 @@
 use mathlib.Core.Path.{_≡_}
 use mathlib.Core.Bool.{Bool, true, false}
 use mathlib.Core.List.{List, [], _∷_, _++_}
-use Prim.Native.Nat.{ℕ, zero, suc, _+_, _*_, _≤_, _<_}
+use Prim.Native.Nat.{ℕ, zero, suc, _+_, _-_, _*_, _≤_, _<_}
 use lib.ListN.{length, getD, drop}
 use Rattle.alphabet_spec.specs.Logic.{pick}
 use Rattle.table_spec.specs.Writing.{check, text}
@@ -39,9 +39,23 @@ pub record Wrote (head-of : ℕ → List ℕ) (ys : List ℕ) (i at : ℕ) (t o 
   pub same : length o' ≡ length o
   pub on : i < s .given
   pub inside : s .given ≤ length ys
-  pub most : s .at ≤ at + 64
+  pub most : s .at + 64 * i ≤ at + 64 * s .given
   pub column-most : s .column ≤ s .at
   pub small : s .last < 4294967296
+
+-- groups were counted from the state s on: r is the state after them, and what is left ends at the same place
+pub record Counted (ys : List ℕ) (s r : State) : Type 0 where
+  pub law : (hd : ℕ → List ℕ) → r .at + length (from hd ys r) ≡ s .at + length (from hd ys s)
+  pub later : s .at ≤ r .at
+  pub on : s .given ≤ r .given
+  pub inside : r .given ≤ length ys
+  pub most : r .at + 64 * s .given ≤ s .at + 64 * r .given
+  pub column-most : r .column ≤ r .at
+  pub started : Started r
+
+-- the state after differences on one line, with i points given, the last of them p
+abbrev pub difference-state : State → ℕ → ℕ → ℕ → State
+difference-state s i p column = record { given = i; at = s .at + (column - s .column); column = column; last = p; dif = true }
 
 -- what the pass keeps, from the state where its loop began
 pub record Going (head-of : ℕ → List ℕ) (ys o₀ : List ℕ) (s₀ : State) (o : List ℕ) (s : State) (i : ℕ) : Type 0 where

@@ -22,8 +22,17 @@ pub fn further_digits(v: u64) -> usize
     requires { ⌜ v < 10000000000 ⌝ }
     ensures { λ r. ⌜ (r ≡ further 9 v) × (r ≤ 9) ⌝ }
 {
-    let mut n: usize = 0;
-    let mut limit: u64 = 10;
+    if v < 10 {
+        return 0;
+    }
+    if v < 100 {
+        return 1;
+    }
+    if v < 1000 {
+        return 2;
+    }
+    let mut n: usize = 3;
+    let mut limit: u64 = 10000;
     while limit <= v {
         limit = limit * 10;
         n = n + 1;

@@ -9,19 +9,24 @@ ghost use Rattle.frame.specs.Legal.{Sound};
 ghost use Rattle.table_write.specs.Pieces.{Put, headOf};
 ghost use Rattle.table_write.specs.Tokens.{ordinates};
 ghost use Rattle.table_write.specs.Answers.{Answered, FramedAnswer};
+use crate::counted::distance;
 use crate::heads::put_head;
 use crate::lines::put_close;
 use crate::lines::put_end;
-use crate::lines::turn;
+use crate::lines::step;
 use frame::Frame;
 use frame::Framed;
 use terms::Refusal;
 use terms::TableWritten;
 
+mod counted;
 mod digits;
 mod groups;
 mod heads;
 mod lines;
+
+// The most bytes of a line.
+const LONGEST_LINE: usize = 80;
 
 // A token: its number is `size`, and its first digit is written as `base` plus the digit. The next ordinate has the same token if it plus `down` is the one
 // before it plus `up`, and it is missing or not as `dif` says, which is true of the DIF form.
@@ -68,7 +73,7 @@ fn pass(ys: &[i32], text: &mut [u8], fr: Frame) -> usize
     };
     let mut i = 0;
     while i < n {
-        s = turn(ys, text, fr, s);
+        s = step(ys, text, fr, s);
         i = s.given;
     }
     let at = s.at;
@@ -76,18 +81,6 @@ fn pass(ys: &[i32], text: &mut [u8], fr: Frame) -> usize
     let last = s.last;
     let e = put_end(text, at);
     put_close(text, e, fr, dif, last)
-}
-
-// How far apart F and L are.
-fn spread(fr: Frame) -> u64
-    ensures { λ r. ⌜ r ≡ apart (fr .last) (fr .first) ⌝ }
-{
-    let first = fr.first;
-    let last = fr.last;
-    if first < last {
-        return last - first;
-    }
-    first - last
 }
 
 // A refusal of the writer: its place is 0.
@@ -121,7 +114,7 @@ fn write_framed(fr: Frame, ordinates: &[i32], text: &mut [u8]) -> TableWritten
         return refused(2);
     }
     let steps = (n - 1) as u64;
-    if spread(fr) < steps {
+    if distance(fr.last, fr.first) < steps {
         return refused(14);
     }
     let ys = &ordinates[..n];

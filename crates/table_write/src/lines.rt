@@ -11,7 +11,9 @@ ghost use Rattle.table_write.specs.Pieces.{Put, headOf};
 ghost use Rattle.table_write.specs.Tokens.{ordinates, Found};
 ghost use Rattle.table_write.specs.Lines.{opening, after, from, Wrote, Started};
 use crate::Group;
+use crate::LONGEST_LINE;
 use crate::State;
+use crate::counted::count_line;
 use crate::digits::further_digits;
 use crate::digits::put;
 use crate::digits::put_number;
@@ -20,9 +22,6 @@ use crate::groups::put_group;
 use crate::heads::put_head;
 use frame::Frame;
 use signed::ordinate_at;
-
-// The most bytes of a line.
-const LONGEST_LINE: usize = 80;
 
 // CR LF. The place after it.
 pub fn put_end(out: &mut [u8], at: usize) -> usize
@@ -136,7 +135,7 @@ fn break_line(ys: &[i32], out: &mut [u8], fr: Frame, s: State, g: Group) -> Stat
 }
 
 // One group more, on this line if it fits whole, else on a new one.
-pub fn turn(ys: &[i32], out: &mut [u8], fr: Frame, s: State) -> State
+fn turn(ys: &[i32], out: &mut [u8], fr: Frame, s: State) -> State
     requires { ⌜ Sound fr × (length (now ys) ≡ fr .points) × Started s × (s .given < length (now ys)) × (s .at < 2 ^ 57) × (s .column ≤ s .at) ⌝ }
     ensures { λ r. ⌜ Wrote (headOf fr) (ordinates (now (ys .entry))) (s .given) (s .at) (from (headOf fr) (ordinates (now (ys .entry))) s) (now (out .entry)) (now (out .exit)) r ⌝ }
 {
@@ -151,4 +150,16 @@ pub fn turn(ys: &[i32], out: &mut [u8], fr: Frame, s: State) -> State
         return fill(ys, out, fr, i, p, g, at, column);
     }
     break_line(ys, out, fr, s, g)
+}
+
+// One group more; where the lent bytes have ended, so that nothing is stored, all groups that fit on its line.
+pub fn step(ys: &[i32], out: &mut [u8], fr: Frame, s: State) -> State
+    requires { ⌜ Sound fr × (length (now ys) ≡ fr .points) × Started s × (s .given < length (now ys)) × (s .at < 2 ^ 56) × (s .column ≤ s .at) ⌝ }
+    ensures { λ r. ⌜ Wrote (headOf fr) (ordinates (now (ys .entry))) (s .given) (s .at) (from (headOf fr) (ordinates (now (ys .entry))) s) (now (out .entry)) (now (out .exit)) r ⌝ }
+{
+    let r = turn(ys, out, fr, s);
+    if r.at < out.len() {
+        return r;
+    }
+    count_line(ys, r)
 }

@@ -15,7 +15,7 @@ use Rattle.table_write.proofs.pass.Lts as lts
 use Rattle.table_write.proofs.heads.put_head.Reads as put-head-reads
 use Rattle.table_write.proofs.lines.put_close.Reads as put-close-reads
 use Rattle.table_write.proofs.lines.put_end.Reads as put-end-reads
-use Rattle.table_write.proofs.lines.turn.Reads as turn-reads
+use Rattle.table_write.proofs.lines.step.Reads as step-reads
 
 abbrev Inv-loop : tie.InvT-loop
 Inv-loop ys text₀ fr n start s₀ i₀ text s i = Going (headOf fr) (ordinates ys) text₀ s₀ text s i
@@ -32,19 +32,19 @@ loop-holds : tie.Need-loop-holds Inv-loop μ-loop
 loop-holds c = starts _ _ _ _ (c .before .before .put-head .ensures .1)
 
 -- src/lib.rt:70:9
-turn-requires : tie.Need-turn-requires Inv-loop μ-loop
-turn-requires c κs = let g = c .before .before .loop .inv in let p = c .before .before .before .before .before .before .before .before .pre in let m = g .most in
+step-requires : tie.Need-step-requires Inv-loop μ-loop
+step-requires c κs = let g = c .before .before .loop .inv in let p = c .before .before .before .before .before .before .before .before .pre in let m = g .most in
     let i = g .is in let few = p .0 .few in
     (p .0, p .1, g .started, omega (arith, c .before .loop-test .taken), omega (arith, p .1, c .before .loop-test .taken), g .column-most)
 
 -- src/lib.rt:69:5
 loop-less : tie.Need-loop-less Inv-loop μ-loop
-loop-less c = let w = c .before .before .turn .ensures in let g = c .before .before .before .before .before .loop .inv in let on = w .on in let i = g .is in omega
+loop-less c = let w = c .before .before .step .ensures in let g = c .before .before .before .before .before .loop .inv in let on = w .on in let i = g .is in omega
     (arith, c .before .before .before .before .loop-test .taken)
 
 -- src/lib.rt:69:5
 loop-again : tie.Need-loop-again Inv-loop μ-loop
-loop-again c = goes _ _ (c .before .before .before .before .before .loop .inv) (c .before .before .turn .ensures)
+loop-again c = goes _ _ (c .before .before .before .before .before .loop .inv) (c .before .before .step .ensures)
 
 -- src/lib.rt:76:9
 put-end-requires : tie.Need-put-end-requires Inv-loop μ-loop
@@ -82,7 +82,7 @@ pass-spec =
     μ-loop
     put-head-requires
     loop-holds
-    turn-requires
+    step-requires
     loop-less
     loop-again
     put-end-requires

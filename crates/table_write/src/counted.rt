@@ -1,0 +1,140 @@
+// Groups past the end of the lent bytes: nothing is stored there, so that they are only counted. A text is measured in this way.
+ghost use mathlib.Core.Path.{_≡_};
+ghost use mathlib.Core.Bool.{true};
+ghost use Prim.Native.Nat.{ℕ, _+_, _^_, _≤_, _<_};
+ghost use lib.ListN.{length};
+ghost use Rattle.table_spec.specs.Frame.{apart};
+ghost use Rattle.table_write.specs.Tokens.{ordinates, Found, lone};
+ghost use Rattle.table_write.specs.Lines.{Started, Counted, difference-state};
+use crate::Group;
+use crate::LONGEST_LINE;
+use crate::State;
+use crate::digits::further_digits;
+use crate::groups::find;
+use signed::ordinate_at;
+
+// How far apart two numbers are.
+pub fn distance(a: u64, b: u64) -> u64
+    ensures { λ r. ⌜ r ≡ apart a b ⌝ }
+{
+    if a < b {
+        return b - a;
+    }
+    a - b
+}
+
+// The bytes of the DIF for y after p, if it stands alone before z; else more than a line has: y is missing, or z may have the same DIF.
+fn lone_width(p: u64, y: u64, z: u64) -> usize
+    requires { ⌜ (p < 4294967296) × (y < 4294967296) × (z < 4294967296) ⌝ }
+    ensures { λ r. ⌜ (r ≡ lone p y z) × (r ≤ 81) ⌝ }
+{
+    if y == 0 {
+        return 81;
+    }
+    if p + z == y + y {
+        return 81;
+    }
+    let further = further_digits(distance(p, y));
+    1 + further
+}
+
+// The state after differences on one line: i points given, the last of them p, the line's bytes so far.
+fn state_after(s: State, i: usize, p: u64, column: usize) -> State
+    requires { ⌜ (s .column ≤ column) × (column ≤ 2 ^ 59) × (s .at < 2 ^ 59) ⌝ }
+    ensures { λ r. ⌜ r ≡ difference-state s i p column ⌝ }
+{
+    let start = s.column;
+    let before = s.at;
+    let at = before + (column - start);
+    State {
+        given: i,
+        at,
+        column,
+        last: p,
+        dif: true,
+    }
+}
+
+// Points in DIF form without DUP, after one in DIF form, as long as they fit on the line: most points of most tables.
+fn lone_differences(ys: &[i32], s: State) -> State
+    requires { ⌜ Started s × (s .dif ≡ true) × (0 < s .last) × (s .given < length (now ys)) × (length (now ys) ≤ 65536) × (s .column ≤ s .at) × (s .at < 2 ^ 58) ⌝ }
+    ensures { λ r. ⌜ Counted (ordinates (now (ys .entry))) s r × (r .given < length (now (ys .entry))) ⌝ }
+{
+    let n = ys.len();
+    let mut i = s.given;
+    let mut p = s.last;
+    let mut column = s.column;
+    let mut y = ordinate_at(ys, i);
+    let mut next = i + 1;
+    while next < n {
+        let z = ordinate_at(ys, next);
+        let all = column + lone_width(p, y, z);
+        if all > LONGEST_LINE {
+            return state_after(s, i, p, column);
+        }
+        i = next;
+        p = y;
+        column = all;
+        y = z;
+        next = i + 1;
+    }
+    state_after(s, i, p, column)
+}
+
+// The same from any state.
+fn count_differences(ys: &[i32], s: State) -> State
+    requires { ⌜ Started s × (s .given < length (now ys)) × (length (now ys) ≤ 65536) × (s .column ≤ s .at) × (s .at < 2 ^ 58) ⌝ }
+    ensures { λ r. ⌜ Counted (ordinates (now (ys .entry))) s r × (r .given < length (now (ys .entry))) ⌝ }
+{
+    if s.last == 0 {
+        return s;
+    }
+    if s.dif {
+        return lone_differences(ys, s);
+    }
+    s
+}
+
+// The state after the group g.
+fn count_group(ys: &[i32], s: State, g: Group) -> State
+    requires { ⌜ Found (ordinates (now ys)) (s .given) (s .last) g × (s .column + g .width ≤ 80) × (length (now ys) ≤ 65536) × (s .column ≤ s .at) × (s .at < 2 ^ 59) ⌝ }
+    ensures { λ r. ⌜ Counted (ordinates (now (ys .entry))) s r × (s .given < r .given) ⌝ }
+{
+    let i = s.given;
+    let at = s.at;
+    let column = s.column;
+    let more = g.more;
+    let width = g.width;
+    let dif = g.dif;
+    let index = i + more;
+    let last = ordinate_at(ys, index);
+    State {
+        given: index + 1,
+        at: at + width,
+        column: column + width,
+        last,
+        dif,
+    }
+}
+
+// The groups that fit on the line.
+pub fn count_line(ys: &[i32], s: State) -> State
+    requires { ⌜ Started s × (s .given ≤ length (now ys)) × (length (now ys) ≤ 65536) × (s .column ≤ s .at) × (s .at < 2 ^ 57) ⌝ }
+    ensures { λ r. ⌜ Counted (ordinates (now (ys .entry))) s r ⌝ }
+{
+    let n = ys.len();
+    let mut r = s;
+    let mut i = s.given;
+    while i < n {
+        let t = count_differences(ys, r);
+        let g = find(ys, t.given, t.last);
+        let column = t.column;
+        let width = g.width;
+        if column + width > LONGEST_LINE {
+            return t;
+        }
+        r = count_group(ys, t, g);
+        i = r.given;
+    }
+    r
+}
