@@ -2,7 +2,7 @@
 use mathlib.Core.Path.{_≡_, refl, sym, ap, _∙_}
 use mathlib.Core.Bool.{Bool, true, false}
 use mathlib.Core.List.{List, [], _∷_, _++_}
-use Prim.Native.Nat.{ℕ, zero, suc, _+_, _-_, _*_, _^_, _≤_, _<_}
+use Prim.Native.Nat.{ℕ, zero, suc, _+_, _-_, _*_, _≤_, _<_}
 use native.Mathlib.Omega.{arith}
 use lib.Dec.{ltb, eqb}
 use lib.ListN.{length, getD, drop, length-append}
@@ -18,7 +18,7 @@ use Rattle.table_write.specs.declared.State.{State}
 use Rattle.table_write.specs.Digits.{further}
 use Rattle.table_write.specs.Pieces.{Ahead, sets-past}
 use Rattle.table_write.specs.Tokens.{again, run, TokenFor, Found, group-at, lone}
-use Rattle.table_write.specs.Lines.{from, next-state, after, Started, Wrote, Counted, difference-state}
+use Rattle.table_write.specs.Lines.{from, next-state, after, Started, Wrote, Counted, Full, difference-state}
 use Rattle.table_write.proofs.TokenSteps.{found, again-not, dif-up, dif-same, dif-down}
 use Rattle.table_write.proofs.TextSteps.{from-fits}
 
@@ -103,8 +103,8 @@ module _ (ys : List ℕ) where
       let a₁ = a .later in let b₁ = b .later in let a₂ = a .on in let b₂ = b .on in let a₃ = a .most in let b₃ = b .most in
       record { law = λ hd. b .law hd ∙ a .law hd; later = omega arith; on = omega arith; inside = b .inside; most = omega arith; column-most = b .column-most; started = b .started }
 
-  pub counted-near : {s r : State} → Counted ys s r → length ys ≤ 65536 → s .at < 2 ^ 57 → r .at < 2 ^ 58
-  counted-near c l h = let most = c .most in let inside = c .inside in omega arith
+  pub counted-near : {s r : State} → Counted ys s r → length ys ≤ 65536 → r .at ≤ s .at + 4194304
+  counted-near c l = let most = c .most in let inside = c .inside in omega arith
 
   -- a group that fits
   module _ (s : State) (g : Group) (h : Found ys (s .given) (s .last) g) (l : s .column + g .width ≤ 80) (c : s .column ≤ s .at) (last : ℕ) (f : last ≡ getD ys (s .given + g .more) 0) (b : last < 4294967296) where
@@ -139,6 +139,12 @@ module _ (ys : List ℕ) where
           },
           omega arith,
         )
+
+  pub full-here : (r : State) (g : Group) → Found ys (r .given) (r .last) g → 80 < r .column + g .width → Full ys r
+  full-here r g h l = let width = h .width-is in record { breaks = λ _. omega arith }
+
+  pub full-end : (r : State) → length ys ≤ r .given → Full ys r
+  full-end r h = record { breaks = λ l. absurd (omega arith) }
 
 -- ---- the loop over lone differences
 
@@ -217,26 +223,39 @@ module _ (ys : List ℕ) (s : State) where
     pub lone-end : Counted ys s (difference-state s i p column)
     lone-end = t .counted
 
--- ---- a turn of the pass, and what was counted after it
+-- ---- what was counted, as a turn of the pass
 
-pub wrote-near : {hd : ℕ → List ℕ} {ys : List ℕ} {i at : ℕ} {t o o' : List ℕ} {r : State} → Wrote hd ys i at t o o' r → length ys ≤ 65536 → at < 2 ^ 56
-    → Started r × (r .at < 2 ^ 57)
-wrote-near w l h =
-    let on = w .on in let most = w .most in let inside = w .inside in (record { some = λ _. omega arith; small = w .small }, omega arith)
+module _ (hd : ℕ → List ℕ) (ys : List ℕ) {s t : State} (c : Counted ys s t) where
+  -- nothing is stored past the end
+  pub past : (x : List ℕ) (n : ℕ) (o : List ℕ) → length o ≤ s .at → Ahead x n o (s .at) (from hd ys s) → Ahead x n o (t .at) (from hd ys t)
+  past x n o l a =
+      let later = c .later in
+      record {
+        whole = sets-past o (t .at) (from hd ys t) (omega arith) ∙ sym (sets-past o (s .at) (from hd ys s) l) ∙ a .whole;
+        ends = c .law hd ∙ a .ends;
+      }
 
-pub wrote-counted : (hd : ℕ → List ℕ) (ys : List ℕ) {i at : ℕ} {t o o' : List ℕ} {r r' : State} → Wrote hd ys i at t o o' r → length o' ≤ r .at → Counted ys r r'
-    → Wrote hd ys i at t o o' r'
-wrote-counted hd ys {o' = o'} {r = r} {r' = r'} w l c =
-    let later = c .later in let on = c .on in let most = c .most in let on₀ = w .on in let most₀ = w .most in
-    record {
-      law = λ x n a. let b = w .law x n a in record {
-        whole = sets-past o' (r' .at) (from hd ys r') (omega arith) ∙ sym (sets-past o' (r .at) (from hd ys r) l) ∙ b .whole;
-        ends = c .law hd ∙ b .ends;
-      };
-      same = w .same;
-      on = omega arith;
-      inside = c .inside;
-      most = omega arith;
-      column-most = c .column-most;
-      small = c .started .small;
-    }
+  pub counted-all : (o : List ℕ) → length o ≤ s .at → s .given < t .given → Wrote hd ys (s .given) (s .at) (from hd ys s) o o t
+  counted-all o l h =
+      record {
+        law = λ x n a. past x n o l a;
+        same = refl;
+        on = h;
+        inside = c .inside;
+        most = c .most;
+        column-most = c .column-most;
+        small = c .started .small;
+      }
+
+  pub counted-wrote : {o o' : List ℕ} {r : State} → length o ≤ s .at → Wrote hd ys (t .given) (t .at) (from hd ys t) o o' r → Wrote hd ys (s .given) (s .at) (from hd ys s) o o' r
+  counted-wrote {o = o} l w =
+      let on = c .on in let most = c .most in let on₀ = w .on in let most₀ = w .most in
+      record {
+        law = λ x n a. w .law x n (past x n o l a);
+        same = w .same;
+        on = omega arith;
+        inside = w .inside;
+        most = omega arith;
+        column-most = w .column-most;
+        small = w .small;
+      }

@@ -2,7 +2,7 @@
 use mathlib.Core.Path.{_≡_, refl, sym, ap, _∙_}
 use mathlib.Core.Bool.{Bool, true, false}
 use mathlib.Core.List.{List, [], _∷_, _++_}
-use Prim.Native.Nat.{ℕ, zero, suc, _+_, _-_, _*_, _≤_, _<_}
+use Prim.Native.Nat.{ℕ, zero, suc, _+_, _-_, _*_, _^_, _≤_, _<_}
 use native.Mathlib.Omega.{arith}
 use lib.Dec.{leb}
 use lib.ListN.{length, getD}
@@ -16,8 +16,8 @@ use Rattle.table_write.specs.declared.Group.{Group}
 use Rattle.table_write.specs.declared.State.{State}
 use Rattle.table_write.specs.Pieces.{Put, Ahead, number, put-then, ahead-of}
 use Rattle.table_write.specs.Tokens.{Found, group-at, count-at, dif-at}
-use Rattle.table_write.specs.Lines.{from, next-state, after, opening, Started, Wrote, Going}
-use Rattle.table_write.proofs.TextSteps.{from-fits, from-break, from-end, start, lines-start}
+use Rattle.table_write.specs.Lines.{from, next-state, after, opening, start, Started, Wrote, Going}
+use Rattle.table_write.proofs.TextSteps.{from-fits, from-break, from-end, lines-start}
 
 -- ---- the start of a line, and the last line
 
@@ -101,17 +101,23 @@ module _ (hd : ℕ → List ℕ) (ys : List ℕ) where
 
   -- ---- the whole
 
-  pub starts : (o : List ℕ) (n : ℕ) → n ≤ 15 → Going hd ys o (start hd n) o (start hd n) 0
-  starts o n h =
-      record {
-        is = refl;
-        law = λ x m r. r;
-        same = refl;
-        inside = omega arith;
-        most = omega arith;
-        column-most = omega arith;
-        started = record { some = λ e. no-way e; small = omega arith };
-      }
+  pub starts : (o : List ℕ) (s : State) (n : ℕ) → s ≡ start n → n ≤ 15 → Going hd ys o s o s 0
+  starts o s n e h = rw e (begun o n h)
+    where
+      begun : (o : List ℕ) (n : ℕ) → n ≤ 15 → Going hd ys o (start n) o (start n) 0
+      begun o n h =
+          record {
+            is = refl;
+            law = λ x m r. r;
+            same = refl;
+            inside = omega arith;
+            most = omega arith;
+            column-most = omega arith;
+            started = record { some = λ e. no-way e; small = omega arith };
+          }
+
+  pub going-near : {o₀ o : List ℕ} {s₀ s : State} {i : ℕ} → Going hd ys o₀ s₀ o s i → length ys ≤ 65536 → s .at < 2 ^ 56
+  going-near g l = let most = g .most in let inside = g .inside in omega arith
 
   pub goes : {o₀ o o' : List ℕ} {s₀ s r : State} {i : ℕ} → Going hd ys o₀ s₀ o s i → Wrote hd ys (s .given) (s .at) (from hd ys s) o o' r → Going hd ys o₀ s₀ o' r (r .given)
   goes g w =
@@ -132,15 +138,16 @@ module _ (hd : ℕ → List ℕ) (ys : List ℕ) where
   again-as : {x o : List ℕ} {n at : ℕ} {t t' : List ℕ} → t ≡ t' → Ahead x n o at t → Ahead x n o at t'
   again-as e r = rw e at r
 
-  pub finish : {o o₁ o₃ o₄ o₅ : List ℕ} {st e r i : ℕ} {s : State} (n : ℕ) → 0 < length ys → st ≤ 15 → Put o 0 o₁ st (hd 0) → Going hd ys o₁ (start hd st) o₃ s i
-      → length ys ≤ i → length ys ≡ n → Put o₃ (s .at) o₄ e (13 ∷ 10 ∷ []) → Put o₄ e o₅ r (close hd (s .dif) n (s .last)) → Put o 0 o₅ r (lines-of hd ys)
-  finish {o = o} {st = st} {s = s} n l b h g k m u v =
+  pub finish : {o o₁ o₃ o₅ : List ℕ} {st r i : ℕ} {s₀ s : State} (n : ℕ) → 0 < length ys → s₀ ≡ start st → st ≤ 15 → Put o 0 o₁ st (hd 0) → Going hd ys o₁ s₀ o₃ s i
+      → length ys ≤ i → length ys ≡ n → Put o₃ (s .at) o₅ r (13 ∷ 10 ∷ close hd (s .dif) n (s .last)) → Put o 0 o₅ r (lines-of hd ys)
+  finish {o = o} {o₁ = o₁} {o₃ = o₃} {st = st} {i = i} {s = s} n l q b h g₀ k m v =
+      let g : Going hd ys o₁ (start st) o₃ s i = rw q at g₀ in
       let all = lines-of hd ys in
       let a : Ahead (sets o 0 all) (0 + length all) o 0 all = record { whole = refl; ends = refl } in
-      let t : all ≡ hd 0 ++ from hd ys (start hd st) = lines-start hd ys st l (omega (arith, h .next)) (omega arith) in
-      let d = g .law (sets o 0 all) (0 + length all) (ahead-of (from hd ys (start hd st)) h (again-as t a)) in
+      let t : all ≡ hd 0 ++ from hd ys (start st) = lines-start hd ys st l (omega (arith, h .next)) (omega arith) in
+      let d = g .law (sets o 0 all) (0 + length all) (ahead-of (from hd ys (start st)) h (again-as t a)) in
       let is = g .is in let inside = g .inside in
       let j : s .given ≡ n = omega arith in
       let f : from hd ys s ≡ 13 ∷ 10 ∷ close hd (s .dif) n (s .last) = from-end hd ys s (omega arith) ∙ rw j refl in
-      let y = done (ahead-of (close hd (s .dif) n (s .last)) u (again-as f d)) v in
+      let y = done (again-as f d) v in
       record { next = y .0; stored = y .1 }

@@ -53,6 +53,14 @@ pub record Counted (ys : List ℕ) (s r : State) : Type 0 where
   pub column-most : r .column ≤ r .at
   pub started : Started r
 
+-- the next group, if there is one, does not fit on the line
+pub record Full (ys : List ℕ) (r : State) : Type 0 where
+  pub breaks : r .given < length ys → 80 < r .column + length (group-at ys (r .given) (r .last))
+
+-- the state after the first head
+abbrev pub start : ℕ → State
+start n = record { given = 0; at = n; column = n; last = 0; dif = false }
+
 -- the state after differences on one line, with i points given, the last of them p
 abbrev pub difference-state : State → ℕ → ℕ → ℕ → State
 difference-state s i p column = record { given = i; at = s .at + (column - s .column); column = column; last = p; dif = true }

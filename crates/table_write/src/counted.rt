@@ -1,16 +1,20 @@
-// Groups past the end of the lent bytes: nothing is stored there, so that they are only counted. A text is measured in this way.
+// Groups that are only counted, to measure a text.
 ghost use mathlib.Core.Path.{_≡_};
 ghost use mathlib.Core.Bool.{true};
 ghost use Prim.Native.Nat.{ℕ, _+_, _^_, _≤_, _<_};
 ghost use lib.ListN.{length};
 ghost use Rattle.table_spec.specs.Frame.{apart};
 ghost use Rattle.table_write.specs.Tokens.{ordinates, Found, lone};
-ghost use Rattle.table_write.specs.Lines.{Started, Counted, difference-state};
+ghost use Rattle.frame.specs.Legal.{Sound};
+ghost use Rattle.table_write.specs.Pieces.{headOf};
+ghost use Rattle.table_write.specs.Lines.{from, Started, Wrote, Counted, Full, difference-state};
 use crate::Group;
 use crate::LONGEST_LINE;
 use crate::State;
 use crate::digits::further_digits;
 use crate::groups::find;
+use crate::lines::break_line;
+use frame::Frame;
 use signed::ordinate_at;
 
 // How far apart two numbers are.
@@ -118,9 +122,9 @@ fn count_group(ys: &[i32], s: State, g: Group) -> State
 }
 
 // The groups that fit on the line.
-pub fn count_line(ys: &[i32], s: State) -> State
+fn count_line(ys: &[i32], s: State) -> State
     requires { ⌜ Started s × (s .given ≤ length (now ys)) × (length (now ys) ≤ 65536) × (s .column ≤ s .at) × (s .at < 2 ^ 57) ⌝ }
-    ensures { λ r. ⌜ Counted (ordinates (now (ys .entry))) s r ⌝ }
+    ensures { λ r. ⌜ Counted (ordinates (now (ys .entry))) s r × Full (ordinates (now (ys .entry))) r ⌝ }
 {
     let n = ys.len();
     let mut r = s;
@@ -137,4 +141,19 @@ pub fn count_line(ys: &[i32], s: State) -> State
         i = r.given;
     }
     r
+}
+
+// The groups that fit on the line, and one more on a new line, if there is one.
+pub fn count_turn(ys: &[i32], none: &mut [u8], fr: Frame, s: State) -> State
+    requires { ⌜ Sound fr × (length (now ys) ≡ fr .points) × Started s × (s .given < length (now ys)) × (s .column ≤ s .at) × (s .at < 2 ^ 56) × (length (now none) ≡ 0) ⌝ }
+    ensures { λ r. ⌜ Wrote (headOf fr) (ordinates (now (ys .entry))) (s .given) (s .at) (from (headOf fr) (ordinates (now (ys .entry))) s) (now (none .entry)) (now (none .exit)) r ⌝ }
+{
+    let t = count_line(ys, s);
+    let i = t.given;
+    if i >= ys.len() {
+        return t;
+    }
+    let p = t.last;
+    let g = find(ys, i, p);
+    break_line(ys, none, fr, t, g)
 }

@@ -13,7 +13,6 @@ ghost use Rattle.table_write.specs.Lines.{opening, after, from, Wrote, S
 use crate::Group;
 use crate::LONGEST_LINE;
 use crate::State;
-use crate::counted::count_line;
 use crate::digits::further_digits;
 use crate::digits::put;
 use crate::digits::put_number;
@@ -117,7 +116,7 @@ fn fill(
 }
 
 // A new line, and the next group on it: as it was found on a check line, found afresh on another.
-fn break_line(ys: &[i32], out: &mut [u8], fr: Frame, s: State, g: Group) -> State
+pub fn break_line(ys: &[i32], out: &mut [u8], fr: Frame, s: State, g: Group) -> State
     requires { ⌜ Sound fr × (length (now ys) ≡ fr .points) × Started s × (s .given < length (now ys)) × Found (ordinates (now ys)) (s .given) (s .last) g × (80 < s .column + g .width) × (s .at < 2 ^ 57) ⌝ }
     ensures { λ r. ⌜ Wrote (headOf fr) (ordinates (now (ys .entry))) (s .given) (s .at) (from (headOf fr) (ordinates (now (ys .entry))) s) (now (out .entry)) (now (out .exit)) r ⌝ }
 {
@@ -135,7 +134,7 @@ fn break_line(ys: &[i32], out: &mut [u8], fr: Frame, s: State, g: Group) -> Stat
 }
 
 // One group more, on this line if it fits whole, else on a new one.
-fn turn(ys: &[i32], out: &mut [u8], fr: Frame, s: State) -> State
+pub fn turn(ys: &[i32], out: &mut [u8], fr: Frame, s: State) -> State
     requires { ⌜ Sound fr × (length (now ys) ≡ fr .points) × Started s × (s .given < length (now ys)) × (s .at < 2 ^ 57) × (s .column ≤ s .at) ⌝ }
     ensures { λ r. ⌜ Wrote (headOf fr) (ordinates (now (ys .entry))) (s .given) (s .at) (from (headOf fr) (ordinates (now (ys .entry))) s) (now (out .entry)) (now (out .exit)) r ⌝ }
 {
@@ -150,16 +149,4 @@ fn turn(ys: &[i32], out: &mut [u8], fr: Frame, s: State) -> State
         return fill(ys, out, fr, i, p, g, at, column);
     }
     break_line(ys, out, fr, s, g)
-}
-
-// One group more; where the lent bytes have ended, so that nothing is stored, all groups that fit on its line.
-pub fn step(ys: &[i32], out: &mut [u8], fr: Frame, s: State) -> State
-    requires { ⌜ Sound fr × (length (now ys) ≡ fr .points) × Started s × (s .given < length (now ys)) × (s .at < 2 ^ 56) × (s .column ≤ s .at) ⌝ }
-    ensures { λ r. ⌜ Wrote (headOf fr) (ordinates (now (ys .entry))) (s .given) (s .at) (from (headOf fr) (ordinates (now (ys .entry))) s) (now (out .entry)) (now (out .exit)) r ⌝ }
-{
-    let r = turn(ys, out, fr, s);
-    if r.at < out.len() {
-        return r;
-    }
-    count_line(ys, r)
 }
