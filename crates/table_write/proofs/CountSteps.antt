@@ -16,11 +16,12 @@ use Rattle.table_write.specs.declared.Token.{Token}
 use Rattle.table_write.specs.declared.Group.{Group}
 use Rattle.table_write.specs.declared.State.{State}
 use Rattle.table_write.specs.Digits.{further}
-use Rattle.table_write.specs.Pieces.{Ahead, sets-past}
+use Rattle.table_write.specs.Pieces.{Ahead, ahead-of, put-length, sets-past}
 use Rattle.table_write.specs.Tokens.{again, run, TokenFor, Found, group-at, lone}
-use Rattle.table_write.specs.Lines.{from, next-state, after, Started, Wrote, Counted, Full, difference-state}
+use Rattle.table_write.specs.Lines.{from, next-state, after, Started, opening, line-state, Wrote, NewLine, Counted, Full, difference-state}
 use Rattle.table_write.proofs.TokenSteps.{found, again-not, dif-up, dif-same, dif-down}
-use Rattle.table_write.proofs.TextSteps.{from-fits}
+use Rattle.table_write.proofs.TextSteps.{from-fits, group-slim}
+use Rattle.table_write.proofs.LineSteps.{left-break}
 
 -- ---- the width of a lone difference
 
@@ -96,14 +97,14 @@ module _ (ys : List ℕ) (i p y z : ℕ) (h : 0 < p) (a : p < 4294967296) (b : y
 
 module _ (ys : List ℕ) where
   pub counted-none : (s : State) → Started s → s .given ≤ length ys → s .column ≤ s .at → Counted ys s s
-  counted-none s b i c = record { law = λ hd. refl; later = omega arith; on = omega arith; inside = i; most = omega arith; column-most = c; started = b }
+  counted-none s b i c = record { law = λ hd. refl; later = omega arith; on = omega arith; inside = i; most = omega arith; line = omega arith; column-most = c; started = b }
 
   pub counted-then : {s t r : State} → Counted ys s t → Counted ys t r → Counted ys s r
   counted-then a b =
-      let a₁ = a .later in let b₁ = b .later in let a₂ = a .on in let b₂ = b .on in let a₃ = a .most in let b₃ = b .most in
-      record { law = λ hd. b .law hd ∙ a .law hd; later = omega arith; on = omega arith; inside = b .inside; most = omega arith; column-most = b .column-most; started = b .started }
+      let a₁ = a .later in let b₁ = b .later in let a₂ = a .on in let b₂ = b .on in let a₃ = a .most in let b₃ = b .most in let a₄ = a .line in let b₄ = b .line in
+      record { law = λ hd. b .law hd ∙ a .law hd; later = omega arith; on = omega arith; inside = b .inside; most = omega arith; line = omega arith; column-most = b .column-most; started = b .started }
 
-  pub counted-near : {s r : State} → Counted ys s r → length ys ≤ 65536 → r .at ≤ s .at + 4194304
+  pub counted-near : {s r : State} → Counted ys s r → length ys ≤ 65536 → r .at ≤ s .at + 1310720
   counted-near c l = let most = c .most in let inside = c .inside in omega arith
 
   -- a group that fits
@@ -134,17 +135,26 @@ module _ (ys : List ℕ) where
             on = omega arith;
             inside = omega arith;
             most = omega arith;
+            line = omega arith;
             column-most = omega arith;
             started = record { some = λ _. omega arith; small = b };
           },
           omega arith,
         )
 
-  pub full-here : (r : State) (g : Group) → Found ys (r .given) (r .last) g → 80 < r .column + g .width → Full ys r
-  full-here r g h l = let width = h .width-is in record { breaks = λ _. omega arith }
+  pub full-here : (s r : State) (g : Group) → Counted ys s r → Found ys (r .given) (r .last) g → 80 < r .column + g .width → Full ys s r
+  full-here s r g c h l =
+      let width = h .width-is in let slim = h .slim in
+      record { breaks = λ _. omega arith; some = λ i k. ahead k }
+    where
+      ahead : s .column ≤ 60 → s .given < r .given
+      ahead k =
+          let slim = h .slim in let on = c .on in let most = c .most in let line = c .line in let later = c .later in
+          by-case (λ _. s .given < r .given) (ltb (s .given) (r .given)) (λ e. ltb-true (s .given) (r .given) e)
+          (λ e. let f = ltb-false (s .given) (r .given) e in absurd (omega arith))
 
-  pub full-end : (r : State) → length ys ≤ r .given → Full ys r
-  full-end r h = record { breaks = λ l. absurd (omega arith) }
+  pub full-end : (s r : State) → length ys ≤ r .given → Full ys s r
+  full-end s r h = record { breaks = λ l. absurd (omega arith); some = λ i k. omega arith }
 
 -- ---- the loop over lone differences
 
@@ -174,6 +184,7 @@ module _ (ys : List ℕ) (s : State) where
           on = omega arith;
           inside = omega arith;
           most = omega arith;
+          line = omega arith;
           column-most = omega arith;
           started = record { some = λ _. b .some d; small = b .small };
         };
@@ -225,6 +236,10 @@ module _ (ys : List ℕ) (s : State) where
 
 -- ---- what was counted, as a turn of the pass
 
+pick-small : (b : Bool) (p : ℕ) → p < 4294967296 → pick b p 0 < 4294967296
+pick-small true p h = h
+pick-small false p h = omega arith
+
 module _ (hd : ℕ → List ℕ) (ys : List ℕ) {s t : State} (c : Counted ys s t) where
   -- nothing is stored past the end
   pub past : (x : List ℕ) (n : ℕ) (o : List ℕ) → length o ≤ s .at → Ahead x n o (s .at) (from hd ys s) → Ahead x n o (t .at) (from hd ys t)
@@ -237,25 +252,48 @@ module _ (hd : ℕ → List ℕ) (ys : List ℕ) {s t : State} (c : Counted ys s
 
   pub counted-all : (o : List ℕ) → length o ≤ s .at → s .given < t .given → Wrote hd ys (s .given) (s .at) (from hd ys s) o o t
   counted-all o l h =
+      let most = c .most in
       record {
         law = λ x n a. past x n o l a;
         same = refl;
         on = h;
         inside = c .inside;
-        most = c .most;
+        most = omega arith;
         column-most = c .column-most;
         small = c .started .small;
       }
 
-  pub counted-wrote : {o o' : List ℕ} {r : State} → length o ≤ s .at → Wrote hd ys (t .given) (t .at) (from hd ys t) o o' r → Wrote hd ys (s .given) (s .at) (from hd ys s) o o' r
-  counted-wrote {o = o} l w =
-      let on = c .on in let most = c .most in let on₀ = w .on in let most₀ = w .most in
-      record {
-        law = λ x n a. w .law x n (past x n o l a);
-        same = w .same;
-        on = omega arith;
-        inside = w .inside;
-        most = omega arith;
-        column-most = w .column-most;
-        small = w .small;
-      }
+  -- a new line after them
+  module _ {o o' : List ℕ} {r : State} (b : t .given < length ys) (f : Full ys s t) (v : NewLine hd t o o' r) where
+    pub line-short : r .column ≤ 60
+    line-short = let most = v .most in ap-le (v .is) (omega arith)
+      where
+        ap-le : r ≡ line-state t (r .at) → r .at - (t .at + 2) ≤ 60 → r .column ≤ 60
+        ap-le e h = omega (arith, ap (λ (x : State). x .column) e)
+
+    pub counted-line : length o ≤ s .at → s .given < length ys → s .column ≤ 60 → Wrote hd ys (s .given) (s .at) (from hd ys s) o o' r
+    counted-line l i k =
+        let some = f .some i k in
+        let given = ap (λ (x : State). x .given) (v .is) in let column = ap (λ (x : State). x .column) (v .is) in
+        let most = c .most in let most₀ = v .most in
+        record {
+          law = λ x n a. line-law x n (past x n o l a);
+          same = put-length (v .put);
+          on = omega arith;
+          inside = omega arith;
+          most = omega arith;
+          column-most = omega arith;
+          small = rw (ap (λ (x : State). x .last) (v .is)) (pick-small (t .dif) (t .last) (c .started .small));
+        }
+      where
+        line-law : (x : List ℕ) (n : ℕ) → Ahead x n o (t .at) (from hd ys t) → Ahead x n o' (r .at) (from hd ys r)
+        line-law x n a =
+            let q = pick (t .dif) (t .last) 0 in
+            let given = ap (λ (x : State). x .given) (v .is) in
+            let last = ap (λ (x : State). x .last) (v .is) in
+            let short = line-short in
+            let e = left-break hd ys t r q b (f .breaks b) refl v in
+            let k : from hd ys r ≡ after hd ys (r .given) (r .last) (r .column) =
+            from-fits hd ys r (omega arith) (omega (arith, group-slim (r .last) (getD ys (r .given) 0) (drop (r .given + 1) ys))) in
+            let z : Ahead x n o' (r .at) (after hd ys (t .given) q (r .column)) = ahead-of (after hd ys (t .given) q (r .column)) (v .put) (rw e at a) in
+            rw (k, given, last) z

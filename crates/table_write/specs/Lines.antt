@@ -7,7 +7,7 @@ use lib.ListN.{length, getD, drop}
 use Rattle.alphabet_spec.specs.Logic.{pick}
 use Rattle.table_spec.specs.Writing.{check, text}
 use Rattle.table_write.specs.declared.State.{State}
-use Rattle.table_write.specs.Pieces.{Ahead}
+use Rattle.table_write.specs.Pieces.{Put, Ahead}
 use Rattle.table_write.specs.Tokens.{count-at, group-at, dif-at}
 
 module _ (head-of : ℕ → List ℕ) where
@@ -33,6 +33,17 @@ pub record Started (s : State) : Type 0 where
   pub some : s .dif ≡ true → 0 < s .given
   pub small : s .last < 4294967296
 
+-- the state after the start of a new line, at the place b
+abbrev pub line-state : State → ℕ → State
+line-state s b = record { given = s .given; at = b; column = b - (s .at + 2); last = pick (s .dif) (s .last) 0; dif = s .dif }
+
+-- the start of a new line was stored, and the state is that after it
+pub record NewLine (head-of : ℕ → List ℕ) (s : State) (o o' : List ℕ) (r : State) : Type 0 where
+  pub is : r ≡ line-state s (r .at)
+  pub put : Put o (s .at) o' (r .at) (13 ∷ 10 ∷ opening head-of (s .dif) (s .given) (s .last))
+  pub most : r .at ≤ s .at + 27
+  pub column-most : r .column ≤ r .at
+
 -- some text was written, and the state is that after it: t was left before, at the place `at`, after i points
 pub record Wrote (head-of : ℕ → List ℕ) (ys : List ℕ) (i at : ℕ) (t o o' : List ℕ) (s : State) : Type 0 where
   pub law : (x : List ℕ) (n : ℕ) → Ahead x n o at t → Ahead x n o' (s .at) (from head-of ys s)
@@ -49,13 +60,15 @@ pub record Counted (ys : List ℕ) (s r : State) : Type 0 where
   pub later : s .at ≤ r .at
   pub on : s .given ≤ r .given
   pub inside : r .given ≤ length ys
-  pub most : r .at + 64 * s .given ≤ s .at + 64 * r .given
+  pub most : r .at + 20 * s .given ≤ s .at + 20 * r .given
+  pub line : r .column + s .at ≡ s .column + r .at
   pub column-most : r .column ≤ r .at
   pub started : Started r
 
--- the next group, if there is one, does not fit on the line
-pub record Full (ys : List ℕ) (r : State) : Type 0 where
+-- the next group after them, if there is one, does not fit on the line; one at least was counted if the line was short
+pub record Full (ys : List ℕ) (s r : State) : Type 0 where
   pub breaks : r .given < length ys → 80 < r .column + length (group-at ys (r .given) (r .last))
+  pub some : s .given < length ys → s .column ≤ 60 → s .given < r .given
 
 -- the state after the first head
 abbrev pub start : ℕ → State

@@ -13,7 +13,7 @@ use crate::LONGEST_LINE;
 use crate::State;
 use crate::digits::further_digits;
 use crate::groups::find;
-use crate::lines::break_line;
+use crate::lines::new_line;
 use frame::Frame;
 use signed::ordinate_at;
 
@@ -124,7 +124,7 @@ fn count_group(ys: &[i32], s: State, g: Group) -> State
 // The groups that fit on the line.
 fn count_line(ys: &[i32], s: State) -> State
     requires { ⌜ Started s × (s .given ≤ length (now ys)) × (length (now ys) ≤ 65536) × (s .column ≤ s .at) × (s .at < 2 ^ 57) ⌝ }
-    ensures { λ r. ⌜ Counted (ordinates (now (ys .entry))) s r × Full (ordinates (now (ys .entry))) r ⌝ }
+    ensures { λ r. ⌜ Counted (ordinates (now (ys .entry))) s r × Full (ordinates (now (ys .entry))) s r ⌝ }
 {
     let n = ys.len();
     let mut r = s;
@@ -143,17 +143,14 @@ fn count_line(ys: &[i32], s: State) -> State
     r
 }
 
-// The groups that fit on the line, and one more on a new line, if there is one.
+// The groups that fit on the line, and the start of a new line if points are left.
 pub fn count_turn(ys: &[i32], none: &mut [u8], fr: Frame, s: State) -> State
-    requires { ⌜ Sound fr × (length (now ys) ≡ fr .points) × Started s × (s .given < length (now ys)) × (s .column ≤ s .at) × (s .at < 2 ^ 56) × (length (now none) ≡ 0) ⌝ }
-    ensures { λ r. ⌜ Wrote (headOf fr) (ordinates (now (ys .entry))) (s .given) (s .at) (from (headOf fr) (ordinates (now (ys .entry))) s) (now (none .entry)) (now (none .exit)) r ⌝ }
+    requires { ⌜ Sound fr × (length (now ys) ≡ fr .points) × Started s × (s .given < length (now ys)) × (s .column ≤ s .at) × (s .at < 2 ^ 56) × (s .column ≤ 60) × (length (now none) ≡ 0) ⌝ }
+    ensures { λ r. ⌜ Wrote (headOf fr) (ordinates (now (ys .entry))) (s .given) (s .at) (from (headOf fr) (ordinates (now (ys .entry))) s) (now (none .entry)) (now (none .exit)) r × (r .given < length (now (ys .entry)) → r .column ≤ 60) ⌝ }
 {
     let t = count_line(ys, s);
-    let i = t.given;
-    if i >= ys.len() {
+    if t.given >= ys.len() {
         return t;
     }
-    let p = t.last;
-    let g = find(ys, i, p);
-    break_line(ys, none, fr, t, g)
+    new_line(none, fr, t)
 }

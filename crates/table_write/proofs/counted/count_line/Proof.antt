@@ -38,7 +38,7 @@ add-if1 c = let a = c .before .before .before .before .args in let p = c .before
 
 -- src/counted.rt:134:13
 returns : tie.Need-returns Inv-loop μ-loop
-returns c = (counted-then _ (c .before .before .before .before .loop .inv .0) (c .before .before .count-differences .ensures .0), full-here _ _ _ (c .before .find .ensures) (c .if1 .taken))
+returns c = let x = counted-then _ (c .before .before .before .before .loop .inv .0) (c .before .before .count-differences .ensures .0) in (x, full-here _ _ _ _ x (c .before .find .ensures) (c .if1 .taken))
 
 -- src/counted.rt:136:9
 count-group-requires : tie.Need-count-group-requires Inv-loop μ-loop
@@ -54,7 +54,7 @@ loop-again c = (counted-then _ (c .before .before .before .before .before .loop 
 
 -- src/counted.rt:121:1
 returns-2 : tie.Need-returns-2 Inv-loop μ-loop
-returns-2 c = let a = c .before .before .args in let t = c .before .loop .inv in (t .0, full-end _ _ (omega (arith, t .1, c .loop-test .left, length-map (a .ys .now) ordinate-of)))
+returns-2 c = let a = c .before .before .args in let t = c .before .loop .inv in (t .0, full-end _ _ _ (omega (arith, t .1, c .loop-test .left, length-map (a .ys .now) ordinate-of)))
 
 pub count-line-spec : {M : Type 1} → statement M
 count-line-spec =
