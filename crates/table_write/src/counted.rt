@@ -3,7 +3,6 @@ ghost use mathlib.Core.Path.{_≡_};
 ghost use mathlib.Core.Bool.{true};
 ghost use Prim.Native.Nat.{ℕ, _+_, _^_, _≤_, _<_};
 ghost use lib.ListN.{length};
-ghost use Rattle.table_spec.specs.Frame.{apart};
 ghost use Rattle.table_write.specs.Tokens.{ordinates, Found, lone};
 ghost use Rattle.frame.specs.Legal.{Sound};
 ghost use Rattle.table_write.specs.Pieces.{headOf};
@@ -12,20 +11,11 @@ use crate::Group;
 use crate::LONGEST_LINE;
 use crate::State;
 use crate::digits::further_digits;
+use crate::distance;
 use crate::groups::find;
 use crate::lines::new_line;
 use frame::Frame;
 use signed::ordinate_at;
-
-// How far apart two numbers are.
-pub fn distance(a: u64, b: u64) -> u64
-    ensures { λ r. ⌜ r ≡ apart a b ⌝ }
-{
-    if a < b {
-        return b - a;
-    }
-    a - b
-}
 
 // The bytes of the DIF for y after p, if it stands alone before z; else more than a line has: y is missing, or z may have the same DIF.
 fn lone_width(p: u64, y: u64, z: u64) -> usize

@@ -1,4 +1,4 @@
-// Bytes and digits into the lent bytes, at a place. Past their end nothing is stored, so that one pass can measure a text and another store it.
+// Bytes and digits into the lent bytes, at a place. Past their end nothing is stored, so that a text can be measured with none lent.
 ghost use mathlib.Core.Path.{_≡_};
 ghost use mathlib.Core.List.{List, [], _∷_};
 ghost use Prim.Native.Nat.{ℕ, _+_, _^_, _≤_, _<_};

@@ -12,7 +12,6 @@ ghost use Rattle.table_write.specs.Tokens.{ordinates};
 ghost use Rattle.table_write.specs.Lines.{start};
 ghost use Rattle.table_write.specs.Answers.{Answered, FramedAnswer};
 use crate::counted::count_turn;
-use crate::counted::distance;
 use crate::heads::put_head;
 use crate::lines::put_close;
 use crate::lines::put_end;
@@ -87,7 +86,7 @@ fn finish(text: &mut [u8], fr: Frame, s: State) -> usize
     put_close(text, e, fr, dif, last)
 }
 
-// The whole text from the start of the lent bytes; what is past their end is not stored. The text's length.
+// The whole text from the start of the lent bytes. Its length.
 fn pass(ys: &[i32], text: &mut [u8], fr: Frame) -> usize
     requires { ⌜ Sound fr × (length (now ys) ≡ fr .points) ⌝ }
     ensures { λ r. ⌜ Put (now (text .entry)) 0 (now (text .exit)) r (lines-of (headOf fr) (ordinates (now (ys .entry)))) ⌝ }
@@ -102,7 +101,7 @@ fn pass(ys: &[i32], text: &mut [u8], fr: Frame) -> usize
     finish(text, fr, s)
 }
 
-// The text's length: the same with no byte stored, so that groups are only counted.
+// The text's length: line by line with no byte lent, the groups of a line only counted.
 fn measure(ys: &[i32], none: &mut [u8], fr: Frame) -> usize
     requires { ⌜ Sound fr × (length (now ys) ≡ fr .points) × (length (now none) ≡ 0) ⌝ }
     ensures { λ r. ⌜ r ≡ length (lines-of (headOf fr) (ordinates (now (ys .entry)))) ⌝ }
@@ -115,6 +114,16 @@ fn measure(ys: &[i32], none: &mut [u8], fr: Frame) -> usize
         i = s.given;
     }
     finish(none, fr, s)
+}
+
+// How far apart two numbers are.
+fn distance(a: u64, b: u64) -> u64
+    ensures { λ r. ⌜ r ≡ apart a b ⌝ }
+{
+    if a < b {
+        return b - a;
+    }
+    a - b
 }
 
 // A refusal of the writer: its place is 0.
