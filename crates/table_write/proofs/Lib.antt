@@ -3,4 +3,5 @@ pub mod NumberSteps
 pub mod TokenSteps
 pub mod TextSteps
 pub mod LineSteps
+pub mod CountSteps
 pub mod AnswerSteps

@@ -2,7 +2,7 @@
 use mathlib.Core.Path.{_≡_, refl, sym, ap, _∙_}
 use mathlib.Core.Bool.{Bool, true, false}
 use mathlib.Core.List.{List, [], _∷_, _++_}
-use Prim.Native.Nat.{ℕ, zero, suc, _+_, _-_, _*_, _≤_, _<_}
+use Prim.Native.Nat.{ℕ, zero, suc, _+_, _-_, _*_, _^_, _≤_, _<_}
 use native.Mathlib.Omega.{arith}
 use lib.Dec.{leb}
 use lib.ListN.{length, getD}
@@ -14,10 +14,10 @@ use Rattle.table_spec.specs.Groups.{sqzText, dupText}
 use Rattle.table_spec.specs.Writing.{check, close, lines-of}
 use Rattle.table_write.specs.declared.Group.{Group}
 use Rattle.table_write.specs.declared.State.{State}
-use Rattle.table_write.specs.Pieces.{Put, Ahead, number, put-then, ahead-of}
+use Rattle.table_write.specs.Pieces.{Put, Ahead, number, put-then, put-length, ahead-of}
 use Rattle.table_write.specs.Tokens.{Found, group-at, count-at, dif-at}
-use Rattle.table_write.specs.Lines.{from, next-state, after, opening, Started, Wrote, Going}
-use Rattle.table_write.proofs.TextSteps.{from-fits, from-break, from-end, start, lines-start}
+use Rattle.table_write.specs.Lines.{from, next-state, after, opening, start, Started, Wrote, NewLine, Going}
+use Rattle.table_write.proofs.TextSteps.{from-fits, from-break, from-end, lines-start}
 
 -- ---- the start of a line, and the last line
 
@@ -48,6 +48,14 @@ module _ (hd : ℕ → List ℕ) (i p : ℕ) where
   unfolding close
   close-not dif e = rw e refl
 
+-- the start of a new line
+pub new-line : (hd : ℕ → List ℕ) (s : State) {o o₁ o₂ : List ℕ} {a b : ℕ} → Put o (s .at) o₁ a (13 ∷ 10 ∷ []) → Put o₁ a o₂ b (opening hd (s .dif) (s .given) (s .last)) → b ≤ a + 25
+    → (last : ℕ) (dif : Bool) → last ≡ pick (s .dif) (s .last) 0 → dif ≡ s .dif → NewLine hd s o o₂ (record { given = s .given; at = b; column = b - a; last = last; dif = dif })
+new-line hd s {a = a} {b = b} u v m last dif e d =
+    let n = u .next in
+    let c : a ≡ s .at + 2 = omega arith in
+    record { is = rw (e, d, c) refl; put = put-then u v; most = omega arith; column-most = omega arith }
+
 -- ---- a group
 
 module _ (hd : ℕ → List ℕ) (ys : List ℕ) where
@@ -75,23 +83,29 @@ module _ (hd : ℕ → List ℕ) (ys : List ℕ) where
   wrote-as : {i at : ℕ} {o o' : List ℕ} {s : State} (t t' : List ℕ) → t ≡ t' → Wrote hd ys i at t' o o' s → Wrote hd ys i at t o o' s
   wrote-as t t' e w = rw e w
 
+  -- the column of a new line
+  new-column : {o o' : List ℕ} (s t : State) → NewLine hd s o o' t → t .column ≡ length (opening hd (s .dif) (s .given) (s .last))
+  new-column s t v = let n = v .put .next in ap (λ (x : State). x .column) (v .is) ∙ omega arith
+
+  -- what is left where the next group does not fit
+  pub left-break : {o o' : List ℕ} (s t : State) (q : ℕ) → s .given < length ys → 80 < s .column + length (group-at ys (s .given) (s .last)) → q ≡ pick (s .dif) (s .last) 0
+      → NewLine hd s o o' t → from hd ys s ≡ (13 ∷ 10 ∷ opening hd (s .dif) (s .given) (s .last)) ++ after hd ys (s .given) q (t .column)
+  left-break s t q l w f v = from-break hd ys s l w ∙ rw (f, new-column s t v) refl
+
   module _ (s : State) (g : Group) (inside : s .given < length ys) (h : Found ys (s .given) (s .last) g) where
     pub turn-fits : {o o' : List ℕ} {r : State} → s .column + g .width ≤ 80 → Wrote hd ys (s .given) (s .at) (after hd ys (s .given) (s .last) (s .column)) o o' r
         → Wrote hd ys (s .given) (s .at) (from hd ys s) o o' r
     turn-fits l w = let width = h .width-is in wrote-as (from hd ys s) (after hd ys (s .given) (s .last) (s .column)) (from-fits hd ys s inside (omega arith)) w
 
-    pub turn-breaks : {o o₁ o₂ o₃ : List ℕ} {a b : ℕ} {r : State} (q : ℕ) → 80 < s .column + g .width → q ≡ pick (s .dif) (s .last) 0
-        → Put o (s .at) o₁ a (13 ∷ 10 ∷ []) → Put o₁ a o₂ b (opening hd (s .dif) (s .given) (s .last)) → b ≤ a + 25
-        → Wrote hd ys (s .given) b (after hd ys (s .given) q (b - a)) o₂ o₃ r → r .at ≤ b + 20 → Wrote hd ys (s .given) (s .at) (from hd ys s) o o₃ r
-    turn-breaks {o = o} {o₁ = o₁} {a = a} {b = b} q l f u v m w z =
+    pub turn-breaks : {o o₂ o₃ : List ℕ} {t r : State} (q : ℕ) → 80 < s .column + g .width → q ≡ pick (s .dif) (s .last) 0 → NewLine hd s o o₂ t
+        → Wrote hd ys (s .given) (t .at) (after hd ys (s .given) q (t .column)) o₂ o₃ r → r .at ≤ t .at + 20 → Wrote hd ys (s .given) (s .at) (from hd ys s) o o₃ r
+    turn-breaks {o = o} {t = t} q l f v w z =
         let width = h .width-is in
-        let t₀ = opening hd (s .dif) (s .given) (s .last) in
-        let n : b - a ≡ length t₀ = omega (arith, v .next) in
-        let t : from hd ys s ≡ 13 ∷ 10 ∷ t₀ ++ after hd ys (s .given) q (b - a) = from-break hd ys s inside (omega arith) ∙ rw (f, n) refl in
-        let e = u .next in
+        let e = left-break s t q inside (omega arith) f v in
+        let put = v .put in let most = v .most in let on = w .on in
         record {
-          law = λ x c k. w .law x c (ahead-of (after hd ys (s .given) q (b - a)) v (ahead-of (t₀ ++ after hd ys (s .given) q (b - a)) u (rw t at k)));
-          same = w .same ∙ ap length (v .stored) ∙ length-sets o₁ a t₀ ∙ ap length (u .stored) ∙ length-sets o (s .at) (13 ∷ 10 ∷ []);
+          law = λ x c k. w .law x c (ahead-of (after hd ys (s .given) q (t .column)) put (rw e at k));
+          same = w .same ∙ put-length put;
           on = w .on;
           inside = w .inside;
           most = omega arith;
@@ -101,17 +115,23 @@ module _ (hd : ℕ → List ℕ) (ys : List ℕ) where
 
   -- ---- the whole
 
-  pub starts : (o : List ℕ) (n : ℕ) → n ≤ 15 → Going hd ys o (start hd n) o (start hd n) 0
-  starts o n h =
-      record {
-        is = refl;
-        law = λ x m r. r;
-        same = refl;
-        inside = omega arith;
-        most = omega arith;
-        column-most = omega arith;
-        started = record { some = λ e. no-way e; small = omega arith };
-      }
+  pub starts : (o : List ℕ) (s : State) (n : ℕ) → s ≡ start n → n ≤ 15 → Going hd ys o s o s 0
+  starts o s n e h = rw e (begun o n h)
+    where
+      begun : (o : List ℕ) (n : ℕ) → n ≤ 15 → Going hd ys o (start n) o (start n) 0
+      begun o n h =
+          record {
+            is = refl;
+            law = λ x m r. r;
+            same = refl;
+            inside = omega arith;
+            most = omega arith;
+            column-most = omega arith;
+            started = record { some = λ e. no-way e; small = omega arith };
+          }
+
+  pub going-near : {o₀ o : List ℕ} {s₀ s : State} {i : ℕ} → Going hd ys o₀ s₀ o s i → length ys ≤ 65536 → s .at < 2 ^ 56
+  going-near g l = let most = g .most in let inside = g .inside in omega arith
 
   pub goes : {o₀ o o' : List ℕ} {s₀ s r : State} {i : ℕ} → Going hd ys o₀ s₀ o s i → Wrote hd ys (s .given) (s .at) (from hd ys s) o o' r → Going hd ys o₀ s₀ o' r (r .given)
   goes g w =
@@ -132,15 +152,16 @@ module _ (hd : ℕ → List ℕ) (ys : List ℕ) where
   again-as : {x o : List ℕ} {n at : ℕ} {t t' : List ℕ} → t ≡ t' → Ahead x n o at t → Ahead x n o at t'
   again-as e r = rw e at r
 
-  pub finish : {o o₁ o₃ o₄ o₅ : List ℕ} {st e r i : ℕ} {s : State} (n : ℕ) → 0 < length ys → st ≤ 15 → Put o 0 o₁ st (hd 0) → Going hd ys o₁ (start hd st) o₃ s i
-      → length ys ≤ i → length ys ≡ n → Put o₃ (s .at) o₄ e (13 ∷ 10 ∷ []) → Put o₄ e o₅ r (close hd (s .dif) n (s .last)) → Put o 0 o₅ r (lines-of hd ys)
-  finish {o = o} {st = st} {s = s} n l b h g k m u v =
+  pub finish : {o o₁ o₃ o₅ : List ℕ} {st r i : ℕ} {s₀ s : State} (n : ℕ) → 0 < length ys → s₀ ≡ start st → st ≤ 15 → Put o 0 o₁ st (hd 0) → Going hd ys o₁ s₀ o₃ s i
+      → length ys ≤ i → length ys ≡ n → Put o₃ (s .at) o₅ r (13 ∷ 10 ∷ close hd (s .dif) n (s .last)) → Put o 0 o₅ r (lines-of hd ys)
+  finish {o = o} {o₁ = o₁} {o₃ = o₃} {st = st} {i = i} {s = s} n l q b h g₀ k m v =
+      let g : Going hd ys o₁ (start st) o₃ s i = rw q at g₀ in
       let all = lines-of hd ys in
       let a : Ahead (sets o 0 all) (0 + length all) o 0 all = record { whole = refl; ends = refl } in
-      let t : all ≡ hd 0 ++ from hd ys (start hd st) = lines-start hd ys st l (omega (arith, h .next)) (omega arith) in
-      let d = g .law (sets o 0 all) (0 + length all) (ahead-of (from hd ys (start hd st)) h (again-as t a)) in
+      let t : all ≡ hd 0 ++ from hd ys (start st) = lines-start hd ys st l (omega (arith, h .next)) (omega arith) in
+      let d = g .law (sets o 0 all) (0 + length all) (ahead-of (from hd ys (start st)) h (again-as t a)) in
       let is = g .is in let inside = g .inside in
       let j : s .given ≡ n = omega arith in
       let f : from hd ys s ≡ 13 ∷ 10 ∷ close hd (s .dif) n (s .last) = from-end hd ys s (omega arith) ∙ rw j refl in
-      let y = done (ahead-of (close hd (s .dif) n (s .last)) u (again-as f d)) v in
+      let y = done (again-as f d) v in
       record { next = y .0; stored = y .1 }

@@ -20,7 +20,7 @@ use Rattle.table_spec.specs.Writing.{put, check, open-line, go-on, close, text,
 use Rattle.table_write.specs.declared.State.{State}
 use Rattle.table_write.specs.Digits.{length-low, further-le}
 use Rattle.table_write.specs.Tokens.{count-at, group-at, dif-at}
-use Rattle.table_write.specs.Lines.{from, next-state, after, opening}
+use Rattle.table_write.specs.Lines.{from, next-state, after, opening, start}
 
 -- ---- lengths
 
@@ -114,10 +114,6 @@ module _ (hd : ℕ → List ℕ) where
     pub from-end : length ys ≤ s .given → from hd ys s ≡ 13 ∷ 10 ∷ close hd (s .dif) (s .given) (s .last)
     unfolding from text
     from-end h = rw (drop-of-length-le ys h) refl
-
-  -- the state after the first head
-  abbrev pub start : ℕ → State
-  start n = record { given = 0; at = n; column = n; last = 0; dif = false }
 
   pub lines-start : (ys : List ℕ) (n : ℕ) → 0 < length ys → n ≡ length (hd 0) → n ≤ 60 → lines-of hd ys ≡ hd 0 ++ from hd ys (start n)
   unfolding lines-of

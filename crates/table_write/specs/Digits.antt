@@ -114,6 +114,16 @@ count-more v n limit b c h =
     let z = pow-succ' 10 (suc n) in
     rw (add-one n) (record { few = l; is = omega arith; least = λ _. k })
 
+-- up to three digits are told by comparing
+pub count-two : (v : ℕ) → v < 10000000000 → 10 ≤ v → Counting v 1 100
+count-two v b h = count-more v 0 10 b (count-none v) h
+
+pub count-three : (v : ℕ) → v < 10000000000 → 100 ≤ v → Counting v 2 1000
+count-three v b h = count-more v 1 100 b (count-two v b (omega arith)) h
+
+pub count-four : (v : ℕ) → v < 10000000000 → 1000 ≤ v → Counting v 3 10000
+count-four v b h = count-more v 2 1000 b (count-three v b (omega arith)) h
+
 pub count-end : (v n limit : ℕ) → Counting v n limit → v < limit → (n ≡ further 9 v) × (n ≤ 9)
 count-end v n limit c h = let e = c .is in (sym (further-is n 9 v (c .few) (omega arith) (c .least)), c .few)
 

@@ -7,7 +7,7 @@ use native.Mathlib.Omega.{arith}
 use native.Mathlib.Nat.{add-zero, add-suc, suc-add}
 use native.Mathlib.Numerals.{add-one}
 use lib.ListN.{length, set, length-append}
-use lib.Seq.{sets, set-out, set-comm}
+use lib.Seq.{sets, length-sets, set-out, set-comm}
 use Rattle.frame.specs.declared.Frame.{Frame}
 use Rattle.table_spec.specs.Frame.{nearest}
 use Rattle.table_spec.specs.Numerals.{top, low, headText}
@@ -41,6 +41,9 @@ put-then {o = o} {at = at} {g = g} {h = h} a b =
 pub ahead-of : {x o o' : List ℕ} {n at r : ℕ} {g : List ℕ} (s : List ℕ) → Put o at o' r g → Ahead x n o at (g ++ s) → Ahead x n o' r s
 ahead-of {o = o} {at = at} {g = g} s a e =
     record { whole = rw (a .stored, a .next) (sym (sets-append o at g s) ∙ e .whole); ends = omega (arith, a .next, e .ends, length-append g s) }
+
+pub put-length : {o o' : List ℕ} {at r : ℕ} {g : List ℕ} → Put o at o' r g → length o' ≡ length o
+put-length {o = o} {at = at} {g = g} a = ap length (a .stored) ∙ length-sets o at g
 
 pub put-as : {o o' : List ℕ} {at r : ℕ} {g h : List ℕ} → g ≡ h → Put o at o' r h → Put o at o' r g
 put-as e a = rw e a

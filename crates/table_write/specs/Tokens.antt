@@ -7,7 +7,7 @@ use lib.Dec.{ltb, eqb}
 use lib.IntN.{ℤ}
 use lib.ListN.{length, getD, drop}
 use Rattle.alphabet_spec.specs.Logic.{pick, both}
-use Rattle.table_spec.specs.Frame.{ordinate-of}
+use Rattle.table_spec.specs.Frame.{ordinate-of, apart}
 use Rattle.table_spec.specs.Values.{Form, isDif}
 use Rattle.table_spec.specs.Groups.{form, tokenText, alike, many, dupText, group}
 use Rattle.table_write.specs.declared.Token.{Token}
@@ -63,3 +63,7 @@ pub record Found (ys : List ℕ) (i p : ℕ) (g : Group) : Type 0 where
   pub dif-is : g .dif ≡ dif-at ys i p
   pub inside : i + 1 + g .more ≤ length ys
   pub slim : g .width ≤ 20
+
+-- the bytes of the DIF for y after p, where it stands alone before z; else more than a line has: y is missing, or z may have the same DIF
+unfoldable pub lone : ℕ → ℕ → ℕ → ℕ
+lone p y z = pick (eqb y 0) 81 (pick (eqb (p + z) (y + y)) 81 (1 + further 9 (apart p y)))

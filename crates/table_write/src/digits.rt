@@ -1,4 +1,4 @@
-// Bytes and digits into the lent bytes, at a place. Past their end nothing is stored, so that one pass can measure a text and another store it.
+// Bytes and digits into the lent bytes, at a place. Past their end nothing is stored, so that a text can be measured with none lent.
 ghost use mathlib.Core.Path.{_≡_};
 ghost use mathlib.Core.List.{List, [], _∷_};
 ghost use Prim.Native.Nat.{ℕ, _+_, _^_, _≤_, _<_};
@@ -22,8 +22,17 @@ pub fn further_digits(v: u64) -> usize
     requires { ⌜ v < 10000000000 ⌝ }
     ensures { λ r. ⌜ (r ≡ further 9 v) × (r ≤ 9) ⌝ }
 {
-    let mut n: usize = 0;
-    let mut limit: u64 = 10;
+    if v < 10 {
+        return 0;
+    }
+    if v < 100 {
+        return 1;
+    }
+    if v < 1000 {
+        return 2;
+    }
+    let mut n: usize = 3;
+    let mut limit: u64 = 10000;
     while limit <= v {
         limit = limit * 10;
         n = n + 1;

@@ -1,14 +1,17 @@
 // Writing a table (01, "The written text"): the public function, and the types that its parts share.
 ghost use mathlib.Core.Path.{_≡_};
-ghost use Prim.Native.Nat.{ℕ, _+_, _-_, _≤_, _<_};
+ghost use mathlib.Core.List.{_∷_};
+ghost use Prim.Native.Nat.{ℕ, _+_, _-_, _^_, _≤_, _<_};
 ghost use lib.Dec.{leb};
 ghost use lib.ListN.{length};
 ghost use Rattle.table_spec.specs.Frame.{apart};
-ghost use Rattle.table_spec.specs.Writing.{lines-of};
+ghost use Rattle.table_spec.specs.Writing.{close, lines-of};
 ghost use Rattle.frame.specs.Legal.{Sound};
 ghost use Rattle.table_write.specs.Pieces.{Put, headOf};
 ghost use Rattle.table_write.specs.Tokens.{ordinates};
+ghost use Rattle.table_write.specs.Lines.{start};
 ghost use Rattle.table_write.specs.Answers.{Answered, FramedAnswer};
+use crate::counted::count_turn;
 use crate::heads::put_head;
 use crate::lines::put_close;
 use crate::lines::put_end;
@@ -18,10 +21,14 @@ use frame::Framed;
 use terms::Refusal;
 use terms::TableWritten;
 
+mod counted;
 mod digits;
 mod groups;
 mod heads;
 mod lines;
+
+// The most bytes of a line.
+const LONGEST_LINE: usize = 80;
 
 // A token: its number is `size`, and its first digit is written as `base` plus the digit. The next ordinate has the same token if it plus `down` is the one
 // before it plus `up`, and it is missing or not as `dif` says, which is true of the DIF form.
@@ -52,25 +59,26 @@ struct State {
     dif: bool,
 }
 
-// The whole text from the start of the lent bytes; what is past their end is not stored. The text's length.
-fn pass(ys: &[i32], text: &mut [u8], fr: Frame) -> usize
-    requires { ⌜ Sound fr × (length (now ys) ≡ fr .points) ⌝ }
-    ensures { λ r. ⌜ Put (now (text .entry)) 0 (now (text .exit)) r (lines-of (headOf fr) (ordinates (now (ys .entry)))) ⌝ }
+// The text's start, the head of the first point. The state after it.
+fn begin(text: &mut [u8], fr: Frame) -> State
+    requires { ⌜ Sound fr ⌝ }
+    ensures { λ r. ⌜ (r ≡ start (r .at)) × (r .at ≤ 15) × Put (now (text .entry)) 0 (now (text .exit)) (r .at) (headOf fr 0) ⌝ }
 {
-    let n = ys.len();
-    let start = put_head(text, 0, fr, 0);
-    let mut s = State {
+    let at = put_head(text, 0, fr, 0);
+    State {
         given: 0,
-        at: start,
-        column: start,
+        at,
+        column: at,
         last: 0,
         dif: false,
-    };
-    let mut i = 0;
-    while i < n {
-        s = turn(ys, text, fr, s);
-        i = s.given;
     }
+}
+
+// The text's end after the last group, with a check line if one is needed. The place after it.
+fn finish(text: &mut [u8], fr: Frame, s: State) -> usize
+    requires { ⌜ Sound fr × (s .last < 4294967296) × (s .at < 2 ^ 57) ⌝ }
+    ensures { λ r. ⌜ Put (now (text .entry)) (s .at) (now (text .exit)) r (13 ∷ 10 ∷ close (headOf fr) (s .dif) (fr .points) (s .last)) ⌝ }
+{
     let at = s.at;
     let dif = s.dif;
     let last = s.last;
@@ -78,16 +86,44 @@ fn pass(ys: &[i32], text: &mut [u8], fr: Frame) -> usize
     put_close(text, e, fr, dif, last)
 }
 
-// How far apart F and L are.
-fn spread(fr: Frame) -> u64
-    ensures { λ r. ⌜ r ≡ apart (fr .last) (fr .first) ⌝ }
+// The whole text from the start of the lent bytes. Its length.
+fn pass(ys: &[i32], text: &mut [u8], fr: Frame) -> usize
+    requires { ⌜ Sound fr × (length (now ys) ≡ fr .points) ⌝ }
+    ensures { λ r. ⌜ Put (now (text .entry)) 0 (now (text .exit)) r (lines-of (headOf fr) (ordinates (now (ys .entry)))) ⌝ }
 {
-    let first = fr.first;
-    let last = fr.last;
-    if first < last {
-        return last - first;
+    let n = ys.len();
+    let mut s = begin(text, fr);
+    let mut i = 0;
+    while i < n {
+        s = turn(ys, text, fr, s);
+        i = s.given;
     }
-    first - last
+    finish(text, fr, s)
+}
+
+// The text's length: line by line with no byte lent, the groups of a line only counted.
+fn measure(ys: &[i32], none: &mut [u8], fr: Frame) -> usize
+    requires { ⌜ Sound fr × (length (now ys) ≡ fr .points) × (length (now none) ≡ 0) ⌝ }
+    ensures { λ r. ⌜ r ≡ length (lines-of (headOf fr) (ordinates (now (ys .entry)))) ⌝ }
+{
+    let n = ys.len();
+    let mut s = begin(none, fr);
+    let mut i = 0;
+    while i < n {
+        s = count_turn(ys, none, fr, s);
+        i = s.given;
+    }
+    finish(none, fr, s)
+}
+
+// How far apart two numbers are.
+fn distance(a: u64, b: u64) -> u64
+    ensures { λ r. ⌜ r ≡ apart a b ⌝ }
+{
+    if a < b {
+        return b - a;
+    }
+    a - b
 }
 
 // A refusal of the writer: its place is 0.
@@ -97,7 +133,7 @@ fn refused(number: u64) -> TableWritten
     TableWritten::Refused(Refusal::new(number, 0))
 }
 
-// Whether the text fits into so many bytes: 15 a point and 44 more are always enough (table_write_law, `written-most`); if there are fewer, a pass measures it.
+// Whether the text fits into so many bytes: 15 a point and 44 more are always enough (table_write_law, `written-most`); if there are fewer, it is measured.
 fn fits(ys: &[i32], fr: Frame, room: usize) -> bool
     requires { ⌜ Sound fr × (length (now ys) ≡ fr .points) × (fr .points - 1 ≤ apart (fr .last) (fr .first)) ⌝ }
     ensures { λ r. ⌜ r ≡ leb (length (lines-of (headOf fr) (ordinates (now (ys .entry))))) room ⌝ }
@@ -106,8 +142,8 @@ fn fits(ys: &[i32], fr: Frame, room: usize) -> bool
     if 15 * n + 44 <= room {
         return true;
     }
-    let mut one = [0u8; 1];
-    let needed = pass(ys, &mut one, fr);
+    let mut none = [0u8; 1];
+    let needed = measure(ys, &mut none[..0], fr);
     needed <= room
 }
 
@@ -121,7 +157,7 @@ fn write_framed(fr: Frame, ordinates: &[i32], text: &mut [u8]) -> TableWritten
         return refused(2);
     }
     let steps = (n - 1) as u64;
-    if spread(fr) < steps {
+    if distance(fr.last, fr.first) < steps {
         return refused(14);
     }
     let ys = &ordinates[..n];

@@ -9,8 +9,9 @@ ghost use Rattle.table_spec.specs.Groups.{sqzText};
 ghost use Rattle.frame.specs.Legal.{Sound};
 ghost use Rattle.table_write.specs.Pieces.{Put, headOf};
 ghost use Rattle.table_write.specs.Tokens.{ordinates, Found};
-ghost use Rattle.table_write.specs.Lines.{opening, after, from, Wrote, Started};
+ghost use Rattle.table_write.specs.Lines.{opening, after, from, Wrote, Started, NewLine};
 use crate::Group;
+use crate::LONGEST_LINE;
 use crate::State;
 use crate::digits::further_digits;
 use crate::digits::put;
@@ -20,9 +21,6 @@ use crate::groups::put_group;
 use crate::heads::put_head;
 use frame::Frame;
 use signed::ordinate_at;
-
-// The most bytes of a line.
-const LONGEST_LINE: usize = 80;
 
 // CR LF. The place after it.
 pub fn put_end(out: &mut [u8], at: usize) -> usize
@@ -117,22 +115,50 @@ fn fill(
     }
 }
 
-// A new line, and the next group on it: as it was found on a check line, found afresh on another.
+// A new line: CR LF and its start. The state after them, in which the next group is to be found after a check line's value, else after none.
+pub fn new_line(out: &mut [u8], fr: Frame, s: State) -> State
+    requires { ⌜ Sound fr × Started s × (s .given < fr .points) × (s .at < 2 ^ 57) ⌝ }
+    ensures { λ r. ⌜ NewLine (headOf fr) s (now (out .entry)) (now (out .exit)) r ⌝ }
+{
+    let given = s.given;
+    let at = s.at;
+    let last = s.last;
+    let a = put_end(out, at);
+    let b = put_opening(out, a, fr, s);
+    let column = b - a;
+    if s.dif {
+        return State {
+            given,
+            at: b,
+            column,
+            last,
+            dif: true,
+        };
+    }
+    State {
+        given,
+        at: b,
+        column,
+        last: 0,
+        dif: false,
+    }
+}
+
+// The next group on a new line: as it was found on a check line, found afresh on another.
 fn break_line(ys: &[i32], out: &mut [u8], fr: Frame, s: State, g: Group) -> State
     requires { ⌜ Sound fr × (length (now ys) ≡ fr .points) × Started s × (s .given < length (now ys)) × Found (ordinates (now ys)) (s .given) (s .last) g × (80 < s .column + g .width) × (s .at < 2 ^ 57) ⌝ }
     ensures { λ r. ⌜ Wrote (headOf fr) (ordinates (now (ys .entry))) (s .given) (s .at) (from (headOf fr) (ordinates (now (ys .entry))) s) (now (out .entry)) (now (out .exit)) r ⌝ }
 {
     let i = s.given;
     let p = s.last;
-    let at = s.at;
-    let a = put_end(out, at);
-    let b = put_opening(out, a, fr, s);
-    let used = b - a;
+    let t = new_line(out, fr, s);
+    let at = t.at;
+    let column = t.column;
     if s.dif {
-        return fill(ys, out, fr, i, p, g, b, used);
+        return fill(ys, out, fr, i, p, g, at, column);
     }
     let h = find(ys, i, 0);
-    fill(ys, out, fr, i, 0, h, b, used)
+    fill(ys, out, fr, i, 0, h, at, column)
 }
 
 // One group more, on this line if it fits whole, else on a new one.

@@ -1,78 +1,58 @@
+use mathlib.Core.Path.{_∙_}
 use Prim.Native.Nat.{_-_}
 use native.Mathlib.Omega.{arith}
 use borrow.Author.Needs.{needs}
-use mathlib.Core.Path.{refl, _∙_}
 use lib.ListN.{length, length-map}
 use Rattle.table_spec.specs.Frame.{ordinate-of}
 use Rattle.table_write.specs.Tokens.{ordinates}
-use Rattle.table_write.specs.Pieces.{headOf}
+use Rattle.table_write.specs.Pieces.{headOf, put-length}
 use Rattle.table_write.specs.Lines.{Going}
-use Rattle.table_write.proofs.LineSteps.{starts, goes, finish}
+use Rattle.table_write.proofs.LineSteps.{starts, goes, going-near, finish}
 use Rattle.table_write.proofs.pass.Statement.{statement}
 use Rattle.table_write.proofs.pass.Tie as tie
 use Rattle.table_write.proofs.pass.Reads as reads
 use Rattle.table_write.proofs.pass.Lts as lts
-use Rattle.table_write.proofs.heads.put_head.Reads as put-head-reads
-use Rattle.table_write.proofs.lines.put_close.Reads as put-close-reads
-use Rattle.table_write.proofs.lines.put_end.Reads as put-end-reads
+use Rattle.table_write.proofs.begin.Reads as begin-reads
 use Rattle.table_write.proofs.lines.turn.Reads as turn-reads
+use Rattle.table_write.proofs.finish.Reads as finish-reads
 
 abbrev Inv-loop : tie.InvT-loop
-Inv-loop ys text₀ fr n start s₀ i₀ text s i = Going (headOf fr) (ordinates ys) text₀ s₀ text s i
+Inv-loop ys text₀ fr n s₀ i₀ text s i = Going (headOf fr) (ordinates ys) text₀ s₀ text s i
 
 abbrev μ-loop : tie.MeasureT-loop
-μ-loop ys text₀ fr n start s₀ i₀ text s i = length ys - i
+μ-loop ys text₀ fr n s₀ i₀ text s i = length ys - i
 
--- src/lib.rt:60:9
-put-head-requires : tie.Need-put-head-requires Inv-loop μ-loop
-put-head-requires c κs = search needs
+-- src/lib.rt:111:9
+begin-requires : tie.Need-begin-requires Inv-loop μ-loop
+begin-requires c κs = search needs
 
--- src/lib.rt:69:5
+-- src/lib.rt:113:5
 loop-holds : tie.Need-loop-holds Inv-loop μ-loop
-loop-holds c = starts _ _ _ _ (c .before .before .put-head .ensures .1)
+loop-holds c = let e = c .before .before .begin .ensures in starts _ _ _ _ _ (e .0) (e .1)
 
--- src/lib.rt:70:9
+-- src/lib.rt:114:9
 turn-requires : tie.Need-turn-requires Inv-loop μ-loop
-turn-requires c κs = let g = c .before .before .loop .inv in let p = c .before .before .before .before .before .before .before .before .pre in let m = g .most in
-    let i = g .is in let few = p .0 .few in
-    (p .0, p .1, g .started, omega (arith, c .before .loop-test .taken), omega (arith, p .1, c .before .loop-test .taken), g .column-most)
+turn-requires c κs = let a = c .before .before .before .before .before .before .before .before .args in let p = c .before .before .before .before .before .before .before .before .pre in let g = c .before .before .loop .inv in let l = length-map (a .ys .now) ordinate-of in let few = p .0 .few in let i = g .is in (p .0, p .1, g .started, omega (arith, c .before .loop-test .taken), omega (arith, going-near _ _ g (omega (arith, p .1))), g .column-most)
 
--- src/lib.rt:69:5
+-- src/lib.rt:113:5
 loop-less : tie.Need-loop-less Inv-loop μ-loop
-loop-less c = let w = c .before .before .turn .ensures in let g = c .before .before .before .before .before .loop .inv in let on = w .on in let i = g .is in omega
-    (arith, c .before .before .before .before .loop-test .taken)
+loop-less c = let w = c .before .before .turn .ensures in let g = c .before .before .before .before .before .loop .inv in let on = w .on in let i = g .is in omega (arith, c .before .before .before .before .loop-test .taken)
 
--- src/lib.rt:69:5
+-- src/lib.rt:113:5
 loop-again : tie.Need-loop-again Inv-loop μ-loop
 loop-again c = goes _ _ (c .before .before .before .before .before .loop .inv) (c .before .before .turn .ensures)
 
--- src/lib.rt:76:9
-put-end-requires : tie.Need-put-end-requires Inv-loop μ-loop
-put-end-requires c κs = let a = c .before .before .before .before .before .before .before .before .args in
-    let p = c .before .before .before .before .before .before .before .before .pre in let g = c .before .before .loop .inv in let m = g .most in let i = g .inside in
-    let few = p .0 .few in omega (arith, p .1, length-map (a .ys .now) ordinate-of)
+-- src/lib.rt:117:5
+finish-requires : tie.Need-finish-requires Inv-loop μ-loop
+finish-requires c κs = let a = c .before .before .before .before .before .before .before .before .args in let p = c .before .before .before .before .before .before .before .before .pre in let g = c .before .before .loop .inv in let l = length-map (a .ys .now) ordinate-of in let few = p .0 .few in (p .0, g .started .small, omega (arith, going-near _ _ g (omega (arith, p .1))))
 
--- src/lib.rt:77:5
-put-close-requires : tie.Need-put-close-requires Inv-loop μ-loop
-put-close-requires c κs = let a = c .before .before .before .before .before .before .before .before .before .before .before .before .args in
-    let p = c .before .before .before .before .before .before .before .before .before .before .before .before .pre in
-    let g = c .before .before .before .before .before .before .loop .inv in let m = g .most in let i = g .inside in let few = p .0 .few in
-    let e = c .before .before .before .put-end .ensures .next in
-    (p .0, g .started .small, omega (arith, p .1, length-map (a .ys .now) ordinate-of))
-
--- src/lib.rt:55:1
+-- src/lib.rt:106:1
 same-length : tie.Need-same-length Inv-loop μ-loop
 same-length c = search needs
 
--- src/lib.rt:55:1
+-- src/lib.rt:106:1
 returns : tie.Need-returns Inv-loop μ-loop
-returns c = let a = c .before .before .before .before .before .before .before .before .before .before .before .before .before .before .before .args in
-    let p = c .before .before .before .before .before .before .before .before .before .before .before .before .before .before .before .pre in let l = length-map
-    (a .ys .now) ordinate-of in let some = p .0 .some in let h = c .before .before .before .before .before .before .before .before .before .before .before .before .put-head .ensures in
-    finish (headOf (a .fr)) (ordinates (a .ys .now)) _ (omega (arith, p .1)) (h .1) (h .0)
-    (c .before .before .before .before .before .before .before .before .before .loop .inv)
-    (omega (arith, c .before .before .before .before .before .before .before .before .loop-test .left)) (l ∙ p .1)
-    (c .before .before .before .before .before .before .put-end .ensures) (c .before .before .put-close .ensures)
+returns c = let a = c .before .before .before .before .before .before .before .before .before .before .before .args in let p = c .before .before .before .before .before .before .before .before .before .before .before .pre in let l = length-map (a .ys .now) ordinate-of in let some = p .0 .some in let e = c .before .before .before .before .before .before .before .before .begin .ensures in finish (headOf (a .fr)) (ordinates (a .ys .now)) _ (omega (arith, p .1)) (e .0) (e .1) (e .2) (c .before .before .before .before .before .loop .inv) (omega (arith, c .before .before .before .before .loop-test .left)) (l ∙ p .1) (c .before .before .finish .ensures)
 
 pub pass-spec : {M : Type 1} → statement M
 pass-spec =
@@ -80,12 +60,11 @@ pass-spec =
     (tie.spec
     Inv-loop
     μ-loop
-    put-head-requires
+    begin-requires
     loop-holds
     turn-requires
     loop-less
     loop-again
-    put-end-requires
-    put-close-requires
+    finish-requires
     same-length
     returns)

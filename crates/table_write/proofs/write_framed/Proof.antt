@@ -11,7 +11,7 @@ use Rattle.table_write.proofs.write_framed.Lts as lts
 use Rattle.table_write.proofs.fits.Reads as fits-reads
 use Rattle.table_write.proofs.pass.Reads as pass-reads
 use Rattle.table_write.proofs.refused.Reads as refused-reads
-use Rattle.table_write.proofs.spread.Reads as spread-reads
+use Rattle.table_write.proofs.distance.Reads as distance-reads
 
 -- src/lib.rt:121:9
 refused-requires : tie.Need-refused-requires
@@ -26,8 +26,8 @@ sub-steps : tie.Need-sub-steps
 sub-steps c = search needs
 
 -- src/lib.rt:124:8
-spread-requires : tie.Need-spread-requires
-spread-requires c κs = search needs
+distance-requires : tie.Need-distance-requires
+distance-requires c κs = search needs
 
 -- src/lib.rt:125:9
 refused-requires-2 : tie.Need-refused-requires-2
@@ -36,7 +36,7 @@ refused-requires-2 c κs = search needs
 -- src/lib.rt:125:9
 returns-2 : tie.Need-returns-2
 returns-2 c = let a = c .before .before .before .before .before .args in too-near (a .fr) (a .ordinates .now) (a .text .now) (c .before .before .before .if1 .left)
-    (omega (arith, c .before .if2 .taken, c .before .before .spread .ensures)) (c .refused2 .ensures) refl
+    (omega (arith, c .before .if2 .taken, c .before .before .distance .ensures)) (c .refused2 .ensures) refl
 
 -- src/lib.rt:127:9
 slice-aggregate-ys : tie.Need-slice-aggregate-ys
@@ -45,7 +45,7 @@ slice-aggregate-ys c = let a = c .before .before .before .before .before .args i
 -- src/lib.rt:128:8
 fits-requires : tie.Need-fits-requires
 fits-requires c κs = let s = c .before .before .before .before .before in
-    (s .pre, length-take-le (s .args .fr .points) (s .args .ordinates .now) (c .before .before .before .if1 .left), omega (arith, c .before .if2 .left, c .before .before .spread .ensures))
+    (s .pre, length-take-le (s .args .fr .points) (s .args .ordinates .now) (c .before .before .before .if1 .left), omega (arith, c .before .if2 .left, c .before .before .distance .ensures))
 
 -- src/lib.rt:129:13
 pass-requires : tie.Need-pass-requires
@@ -60,7 +60,7 @@ returns-3 : tie.Need-returns-3
 returns-3 c =
     let b = c .before .before .before .before .before .before .before in
     let a = b .before .before .before .before .args in
-    in-room (a .fr) (a .ordinates .now) (a .text .now) (b .before .before .if1 .left) (omega (arith, b .if2 .left, b .before .spread .ensures))
+    in-room (a .fr) (a .ordinates .now) (a .text .now) (b .before .before .if1 .left) (omega (arith, b .if2 .left, b .before .distance .ensures))
     (leb-true _ _ (sym (c .before .before .before .before .before .fits2 .ensures) ∙ c .before .before .before .before .if3 .taken)) (c .before .before .pass .ensures) refl
 
 -- src/lib.rt:132:5
@@ -72,7 +72,7 @@ returns-4 : tie.Need-returns-4
 returns-4 c =
     let b = c .before .before .before .before in
     let a = b .before .before .before .before .args in
-    too-long (a .fr) (a .ordinates .now) (a .text .now) (b .before .before .if1 .left) (omega (arith, b .if2 .left, b .before .spread .ensures))
+    too-long (a .fr) (a .ordinates .now) (a .text .now) (b .before .before .if1 .left) (omega (arith, b .if2 .left, b .before .distance .ensures))
     (leb-false _ _ (sym (c .before .before .fits2 .ensures) ∙ c .before .if3 .left)) (c .refused3 .ensures) refl
 
 pub write-framed-spec : {M : Type 1} → statement M
@@ -82,7 +82,7 @@ write-framed-spec =
     refused-requires
     returns
     sub-steps
-    spread-requires
+    distance-requires
     refused-requires-2
     returns-2
     slice-aggregate-ys
