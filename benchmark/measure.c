@@ -137,7 +137,7 @@ int main(int argc, char **argv)
 {
     bool timed = argc == 5 && !strcmp(argv[1], "-time");
     if (argc != 4 + timed) {
-        fprintf(stderr, "measure [-time] FUNCTION typical|quiet|noisy[-POINTS]|file-POINTS|labels-BYTES TIMES|size\n");
+        fprintf(stderr, "measure [-time] FUNCTION typical|quiet|noisy|plain[-POINTS]|file-POINTS|labels-BYTES TIMES|size\n");
         return 2;
     }
     struct timespec before, after;

@@ -82,10 +82,29 @@ static struct table *table_of(const struct spectrum *s, uint64_t seed, size_t po
     return t;
 }
 
+/* A table as a person or a spreadsheet writes it: AFFN, five long ordinates and a comment on a line, some 16 bytes a point. */
+static struct table *plain_table(uint64_t seed, size_t points)
+{
+    struct table *t = memory(sizeof *t);
+    *t = (struct table){"plain", 0, 200 * ((int64_t)points - 1), points, 0, memory(points * sizeof(int32_t)), memory(40 * points + 40)};
+    char *p = (char *)t->body;
+    for (size_t i = 0; i < points; i++) {
+        t->ordinates[i] = (int32_t)(random_bits(&seed) % 4000000000 - 2000000000);
+        if (i % 5 == 0)
+            p += sprintf(p, "%s%zu.%zu", i ? " $$ by hand\r\n" : "", i / 5, i % 5 * 2);
+        p += sprintf(p, " %d", (int)t->ordinates[i]);
+    }
+    p += sprintf(p, "\r\n");
+    t->length = (size_t)((uint8_t *)p - t->body);
+    return t;
+}
+
 struct table *make_table(const char *name)
 {
     const char *dash = strchr(name, '-');
     size_t letters = dash ? (size_t)(dash - name) : strlen(name), points = dash ? strtoul(dash + 1, NULL, 10) : 65536;
+    if (!strncmp(name, "plain", letters))
+        return plain_table(2026, points);
     for (size_t k = 0; k < sizeof spectra / sizeof *spectra; k++)
         if (strlen(spectra[k].name) == letters && !strncmp(name, spectra[k].name, letters))
             return table_of(&spectra[k], 1981 + k, points, 200 * ((int64_t)points - 1)); /* a point each 200 thousandths */

@@ -14,7 +14,7 @@ struct table {
     uint8_t *body;
 };
 
-/* Makes the table of this name (typical, quiet or noisy), with 65,536 points or, as noisy-300, so many; NULL if there is none. */
+/* Makes the table of this name (typical, quiet, noisy or plain), with 65,536 points or, as noisy-300, so many; NULL if there is none. */
 struct table *make_table(const char *name);
 
 /* Makes a file with 40 records and a typical table of so many points; its length goes to *length. */

@@ -41,7 +41,7 @@ uint64_t lastarunc_read_table(int64_t first, int64_t last, size_t points, const 
  * Writes the first `points` of the n ordinates lent as a table body in DIFDUP form.
  * Accepted: returns 0, *length is the number of bytes of the text, and they stand from text[0] on.
  * Refused: returns the number, 1, 2, 14 or 15 (their place is always 0), *length is 0, and text is as it was.
- * 15 bytes for each point and 44 more hold every text; with less room the text is measured first, which takes as long again.
+ * 15 bytes for each point and 44 more hold every text; with less room the text is measured first, which takes about half as long again.
  */
 uint64_t lastarunc_write_table(int64_t first, int64_t last, size_t points, const int32_t *ordinates, size_t n,
                                uint8_t *text, size_t room, uint64_t *length);
