@@ -35,6 +35,18 @@ pub record NameEnd (s : List ℕ) (i r : ℕ) : Type 0 where
   pub is : eqAt s i ≡ spotAt s r
   pub same : from s i false ≡ from s r false
 
+-- LF stands at i or after it.
+pub record Ahead (s : List ℕ) (i : ℕ) : Type 0 where
+  pub place : ℕ
+  pub low : i ≤ place
+  pub high : place < length s
+  pub is : getD s place 0 ≡ 10
+
+-- Is LF one of the bytes from i up to j?
+pub record Within (s : List ℕ) (i j : ℕ) (r : Bool) : Type 0 where
+  pub some : r ≡ true → Ahead s i
+  pub none : r ≡ false → from s i false ≡ from s j false
+
 -- r is the place of the line's LF from i on, or the end.
 pub record LineEnd (s : List ℕ) (i r : ℕ) : Type 0 where
   pub low : i ≤ r
