@@ -1,16 +1,17 @@
 -- The turns of a comparison of names: no place of the code is named here.
 use mathlib.Core.Path.{_≡_, refl, sym, ap, _∙_}
-use mathlib.Core.Bool.{Bool, true, false}
+use mathlib.Core.Bool.{Bool, true, false, not}
 use mathlib.Core.List.{List, [], _∷_}
-use Prim.Native.Nat.{ℕ, _+_, _<_, _≤_}
+use Prim.Native.Nat.{ℕ, suc, _+_, _-_, _<_, _≤_}
 use native.Mathlib.Numerals.{add-one}
 use native.Mathlib.Omega.{arith}
-use lib.Dec.{leb}
-use lib.ListN.{length, getD}
-use borrow.Author.Tests.{leb-true, leb-false}
-use Rattle.label_spec.specs.Names.{nameIn, ignored, upper, sames}
-use Rattle.label_spec.specs.NameLaws.{name-end, name-skip, name-keep, both-done, left-done, right-done, differ, agree}
-use Rattle.label.specs.Post.{Kept, empty}
+use lib.Dec.{eqb, ltb, leb}
+use lib.ListN.{length, getD, List·getD-eq-default}
+use lib.Seq.{drop-cons}
+use borrow.Author.Tests.{eq-eqb, ne-eqb, ltb-true, ltb-false, leb-true, leb-false}
+use Rattle.label_spec.specs.Names.{pick, nameIn, norm, ignored, blank, upper, sames}
+use Rattle.label_spec.specs.NameLaws.{name-end, name-skip, name-keep, whole, both-done, left-done, right-done, differ, agree}
+use Rattle.label.specs.Post.{Kept, empty, firstOf, unlike}
 
 module _ (s : List ℕ) (i e r : ℕ) (k : Kept s i e r) where
   pub kept-end : e ≤ r → nameIn s i e ≡ []
@@ -66,3 +67,82 @@ module _ (s : List ℕ) (i e r : ℕ) (k : Kept s i e r) where
       cases : (z : Bool) → leb e r ≡ z → z ≡ empty (nameIn s i e)
       cases true h = rw (kept-end s i e r k (leb-true e r h)) (unfold empty in refl)
       cases false h = rw (kept-cons s i e r k (leb-false e r h) l) (unfold empty in refl)
+
+-- A name's first byte, and whether two of them differ.
+module _ (s : List ℕ) (i b : ℕ) (h : b ≡ getD s i 0) (z : Bool) (g : z ≡ ignored b) where
+  pub first-left : z ≡ true → 0 ≡ firstOf s i
+  unfolding firstOf
+  first-left n = rw (← h, ← g, n) refl
+
+  pub first-kept : z ≡ false → (u : ℕ) → u ≡ upper b → u ≡ firstOf s i
+  unfolding firstOf
+  first-kept n u e = rw (← h, ← g, n) e
+
+module _ (x y : ℕ) where
+  pub none-left : x ≡ 0 → false ≡ unlike x y
+  unfolding unlike
+  none-left e = rw (eq-eqb x 0 e) refl
+
+  pub none-right : (x ≡ 0 → ⊥) → y ≡ 0 → false ≡ unlike x y
+  unfolding unlike
+  none-right n e = rw (ne-eqb x 0 n, eq-eqb y 0 e) refl
+
+  pub both-first : (x ≡ 0 → ⊥) → (y ≡ 0 → ⊥) → not (eqb x y) ≡ unlike x y
+  unfolding unlike
+  both-first n o = rw (ne-eqb x 0 n, ne-eqb y 0 o) refl
+
+-- A name's first byte, where it says something, is the first of the name as it is compared.
+module _ (s : List ℕ) (i : ℕ) (n : firstOf s i ≡ 0 → ⊥) where
+  first-over : length s ≤ i → ⊥
+  unfolding firstOf ignored blank upper
+  first-over h = n (rw (List·getD-eq-default s 0 h) refl)
+
+  first-in : i < length s
+  first-in = cases (ltb i (length s)) refl
+    where
+      cases : (t : Bool) → ltb i (length s) ≡ t → i < length s
+      cases true e = ltb-true i (length s) e
+      cases false e = absurd (first-over (ltb-false i (length s) e))
+
+  kept-cases : (t : Bool) → ignored (getD s i 0) ≡ t → ignored (getD s i 0) ≡ false
+  unfolding firstOf
+  kept-cases true e = absurd (n (rw e refl))
+  kept-cases false e = e
+
+  name-first : (e : ℕ) → i < e → nameIn s i e ≡ firstOf s i ∷ nameIn s (i + 1) e
+  unfolding nameIn norm firstOf
+  name-first e h =
+      let z : e - i ≡ suc (e - (i + 1)) = omega arith in rw (z, drop-cons s i 0 first-in, add-one i, kept-cases (ignored (getD s i 0)) refl) refl
+
+-- Names whose first bytes differ.
+module _ (x y : ℕ) (h : unlike x y ≡ true) where
+  unlike-left : x ≡ 0 → ⊥
+  unfolding unlike
+  unlike-left e = let f = rw (eq-eqb x 0 e) at h in let z : _≡_ {A = ℕ} 0 1 = cc in omega arith
+
+  unlike-right : y ≡ 0 → ⊥
+  unfolding unlike
+  unlike-right e = let f = rw (ne-eqb x 0 unlike-left, eq-eqb y 0 e) at h in let z : _≡_ {A = ℕ} 0 1 = cc in omega arith
+
+  unlike-both : x ≡ y → ⊥
+  unfolding unlike
+  unlike-both e = let f = rw (ne-eqb x 0 unlike-left, ne-eqb y 0 unlike-right, eq-eqb x y e) at h in let z : _≡_ {A = ℕ} 0 1 = cc in omega arith
+
+module _ (s : List ℕ) (a : ℕ) (t : List ℕ) (b : ℕ) (h : unlike (firstOf s a) (firstOf t b) ≡ true) where
+  apart-in : b < length t
+  apart-in = first-in t b (unlike-right (firstOf s a) (firstOf t b) h)
+
+  pub apart : (ae be : ℕ) → b < be → sames (nameIn s a ae) (nameIn t b be) ≡ false
+  apart ae be l = rw (name-first t b (unlike-right (firstOf s a) (firstOf t b) h) be l) (cases (leb ae a) refl)
+    where
+      cases : (z : Bool) → leb ae a ≡ z → sames (nameIn s a ae) (firstOf t b ∷ nameIn t (b + 1) be) ≡ false
+      cases true e = rw (name-end s a ae (leb-true ae a e)) (left-done _ _)
+      cases false e =
+          rw (name-first s a (unlike-left (firstOf s a) (firstOf t b) h) ae (leb-false ae a e)) (differ _ _ _ _ (unlike-both (firstOf s a) (firstOf t b) h))
+
+pub apart-word : (s : List ℕ) (a : ℕ) (t : List ℕ) → unlike (firstOf s a) (firstOf t 0) ≡ true → (e : ℕ) → sames (nameIn s a e) (norm t) ≡ false
+apart-word s a t h e = ap (sames (nameIn s a e)) (sym (whole t)) ∙ apart s a t 0 h e (length t) (apart-in s a t 0 h)
+
+pub told-apart : (s : List ℕ) (a x : ℕ) → x ≡ firstOf s a → (t : List ℕ) (b y : ℕ) → y ≡ firstOf t b → (z : Bool) → z ≡ unlike x y → z ≡ true
+    → unlike (firstOf s a) (firstOf t b) ≡ true
+told-apart s a x e t b y f z g n = rw (← e, ← f) (sym g ∙ n)

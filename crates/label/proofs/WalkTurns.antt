@@ -9,6 +9,7 @@ use lib.ListN.{length, getD}
 use borrow.Author.Tests.{eq-eqb, ne-eqb, eqb-true, eqb-false, ltb-true, ltb-false, leb-true, leb-false, lt-ltb, le-ltb}
 use Rattle.label_spec.specs.Names.{pick, nameIn, sames, TITLE, END}
 use Rattle.label_spec.specs.Labels.{Walk, over, bad, label, longestName, from, hashed}
+use Rattle.label_spec.specs.NameLaws.{name-end}
 use Rattle.label_spec.specs.LabelLaws.{resume, from-end, hash-in}
 use Rattle.terms.specs.Refusals.{refusal}
 use Rattle.label_spec.specs.File.{judged}
@@ -20,8 +21,8 @@ use Rattle.label_spec.specs.declared.Label.the-variants.{At, Bad, None}
 use Rattle.label_spec.specs.declared.Walked.{Walked}
 use Rattle.label.specs.declared.Judged.{Judged}
 use Rattle.label.specs.Answers.{walkedIn}
-use Rattle.label.specs.Post.{empty, NameEnd, Marked, Met, leads, Told}
-use Rattle.label.proofs.LineTurns.{here-none, here-long, here-at}
+use Rattle.label.specs.Post.{empty, Alike, Marked, Met, leads, Told}
+use Rattle.label.proofs.MarkTurns.{mark-scanned}
 
 -- The place of the next `##` is that of the next label.
 module _ (s : List ℕ) (at k : ℕ) (q : Marked s at k) where
@@ -100,12 +101,17 @@ module _ (s : List ℕ) (at : ℕ) where
           );
         }
 
+        not-empty : empty (nameIn s n e) ≡ false → (t : Bool) → ltb n e ≡ t → n < e
+        unfolding empty
+        not-empty h true g = ltb-true n e g
+        not-empty h false g = let f = rw (name-end s n e (ltb-false n e g)) at h in let z : _≡_ {A = ℕ} 0 1 = cc in absurd (omega arith)
+
         pub told-named : empty (nameIn s n e) ≡ false → Told s at (Judged.Named m n e)
         told-named h = record {
           says = (
             x .good .0,
             omega (arith, x .good .1),
-            x .good .2,
+            not-empty h (ltb n e) refl,
             x .good .3,
             label-is,
             λ all. told-label all ∙ rw (a, b, clash-named m (nameIn s n e) all h) refl,
@@ -194,7 +200,7 @@ module _ (s : List ℕ) (start m : ℕ) (w : List ℕ) (j : ℕ) (r : Near s sta
   pub near-over : m ≤ x → known m w (from s start false) ≡ false
   near-over h = r .2 ∙ known-past (length s) m w (from s j false) (rw (mark-is s j x q) at h)
 
-  -- m is ahead, so that the label at x is no bad one.
+  -- The label at x, before m.
   module _ (h : x < m) (b : m ≤ length s) where
     hx : hashed s x ≡ true
     hx = q .stops (omega arith)
@@ -202,40 +208,12 @@ module _ (s : List ℕ) (start m : ℕ) (w : List ℕ) (j : ℕ) (r : Near s sta
     pub near-hashed : x + 2 ≤ length s
     near-hashed = omega (arith, hash-in s x hx)
 
-  module _ (h : x < m) (b : m ≤ length s) (f : ℕ) (e : NameEnd s (x + 2) f) where
-    not-bad : Met s x true (Bad x) → ⊥
-    unfolding resume leads
-    not-bad y = let g : leads m (from s j false) ≡ false = ap (leads m) (q .same ∙ y .law) in let z : _≡_ {A = ℕ} 0 1 = cc (r .1) in omega arith
+    module _ (z : Bool) (a : Alike s (x + 2) w z) where
+      scanned : (known m w (from s x true) ≡ pick z true (known m w (from s (x + 2) false))) × (leads m (from s (x + 2) false) ≡ true)
+      scanned = mark-scanned s x hx m h w z a (sym (ap (leads m) (q .same)) ∙ r .1)
 
-    met-long : (t : Bool) → leb (length (nameIn s (x + 2) f)) longestName ≡ t → getD s f 0 ≡ 61 → Met s x true (At x (x + 2) f)
-    met-long true k g = here-at s x (hx h b) f e g (length (nameIn s (x + 2) f)) refl (leb-true (length (nameIn s (x + 2) f)) longestName k)
-    met-long false k g = absurd (not-bad (here-long s x (hx h b) f e g (length (nameIn s (x + 2) f)) refl (leb-false (length (nameIn s (x + 2) f)) longestName k)))
+      pub near-hit : z ≡ true → known m w (from s start false) ≡ true
+      near-hit t = r .2 ∙ ap (known m w) (q .same) ∙ scanned .0 ∙ rw t refl
 
-    met-cases : (t : Bool) → eqb (getD s f 0) 61 ≡ t → Met s x true (At x (x + 2) f)
-    met-cases true k = met-long (leb (length (nameIn s (x + 2) f)) longestName) refl (eqb-true (getD s f 0) 61 k)
-    met-cases false k = absurd (not-bad (here-none s x (hx h b) f e (eqb-false (getD s f 0) 61 k)))
-
-    met : Met s x true (At x (x + 2) f)
-    met = met-cases (eqb (getD s f 0) 61) refl
-
-    pub near-in : f < length s
-    near-in = met .good .3
-
-    near-label : known m w (from s start false) ≡ pick (ltb x m) (pick (sames (nameIn s (x + 2) f) w) true (known m w (from s (f + 1) false))) false
-    unfolding resume known
-    near-label = r .2 ∙ ap (known m w) (q .same ∙ met .law)
-
-    leads-label : leads m (from s j false) ≡ pick (eqb x m) true (leads m (from s (f + 1) false))
-    unfolding resume leads
-    leads-label = ap (leads m) (q .same ∙ met .law)
-
-    pub near-hit : (z : Bool) → z ≡ sames (nameIn s (x + 2) f) w → z ≡ true → known m w (from s start false) ≡ true
-    near-hit z g t = near-label ∙ rw (lt-ltb x m h, ← g, t) refl
-
-    pub near-on : (z : Bool) → z ≡ sames (nameIn s (x + 2) f) w → z ≡ false → Near s start m w (f + 1)
-    near-on z g t =
-        let n : x ≡ m → ⊥ = λ y. omega arith in (
-          omega (arith, near-in),
-          sym (rw (ne-eqb x m n) at leads-label) ∙ r .1,
-          near-label ∙ rw (lt-ltb x m h, ← g, t) refl,
-        )
+      pub near-on : z ≡ false → Near s start m w (x + 2)
+      near-on t = (near-hashed, scanned .1, r .2 ∙ ap (known m w) (q .same) ∙ scanned .0 ∙ rw t refl)

@@ -3,7 +3,8 @@ ghost use mathlib.Core.Path.{_≡_};
 ghost use Prim.Native.Nat.{_<_, _≤_};
 ghost use lib.ListN.{length};
 ghost use Rattle.label_spec.specs.Names.{ignored, upper, norm, nameIn, sames, TITLE, END};
-ghost use Rattle.label.specs.Post.{Kept, empty};
+ghost use Rattle.label.specs.Post.{Kept, empty, firstOf, unlike};
+use crate::lines::byte_at;
 
 // Is this byte left out where names are compared?
 fn is_ignored(b: u8) -> bool
@@ -26,6 +27,30 @@ fn upper_of(b: u8) -> u8
         return b;
     }
     b - 32
+}
+
+// The first byte of a name as it is compared; 0 says nothing, as where it is left out or the text is over.
+pub fn first_of(s: &[u8], i: usize) -> u8
+    ensures { λ r. ⌜ r ≡ firstOf (now (s .entry)) i ⌝ }
+{
+    let b = byte_at(s, i);
+    if is_ignored(b) {
+        return 0;
+    }
+    upper_of(b)
+}
+
+// Do names differ by these first bytes? It spares looking further at most names.
+pub fn differ(x: u8, y: u8) -> bool
+    ensures { λ r. ⌜ r ≡ unlike x y ⌝ }
+{
+    if x == 0 {
+        return false;
+    }
+    if y == 0 {
+        return false;
+    }
+    x != y
 }
 
 // The place of the first byte from i on that counts in a name, or e, the name's end.
