@@ -147,7 +147,7 @@ fn next_judged(s: &[u8], at: usize) -> Judged
     }
 }
 
-// If a label's name starts at `other`: is it the one from `name` up to `eq`, whose first byte is lent?
+// Is the label name that starts at `other` the one from `name` up to `eq`? The first byte of this one is given.
 fn is_same(part: &[u8], other: usize, first: u8, name: usize, eq: usize) -> bool
     requires { ⌜ (other ≤ length (now part)) × (name < eq) × (eq ≤ length (now part)) × (first ≡ firstOf (now part) name) ⌝ }
     ensures { λ r. ⌜ Alike (now (part .entry)) other (nameIn (now (part .entry)) name eq) r ⌝ }
@@ -201,7 +201,7 @@ pub fn walk(part: &[u8], start: usize) -> Walked
     fault(23, second)
 }
 
-// The place of the `=` of the label whose `##` stands here, if its name is this one, whose first byte is given.
+// The place of the `=` of the label whose `##` stands here, if it has this name. The first byte of the name is given.
 fn eq_here(part: &[u8], at: usize, first: u8, name: &[u8]) -> Spot
     requires { ⌜ (hashed (now part) at ≡ true) × (first ≡ firstOf (now name) 0) ⌝ }
     ensures { λ r. ⌜ Named (now (part .entry)) at (norm (now (name .entry))) r ⌝ }
