@@ -4,18 +4,20 @@ ghost use mathlib.Core.Bool.{true, false};
 ghost use mathlib.Core.List.{[]};
 ghost use Prim.Native.Nat.{_+_, _-_, _<_, _≤_};
 ghost use lib.ListN.{length, take, drop};
-ghost use Rattle.label_spec.specs.Names.{norm};
+ghost use Rattle.label_spec.specs.Names.{norm, nameIn};
 ghost use Rattle.label_spec.specs.Labels.{from, hashed};
 ghost use Rattle.terms.specs.Refusals.{refusal};
 ghost use Rattle.label_spec.specs.File.{openedAt, opened, judged, labelled};
 ghost use Rattle.label_spec.specs.Records.{recordOf, recordFor, textOf};
 ghost use Rattle.label.specs.Answers.{Passed, TitleAt, openIn, walkedIn, labelledIn, foundIn, findIn};
-ghost use Rattle.label.specs.Post.{Told};
+ghost use Rattle.label.specs.Post.{firstOf, Alike, Named, Told};
 use crate::lines::is_hashed;
 use crate::lines::label_here;
 use crate::lines::name_end;
 use crate::lines::next_label;
 use crate::lines::next_mark;
+use crate::names::differ;
+use crate::names::first_of;
 use crate::names::is_empty;
 use crate::names::is_end;
 use crate::names::is_title;
@@ -28,6 +30,7 @@ use label_spec::Label;
 use label_spec::Labelled;
 use label_spec::Opened;
 use label_spec::Record;
+use label_spec::Spot;
 use label_spec::Walked;
 use terms::Refusal;
 
@@ -144,6 +147,18 @@ fn next_judged(s: &[u8], at: usize) -> Judged
     }
 }
 
+// Is the label name that starts at `other` the one from `name` up to `eq`? The first byte of this one is given.
+fn is_same(part: &[u8], other: usize, first: u8, name: usize, eq: usize) -> bool
+    requires { ⌜ (other ≤ length (now part)) × (name < eq) × (eq ≤ length (now part)) × (first ≡ firstOf (now part) name) ⌝ }
+    ensures { λ r. ⌜ Alike (now (part .entry)) other (nameIn (now (part .entry)) name eq) r ⌝ }
+{
+    if differ(first_of(part, other), first) {
+        return false;
+    }
+    let end = name_end(part, other);
+    same_name(part, other, end, part, name, eq)
+}
+
 // The walk over the labels of a part of a file, from after TITLE's `=`: up to END, or to the first of 20, 22, 23, 24.
 // Each label is compared with every label before it: two nested scans, left from inside at the first equal name (23).
 pub fn walk(part: &[u8], start: usize) -> Walked
@@ -165,6 +180,7 @@ pub fn walk(part: &[u8], start: usize) -> Walked
                 start: name,
                 eq,
             } => {
+                let first = first_of(part, name);
                 let mut from = start;
                 loop {
                     let earlier = next_mark(part, from);
@@ -172,12 +188,11 @@ pub fn walk(part: &[u8], start: usize) -> Walked
                         break;
                     }
                     let other = earlier + 2;
-                    let end = name_end(part, other);
-                    if same_name(part, other, end, part, name, eq) {
+                    if is_same(part, other, first, name, eq) {
                         second = mark;
                         break 'walk;
                     }
-                    from = end + 1;
+                    from = other;
                 }
                 at = eq + 1;
             }
@@ -186,33 +201,57 @@ pub fn walk(part: &[u8], start: usize) -> Walked
     fault(23, second)
 }
 
+// The place of the `=` of the label whose `##` stands here, if it has this name. The first byte of the name is given.
+fn eq_here(part: &[u8], at: usize, first: u8, name: &[u8]) -> Spot
+    requires { ⌜ (hashed (now part) at ≡ true) × (first ≡ firstOf (now name) 0) ⌝ }
+    ensures { λ r. ⌜ Named (now (part .entry)) at (norm (now (name .entry))) r ⌝ }
+{
+    let start = at + 2;
+    if differ(first_of(part, start), first) {
+        return Spot::Nowhere;
+    }
+    match label_here(part, at) {
+        Label::None => Spot::Nowhere,
+        Label::Bad { mark: _ } => Spot::Nowhere,
+        Label::At {
+            mark: _,
+            start: n,
+            eq,
+        } => {
+            if is_word(part, n, eq, name) {
+                return Spot::Place(eq);
+            }
+            Spot::Nowhere
+        }
+    }
+}
+
 // The text of the first record with a name, among the labels of a part of a file after the place `start` and before `stop`.
 pub fn find_record(part: &[u8], start: usize, stop: usize, name: &[u8]) -> Found
     requires { ⌜ start ≤ length (now part) ⌝ }
     ensures { λ r. ⌜ (r ≡ recordOf (length (now (part .entry))) stop (norm (now (name .entry))) (from (now (part .entry)) start false)) × foundIn start (length (now (part .entry))) r ⌝ }
 {
+    let first = first_of(name, 0);
     let mut at = start;
     loop {
-        match next_label(part, at) {
-            Label::None => {
-                return Found::Absent;
-            }
-            Label::Bad { mark } => {
-                at = mark + 1;
-            }
-            Label::At { mark, start: n, eq } => {
-                if mark >= stop {
-                    return Found::Absent;
-                }
+        let mark = next_mark(part, at);
+        if mark >= stop {
+            return Found::Absent;
+        }
+        if mark >= part.len() {
+            return Found::Absent;
+        }
+        match eq_here(part, mark, first, name) {
+            Spot::Place(eq) => {
                 let next = eq + 1;
-                if is_word(part, n, eq, name) {
-                    let end = next_mark(part, next);
-                    return Found::Text {
-                        from: next,
-                        to: end,
-                    };
-                }
-                at = next;
+                let end = next_mark(part, next);
+                return Found::Text {
+                    from: next,
+                    to: end,
+                };
+            }
+            Spot::Nowhere => {
+                at = mark + 2;
             }
         }
     }
