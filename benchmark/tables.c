@@ -144,9 +144,10 @@ uint8_t *make_labels(size_t length)
     size_t at = 9;
     memset(file, '\n', length);
     memcpy(file, "##TITLE=\n", 9);
-    for (unsigned n = 0; at + 8 + 6 <= length; n++) {
+    for (unsigned n = 0; at + 9 + 6 <= length; n++) {
         file[at++] = '#';
         file[at++] = '#';
+        file[at++] = 'A'; /* names that begin alike take longer to tell apart */
         for (unsigned rest = n, k = 0; k < 4; k++, rest /= 23)
             if (k < 1 || rest)
                 file[at++] = letters[rest % 23];

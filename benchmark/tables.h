@@ -20,7 +20,7 @@ struct table *make_table(const char *name);
 /* Makes a file with 40 records and a typical table of so many points; its length goes to *length. */
 uint8_t *make_file(size_t points, size_t *length);
 
-/* Makes a file of so many bytes, full of short different labels: the worst case of comparing each with all before it. */
+/* Makes a file of so many bytes, full of short different labels that begin alike: the worst case of comparing each with all before it. */
 uint8_t *make_labels(size_t length);
 
 #endif
