@@ -105,6 +105,8 @@ static bool run(const char *name, const char *table, const char *times)
         if (size)
             printf("%zu %zu\n", length, points);
 #ifdef HAVE_READ_FILE
+        else if (!strcmp(name, "read-library-table"))
+            run_reader(name, lastarunc_read_table, make_file_table(points), atol(times));
         else
             run_file(file, length, points, atol(times));
         return true;

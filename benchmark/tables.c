@@ -111,6 +111,11 @@ struct table *make_table(const char *name)
     return NULL;
 }
 
+struct table *make_file_table(size_t points)
+{
+    return table_of(&spectra[0], 63, points, 200 * ((int64_t)points - 1));
+}
+
 uint8_t *make_file(size_t points, size_t *length)
 {
     static const char *const before[] = {
@@ -123,7 +128,7 @@ uint8_t *make_file(size_t points, size_t *length)
         ".REPETITION RATE=50", ".DRIFT CHAMBER=12", ".AVERAGES=64", ".TEMPERATURE=20", "RESOLUTION=0.02", "DELTAX=0.02",
         "XUNITS=MILLISECONDS", "YUNITS=PICOAMPERES",
     };
-    struct table *t = table_of(&spectra[0], 63, points, 200 * ((int64_t)points - 1));
+    struct table *t = make_file_table(points);
     char *file = memory(t->length + 8192), *p = file;
     for (size_t k = 0; k < sizeof before / sizeof *before; k++)
         p += sprintf(p, "##%s\r\n", before[k]);

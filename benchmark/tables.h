@@ -17,6 +17,9 @@ struct table {
 /* Makes the table of this name (typical, quiet, noisy or plain), with 65,536 points or, as noisy-300, so many; NULL if there is none. */
 struct table *make_table(const char *name);
 
+/* The table of the file that make_file makes. */
+struct table *make_file_table(size_t points);
+
 /* Makes a file with 40 records and a typical table of so many points; its length goes to *length. */
 uint8_t *make_file(size_t points, size_t *length);
 
