@@ -7,12 +7,10 @@ use Rattle.alphabet.proofs.byte_entry.Reads as reads
 use Rattle.alphabet.proofs.byte_entry.Lts as lts
 use Rattle.alphabet.proofs.entry_of.Reads as entry-of-reads
 
--- src/lib.rt:325:5
 entry-of-requires : tie.Need-entry-of-requires
 unfolding table
 entry-of-requires c κs = refl
 
--- src/lib.rt:321:1
 returns : tie.Need-returns
 returns c = search needs
 

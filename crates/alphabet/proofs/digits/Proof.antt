@@ -18,47 +18,36 @@ Inv-loop t s from v most w₀ i₀ e₀ w i e = Running s from v most w i × (e 
 abbrev μ-loop : tie.MeasureT-loop
 μ-loop t s from v most w₀ i₀ e₀ w i e = length s - i
 
--- src/lib.rt:308:9
 entry-at-requires : tie.Need-entry-at-requires Inv-loop μ-loop
 entry-at-requires c κs = search needs
 
--- src/lib.rt:309:5
 loop-holds : tie.Need-loop-holds Inv-loop μ-loop
 loop-holds c = (start _ _ _ _ (c .before .before .pre .1), c .entry-at .ensures)
 
--- src/lib.rt:310:12
 sub-if1 : tie.Need-sub-if1 Inv-loop μ-loop
 sub-if1 c = let l = c .before .loop .inv .0 .low in omega arith
 
--- src/lib.rt:311:13
 returns : tie.Need-returns Inv-loop μ-loop
 returns c = let l = c .before .before .loop .inv in let x = l .0 .low in let y = l .0 .few in stop (l .0) (l .1) (λ _. omega arith)
 
--- src/lib.rt:313:13
 mul-w : tie.Need-mul-w Inv-loop μ-loop
 mul-w c = let l = c .before .before .loop .inv in let x = fits (l .0) (omega arith) (c .before .before .before .before .before .pre .2) in omega arith
 
--- src/lib.rt:313:13
 add-w : tie.Need-add-w Inv-loop μ-loop
 add-w c = let l = c .before .before .loop .inv in let x = fits (l .0) (omega arith) (c .before .before .before .before .before .pre .2) in omega arith
 
--- src/lib.rt:314:9
 add-i : tie.Need-add-i Inv-loop μ-loop
 add-i c = let l = c .before .before .loop .inv in let h = digit-at (c .before .before .before .before .before .args .s .now) (c .before .before .loop .i) (omega (arith, l .1)) in omega (arith, h .0)
 
--- src/lib.rt:315:9
 entry-at-requires-2 : tie.Need-entry-at-requires-2 Inv-loop μ-loop
 entry-at-requires-2 c κs = search needs
 
--- src/lib.rt:309:5
 loop-less : tie.Need-loop-less Inv-loop μ-loop
 loop-less c = let l = c .before .before .before .loop .inv in let h = digit-at (c .before .before .before .before .before .before .args .s .now) (c .before .before .before .loop .i) (omega (arith, l .1)) in omega (arith, h .0)
 
--- src/lib.rt:309:5
 loop-again : tie.Need-loop-again Inv-loop μ-loop
 loop-again c = let l = c .before .before .before .loop .inv in (step (l .0) (l .1) (c .before .before .loop-test .taken) (omega arith), c .entry-at2 .ensures)
 
--- src/lib.rt:302:1
 returns-2 : tie.Need-returns-2 Inv-loop μ-loop
 returns-2 c = let l = c .before .loop .inv in stop (l .0) (l .1) (λ h. absurd (let x = c .loop-test .left in omega arith))
 

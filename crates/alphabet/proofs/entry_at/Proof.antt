@@ -7,19 +7,15 @@ use Rattle.alphabet.proofs.entry_at.Reads as reads
 use Rattle.alphabet.proofs.entry_at.Lts as lts
 use Rattle.alphabet.proofs.entry_of.Reads as entry-of-reads
 
--- src/lib.rt:296:28
 shared-slice-read-entry-of : tie.Need-shared-slice-read-entry-of
 shared-slice-read-entry-of c = search needs
 
--- src/lib.rt:296:9
 entry-of-requires : tie.Need-entry-of-requires
 entry-of-requires c κs = search needs
 
--- src/lib.rt:296:9
 returns : tie.Need-returns
 returns c = c .entry-of .ensures ∙ sym (at-entry _ _ (c .before .before .if1 .taken))
 
--- src/lib.rt:291:1
 returns-2 : tie.Need-returns-2
 returns-2 c = sym (past-end _ _ (c .if1 .left))
 

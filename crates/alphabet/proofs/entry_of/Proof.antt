@@ -10,15 +10,12 @@ use Rattle.alphabet.proofs.entry_of.Reads as reads
 use Rattle.alphabet.proofs.entry_of.Lts as lts
 use Rattle.alphabet.proofs.wide.Reads as wide-reads
 
--- src/lib.rt:287:10
 element-copy-out-wide : tie.Need-element-copy-out-wide
 element-copy-out-wide c = search needs
 
--- src/lib.rt:287:5
 wide-requires : tie.Need-wide-requires
 wide-requires c κs = search needs
 
--- src/lib.rt:283:1
 returns : tie.Need-returns
 returns c =
     let b = c .before .before .args .b in

@@ -10,33 +10,27 @@ use Rattle.frame.proofs.lift.Tie as tie
 use Rattle.frame.proofs.lift.Reads as reads
 use Rattle.frame.proofs.lift.Lts as lts
 
--- src/lib.rt:24:12
 sub-if1 : tie.Need-sub-if1
 sub-if1 c = search needs
 
--- src/lib.rt:25:9
 returns : tie.Need-returns
 returns c = sym (too-low _ (rw (toZ-ofZ (c .before .fits .x)) at (c .if1 .taken)))
 
--- src/lib.rt:28:9
 returns-2 : tie.Need-returns-2
 returns-2 c = sym (too-high _ (rw (toZ-ofZ (c .before .before .fits .x)) at (c .if2 .taken)))
 
--- src/lib.rt:30:13
 add-y : tie.Need-add-y
 add-y c =
     let e = toZ-ofZ (c .before .before .fits .x) in let x = c .before .before .args .x in
     let g = within-mag x (rw e at (c .before .if1 .left)) (rw e at (c .if2 .left)) in
     rw (e, lift-sum zero-abscissa x g) (lifted-fits x g)
 
--- src/lib.rt:31:5
 cast-result : tie.Need-cast-result
 cast-result c =
     let e = toZ-ofZ (c .before .before .fits .x) in let x = c .before .before .args .x in
     let g = within-mag x (rw e at (c .before .if1 .left)) (rw e at (c .if2 .left)) in
     rw (e, lift-sum zero-abscissa x g, toZ-ofZ (lifted-fits x g)) (tt, record { fits = omega (arith, lift-small zero-abscissa x g) })
 
--- src/lib.rt:21:1
 returns-3 : tie.Need-returns-3
 returns-3 c =
     let e = toZ-ofZ (c .before .before .fits .x) in let x = c .before .before .args .x in

@@ -7,31 +7,24 @@ use Rattle.host.proofs.lastarunc_find_record.Reads as reads
 use Rattle.host.proofs.lastarunc_find_record.Lts as lts
 use Rattle.label.proofs.find.Reads as find-reads
 
--- src/lib.rt:97:11
 find-requires : tie.Need-find-requires
 find-requires c κs = search needs
 
--- src/lib.rt:98:30
 enum-known-a : tie.Need-enum-known-a
 enum-known-a c = search needs
 
--- src/lib.rt:104:13
 enum-told : tie.Need-enum-told
 enum-told c = search needs
 
--- src/lib.rt:108:25
 enum-known-r : tie.Need-enum-known-r
 enum-known-r c = search needs
 
--- src/lib.rt:88:1
 returns : tie.Need-returns
 returns c = let e = sym (c .before .a .given .1) ∙ c .before .before .before .find .ensures .0 in record { number = ap recordNumber e; second = ap recordFrom e; third = ap recordTo e }
 
--- src/lib.rt:88:1
 returns-2 : tie.Need-returns-2
 returns-2 c = let e = sym (c .enum-told .given .1) ∙ c .before .before .find .ensures .0 in record { number = ap recordNumber e; second = ap recordFrom e; third = ap recordTo e }
 
--- src/lib.rt:88:1
 returns-3 : tie.Need-returns-3
 returns-3 c = let e = sym (c .before .r .given .1) ∙ c .before .before .before .find .ensures .0 in record { number = ap recordNumber e; second = ap recordFrom e; third = ap recordTo e }
 

@@ -10,33 +10,26 @@ use Rattle.host.proofs.lastarunc_read_file.Reads as reads
 use Rattle.host.proofs.lastarunc_read_file.Lts as lts
 use Rattle.file.proofs.read_file.Reads as read-file-reads
 
--- src/lib.rt:69:11
 read-file-requires : tie.Need-read-file-requires
 read-file-requires c κs = search needs
 
--- src/lib.rt:70:28
 enum-known-t : tie.Need-enum-known-t
 enum-known-t c = search needs
 
--- src/lib.rt:80:27
 enum-known-r : tie.Need-enum-known-r
 enum-known-r c = search needs
 
--- src/lib.rt:58:1
 same-length : tie.Need-same-length
 same-length c = search needs
 
--- src/lib.rt:58:1
 returns : tie.Need-returns
 returns c =
     let k = c .before .struct-told .given in
     rw (toZ-ofZ (sfits-of {w = w64} (k .1 .0 .1)), toZ-ofZ (sfits-of {w = w64} (k .1 .1 .0 .1))) (told-file (rw (c .before .before .before .t .given .1) at (c .before .before .before .before .before .before .read-file .ensures)))
 
--- src/lib.rt:58:1
 same-length-2 : tie.Need-same-length-2
 same-length-2 c = search needs
 
--- src/lib.rt:58:1
 returns-2 : tie.Need-returns-2
 returns-2 c = told-file-refused (rw (c .before .r .given .1) at (c .before .before .before .before .read-file .ensures))
 

@@ -8,31 +8,24 @@ use Rattle.host.proofs.lastarunc_read_table.Reads as reads
 use Rattle.host.proofs.lastarunc_read_table.Lts as lts
 use Rattle.table_read.proofs.read_table.Reads as read-table-reads
 
--- src/lib.rt:21:11
 read-table-requires : tie.Need-read-table-requires
 read-table-requires c κs = search needs
 
--- src/lib.rt:22:29
 enum-known-n : tie.Need-enum-known-n
 enum-known-n c = search needs
 
--- src/lib.rt:26:28
 enum-known-r : tie.Need-enum-known-r
 enum-known-r c = search needs
 
--- src/lib.rt:10:1
 same-length : tie.Need-same-length
 same-length c = search needs
 
--- src/lib.rt:10:1
 returns : tie.Need-returns
 returns c = let S = c .before .before .before .before .before .before .before in told-accepted (rw (toZ-ofZ (S .fits .first), toZ-ofZ (S .fits .last), c .before .n .given .1) at (c .before .before .before .before .read-table .ensures))
 
--- src/lib.rt:10:1
 same-length-2 : tie.Need-same-length-2
 same-length-2 c = search needs
 
--- src/lib.rt:10:1
 returns-2 : tie.Need-returns-2
 returns-2 c = let S = c .before .before .before .before .before .before .before in told-refused (rw (toZ-ofZ (S .fits .first), toZ-ofZ (S .fits .last), c .before .r .given .1) at (c .before .before .before .before .read-table .ensures))
 

@@ -8,31 +8,24 @@ use Rattle.host.proofs.lastarunc_write_table.Reads as reads
 use Rattle.host.proofs.lastarunc_write_table.Lts as lts
 use Rattle.table_write.proofs.write_table.Reads as write-table-reads
 
--- src/lib.rt:45:11
 write-table-requires : tie.Need-write-table-requires
 write-table-requires c κs = search needs
 
--- src/lib.rt:46:30
 enum-known-n : tie.Need-enum-known-n
 enum-known-n c = search needs
 
--- src/lib.rt:50:31
 enum-known-r : tie.Need-enum-known-r
 enum-known-r c = search needs
 
--- src/lib.rt:34:1
 same-length : tie.Need-same-length
 same-length c = search needs
 
--- src/lib.rt:34:1
 returns : tie.Need-returns
 returns c = let S = c .before .before .before .before .before .before .before .before in let g = rw (toZ-ofZ (S .fits .first), toZ-ofZ (S .fits .last), c .before .n .given .1) at (c .before .before .before .before .before .write-table .ensures) in told-wrote (g .answer) (g .bytes)
 
--- src/lib.rt:34:1
 same-length-2 : tie.Need-same-length-2
 same-length-2 c = search needs
 
--- src/lib.rt:34:1
 returns-2 : tie.Need-returns-2
 returns-2 c = let S = c .before .before .before .before .before .before .before .before in let g = rw (toZ-ofZ (S .fits .first), toZ-ofZ (S .fits .last), c .before .r .given .1) at (c .before .before .before .before .before .write-table .ensures) in told-declined (g .answer) (g .bytes)
 

@@ -13,43 +13,33 @@ Inv-loop out n i₀ i = i ≤ 4096
 abbrev μ-loop : tie.MeasureT-loop
 μ-loop out n i₀ i = 4096 - i
 
--- src/main.rt:21:5
 loop-holds : tie.Need-loop-holds Inv-loop μ-loop
 loop-holds c = search needs
 
--- src/main.rt:23:13
 returns : tie.Need-returns Inv-loop μ-loop
 returns c = search needs
 
--- src/main.rt:25:32
 mul-print-ordinate : tie.Need-mul-print-ordinate Inv-loop μ-loop
 mul-print-ordinate c = search needs
 
--- src/main.rt:25:32
 element-copy-out-print-ordinate : tie.Need-element-copy-out-print-ordinate Inv-loop μ-loop
 element-copy-out-print-ordinate c = search needs
 
--- src/main.rt:25:9
 print-ordinate-requires : tie.Need-print-ordinate-requires Inv-loop μ-loop
 print-ordinate-requires c κs = search needs
 
--- src/main.rt:26:9
 end-line-requires : tie.Need-end-line-requires Inv-loop μ-loop
 end-line-requires c κs = search needs
 
--- src/main.rt:27:9
 add-i : tie.Need-add-i Inv-loop μ-loop
 add-i c = search needs
 
--- src/main.rt:21:5
 loop-less : tie.Need-loop-less Inv-loop μ-loop
 loop-less c = search needs
 
--- src/main.rt:21:5
 loop-again : tie.Need-loop-again Inv-loop μ-loop
 loop-again c = search needs
 
--- src/main.rt:19:1
 returns-2 : tie.Need-returns-2 Inv-loop μ-loop
 returns-2 c = search needs
 

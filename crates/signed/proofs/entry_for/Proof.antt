@@ -12,19 +12,15 @@ use Rattle.signed.proofs.entry_for.Tie as tie
 use Rattle.signed.proofs.entry_for.Reads as reads
 use Rattle.signed.proofs.entry_for.Lts as lts
 
--- src/lib.rt:13:13
 cast-v : tie.Need-cast-v
 cast-v c = search needs
 
--- src/lib.rt:14:13
 sub-w : tie.Need-sub-w
 sub-w c = rw (wide (c .args .u) (c .pre)) (entry-wide (c .args .u) (c .pre))
 
--- src/lib.rt:15:5
 cast-result : tie.Need-cast-result
 cast-result c = rw (wide (c .args .u) (c .pre), toZ-ofZ (entry-wide (c .args .u) (c .pre))) (entry-fits (c .args .u) (c .pre))
 
--- src/lib.rt:9:1
 returns : tie.Need-returns
 returns c = rw (wide (c .args .u) (c .pre), toZ-ofZ (entry-wide (c .args .u) (c .pre)), toZ-ofZ (entry-fits (c .args .u) (c .pre))) refl
 

@@ -12,19 +12,15 @@ use Rattle.signed.proofs.ordinate_at.Reads as reads
 use Rattle.signed.proofs.ordinate_at.Lts as lts
 use Rattle.signed.proofs.ordinate_of.Reads as ordinate-of-reads
 
--- src/lib.rt:32:17
 mul-ordinate-of : tie.Need-mul-ordinate-of
 mul-ordinate-of c = search needs
 
--- src/lib.rt:32:17
 shared-slice-copy-out-ordinate-of : tie.Need-shared-slice-copy-out-ordinate-of
 shared-slice-copy-out-ordinate-of c = search needs
 
--- src/lib.rt:32:5
 ordinate-of-requires : tie.Need-ordinate-of-requires
 ordinate-of-requires c κs = search needs
 
--- src/lib.rt:28:1
 returns : tie.Need-returns
 returns c =
     let a = c .before .before .args in

@@ -8,21 +8,17 @@ use Rattle.signed.proofs.ordinate_of.Tie as tie
 use Rattle.signed.proofs.ordinate_of.Reads as reads
 use Rattle.signed.proofs.ordinate_of.Lts as lts
 
--- src/lib.rt:22:13
 cast-a : tie.Need-cast-a
 cast-a c = rw (toZ-ofZ (c .fits .y)) (wider (c .fits .y))
 
--- src/lib.rt:23:13
 add-b : tie.Need-add-b
 add-b c = rw (toZ-ofZ (c .fits .y), toZ-ofZ (wider (c .fits .y)), lift-sum zero-ordinate (c .args .y) (c .fits .y .sfits)) (lift-fits (c .args .y) (c .fits .y))
 
--- src/lib.rt:24:5
 cast-result : tie.Need-cast-result
 cast-result c =
     rw (toZ-ofZ (c .fits .y), toZ-ofZ (wider (c .fits .y)), lift-sum zero-ordinate (c .args .y) (c .fits .y .sfits), toZ-ofZ (lift-fits (c .args .y) (c .fits .y)))
     (tt, record { fits = omega (arith, lift-small zero-ordinate (c .args .y) (c .fits .y .sfits)) })
 
--- src/lib.rt:19:1
 returns : tie.Need-returns
 returns c =
     rw (toZ-ofZ (c .fits .y), toZ-ofZ (wider (c .fits .y)), lift-sum zero-ordinate (c .args .y) (c .fits .y .sfits), toZ-ofZ (lift-fits (c .args .y) (c .fits .y)))

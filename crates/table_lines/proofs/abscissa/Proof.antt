@@ -5,19 +5,15 @@ use Rattle.table_lines.proofs.abscissa.Tie as tie
 use Rattle.table_lines.proofs.abscissa.Reads as reads
 use Rattle.table_lines.proofs.abscissa.Lts as lts
 
--- src/lib.rt:168:35
 sub-t6 : tie.Need-sub-t6
 sub-t6 c = search needs
 
--- src/lib.rt:168:9
 returns : tie.Need-returns
 returns c = rw (c .if1 .taken) refl
 
--- src/lib.rt:170:24
 add-t7 : tie.Need-add-t7
 add-t7 c = search needs
 
--- src/lib.rt:163:1
 returns-2 : tie.Need-returns-2
 returns-2 c = rw (c .if1 .left) refl
 

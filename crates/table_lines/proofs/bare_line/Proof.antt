@@ -17,35 +17,27 @@ use Rattle.alphabet.proofs.entry_at.Reads as entry-at-reads
 use Rattle.table_lines.proofs.blanks.Reads as blanks-reads
 use Rattle.table_lines.proofs.line_end.Reads as line-end-reads
 
--- src/lib.rt:138:9
 blanks-requires : tie.Need-blanks-requires
 blanks-requires c κs = search needs
 
--- src/lib.rt:139:9
 entry-at-requires : tie.Need-entry-at-requires
 entry-at-requires c κs = search needs
 
--- src/lib.rt:141:9
 returns : tie.Need-returns
 returns c = let e = c .before .entry-at .ensures in bare-value _ _ _ (c .before .before .blanks .ensures) (rw e at (c .if1 .taken))
 
--- src/lib.rt:143:11
 line-end-requires : tie.Need-line-end-requires
 line-end-requires c κs = (search needs, c .before .before .blanks .ensures .high, c .before .entry-at .ensures, c .if1 .left)
 
--- src/lib.rt:144:28
 enum-told : tie.Need-enum-told
 enum-told c = search needs
 
--- src/lib.rt:145:24
 enum-told-2 : tie.Need-enum-told-2
 enum-told-2 c = search needs
 
--- src/lib.rt:134:1
 returns-2 : tie.Need-returns-2
 returns-2 c = bare-end _ _ _ _ (c .before .before .before .before .before .blanks .ensures) (rw (c .enum-told .given .1) at (c .before .before .line-end .ensures))
 
--- src/lib.rt:134:1
 returns-3 : tie.Need-returns-3
 returns-3 c = bare-bad _ _ _ (c .before .before .before .before .before .blanks .ensures) (rw (c .enum-told2 .given .1) at (c .before .before .line-end .ensures))
 

@@ -20,23 +20,18 @@ Inv-loop t s from i₀ i = (from ≤ i) × (i ≤ length s) × (seen s from fres
 abbrev μ-loop : tie.MeasureT-loop
 μ-loop t s from i₀ i = length s - i
 
--- src/lib.rt:58:5
 loop-holds : tie.Need-loop-holds Inv-loop μ-loop
 loop-holds c = search needs
 
--- src/lib.rt:58:11
 entry-at-requires : tie.Need-entry-at-requires Inv-loop μ-loop
 entry-at-requires c κs = search needs
 
--- src/lib.rt:59:9
 add-i : tie.Need-add-i Inv-loop μ-loop
 add-i c = let e = blank-in _ _ (sym (c .before .entry-at .ensures) ∙ c .if1 .taken) in omega arith
 
--- src/lib.rt:58:5
 loop-less : tie.Need-loop-less Inv-loop μ-loop
 loop-less c = let e = blank-in _ _ (sym (c .before .entry-at .ensures) ∙ c .if1 .taken) in omega arith
 
--- src/lib.rt:58:5
 loop-again : tie.Need-loop-again Inv-loop μ-loop
 loop-again c =
     let l = c .before .before .loop .inv in
@@ -44,7 +39,6 @@ loop-again c =
     let h = blank-in _ _ e in
     (omega arith, omega arith, l .2 ∙ blank-fresh _ _ e, l .3 ∙ blank-within _ _ _ e)
 
--- src/lib.rt:53:1
 returns : tie.Need-returns Inv-loop μ-loop
 returns c =
     let l = c .before .before .loop .inv in

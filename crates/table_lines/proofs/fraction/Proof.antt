@@ -12,47 +12,36 @@ use Rattle.alphabet.proofs.digits.Reads as digits-reads
 use Rattle.table_lines.proofs.abscissa.Reads as abscissa-reads
 use Rattle.table_lines.proofs.worth.Reads as worth-reads
 
--- src/lib.rt:181:32
 mul-abscissa : tie.Need-mul-abscissa
 mul-abscissa c = search needs
 
--- src/lib.rt:181:9
 abscissa-requires : tie.Need-abscissa-requires
 abscissa-requires c κs = search needs
 
--- src/lib.rt:181:9
 returns : tie.Need-returns
 returns c = let p = c .before .before .before .before .pre in rw (c .abscissa .ensures) (whole-only _ (p .1) (p .2) (p .3) (c .before .if1 .taken))
 
--- src/lib.rt:183:16
 add-next : tie.Need-add-next
 add-next c = search needs
 
--- src/lib.rt:184:9
 digits-requires : tie.Need-digits-requires
 digits-requires c κs = let p = c .before .before .before .pre in let l = inside-text _ _ _ (sym (p .2) ∙ c .if1 .left) (omega arith) in (p .0, omega arith, omega arith)
 
--- src/lib.rt:186:9
 returns-2 : tie.Need-returns-2
 returns-2 c = let p = c .before .before .before .before .before .before .pre in fraction-long _ (sym (p .2) ∙ c .before .before .before .if1 .left) (c .before .before .digits .ensures) true (c .if2 .taken)
 
--- src/lib.rt:189:28
 sub-worth : tie.Need-sub-worth
 sub-worth c = search needs
 
--- src/lib.rt:189:22
 worth-requires : tie.Need-worth-requires
 worth-requires c κs = search needs
 
--- src/lib.rt:189:16
 mul-size : tie.Need-mul-size
 mul-size c = let p = c .before .before .before .before .before .before .before .before .pre in let z = fraction-small _ (sym (p .2) ∙ c .before .before .before .before .before .if1 .left) (c .before .before .before .before .digits .ensures) (p .3) in rw (c .before .worth .ensures) (omega arith)
 
--- src/lib.rt:190:5
 abscissa-requires-2 : tie.Need-abscissa-requires-2
 abscissa-requires-2 c κs = let p = c .before .before .before .before .before .before .before .before .pre in rw (c .before .worth .ensures) (fraction-small _ (sym (p .2) ∙ c .before .before .before .before .before .if1 .left) (c .before .before .before .before .digits .ensures) (p .3))
 
--- src/lib.rt:174:1
 returns-3 : tie.Need-returns-3
 returns-3 c = let p = c .before .before .before .before .before .before .before .before .before .pre in rw (c .abscissa2 .ensures, c .before .before .worth .ensures) (fraction-read _ (sym (p .2) ∙ c .before .before .before .before .before .before .if1 .left) (c .before .before .before .before .before .digits .ensures) _ (p .3) (c .before .before .before .if2 .left))
 

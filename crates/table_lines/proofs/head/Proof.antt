@@ -10,51 +10,40 @@ use Rattle.table_lines.proofs.head.Lts as lts
 use Rattle.alphabet.proofs.digits.Reads as digits-reads
 use Rattle.table_lines.proofs.fraction.Reads as fraction-reads
 
--- src/lib.rt:198:16
 add-next : tie.Need-add-next
 add-next c = search needs
 
--- src/lib.rt:200:13
 digits-requires : tie.Need-digits-requires
 digits-requires c κs = let p = c .before .before .pre in (p .0, omega arith, omega arith)
 
--- src/lib.rt:202:13
 returns : tie.Need-returns
 returns c = let p = c .before .before .before .before .before .pre in digit-long _ _ _ (p .1) (p .2) (p .4) (c .before .before .before .if1 .taken) (c .before .before .digits .ensures) (c .if2 .taken)
 
--- src/lib.rt:204:9
 fraction-requires : tie.Need-fraction-requires
 fraction-requires c κs =
     let p = c .before .before .before .before .before .pre in let r = c .before .before .digits .ensures in
     (p .0, r .high, r .stands, digit-small _ _ _ (p .1) (p .2) (p .4) (c .before .before .before .if1 .taken) r, c .if2 .left)
 
--- src/lib.rt:204:9
 returns-2 : tie.Need-returns-2
 returns-2 c = let p = c .before .before .before .before .before .before .pre in digit-headed _ _ _ (p .1) (p .2) (p .4) (c .before .before .before .before .if1 .taken) (c .before .before .before .digits .ensures) (c .before .if2 .left) (c .fraction .result) (c .fraction .ensures)
 
--- src/lib.rt:207:9
 returns-3 : tie.Need-returns-3
 returns-3 c = let p = c .before .before .before .pre in value-first _ _ _ (p .1) (p .2) (c .before .if1 .left) (c .if3 .taken) (p .4)
 
--- src/lib.rt:209:9
 digits-requires-2 : tie.Need-digits-requires-2
 digits-requires-2 c κs = let p = c .before .before .before .pre in (p .0, omega arith, omega arith)
 
--- src/lib.rt:211:9
 returns-4 : tie.Need-returns-4
 returns-4 c = let p = c .before .before .before .before .before .before .pre in sign-alone _ _ _ (p .1) (p .2) (c .before .before .before .if3 .left) (p .3) (c .before .before .digits2 .ensures) (c .if4 .taken)
 
--- src/lib.rt:214:9
 returns-5 : tie.Need-returns-5
 returns-5 c = let p = c .before .before .before .before .before .before .before .before .pre in sign-long _ _ _ (p .1) (p .2) (p .4) (c .before .before .before .before .before .if3 .left) (p .3) (c .before .before .before .before .digits2 .ensures) (c .before .before .if4 .left) (c .if5 .taken)
 
--- src/lib.rt:216:5
 fraction-requires-2 : tie.Need-fraction-requires-2
 fraction-requires-2 c κs =
     let p = c .before .before .before .before .before .before .before .before .pre in let r = c .before .before .before .before .digits2 .ensures in
     (p .0, r .high, r .stands, sign-small _ _ _ (p .1) (p .2) (p .4) (c .before .before .before .before .before .if3 .left) (p .3) r, c .if5 .left)
 
--- src/lib.rt:194:1
 returns-6 : tie.Need-returns-6
 returns-6 c =
     let p = c .before .before .before .before .before .before .before .before .before .pre in

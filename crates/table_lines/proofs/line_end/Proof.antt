@@ -15,58 +15,45 @@ use Rattle.table_lines.proofs.line_end.Lts as lts
 use Rattle.alphabet.proofs.entry_at.Reads as entry-at-reads
 use Rattle.table_lines.proofs.comment.Reads as comment-reads
 
--- src/lib.rt:86:9
 returns : tie.Need-returns
 returns c = end-over _ _ (c .before .before .pre .1) (sym (c .before .before .pre .2) ∙ c .if1 .taken)
 
--- src/lib.rt:88:16
 add-next : tie.Need-add-next
 add-next c = search needs
 
--- src/lib.rt:90:9
 returns-2 : tie.Need-returns-2
 returns-2 c = end-lf _ _ (sym (c .before .before .before .pre .2) ∙ c .if2 .taken)
 
--- src/lib.rt:93:12
 entry-at-requires : tie.Need-entry-at-requires
 entry-at-requires c κs = search needs
 
--- src/lib.rt:94:33
 add-t9 : tie.Need-add-t9
 add-t9 c = search needs
 
--- src/lib.rt:94:13
 returns-3 : tie.Need-returns-3
 returns-3 c = end-cr _ _ (sym (c .before .before .before .before .before .before .pre .2) ∙ c .before .before .if3 .taken) (sym (c .before .entry-at .ensures) ∙ c .if4 .taken)
 
--- src/lib.rt:96:9
 returns-4 : tie.Need-returns-4
 returns-4 c = end-no-cr _ _ (sym (c .before .before .before .before .before .before .pre .2) ∙ c .before .before .if3 .taken) (λ x. c .if4 .left (c .before .entry-at .ensures ∙ x))
 
--- src/lib.rt:99:12
 entry-at-requires-2 : tie.Need-entry-at-requires-2
 entry-at-requires-2 c κs = search needs
 
--- src/lib.rt:100:44
 add-comment : tie.Need-add-comment
 add-comment c = search needs
 
--- src/lib.rt:100:33
 comment-requires : tie.Need-comment-requires
 comment-requires c κs =
     let e = sym (c .before .entry-at2 .ensures) ∙ c .if6 .taken in
     let h = entry-in (c .before .before .before .before .before .before .before .args .s .now) (c .before .before .before .before .before .before .before .args .at + 1) (omega (arith, e)) in
     omega arith
 
--- src/lib.rt:100:13
 returns-5 : tie.Need-returns-5
 returns-5 c = end-comment _ _ _ (sym (c .before .before .before .before .before .before .before .before .pre .2) ∙ c .before .before .before .if5 .taken) (sym (c .before .before .entry-at2 .ensures) ∙ c .before .if6 .taken) (c .comment .ensures)
 
--- src/lib.rt:102:9
 returns-6 : tie.Need-returns-6
 returns-6 c = end-no-dollar _ _ (sym (c .before .before .before .before .before .before .before .pre .2) ∙ c .before .before .if5 .taken) (λ x. c .if6 .left (c .before .entry-at2 .ensures ∙ x))
 
--- src/lib.rt:81:1
 returns-7 : tie.Need-returns-7
 returns-7 c =
     let e = c .before .before .before .before .before .pre .2 in

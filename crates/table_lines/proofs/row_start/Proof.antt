@@ -22,19 +22,15 @@ Inv-loop t s from at₀ at = (from ≤ at) × (at ≤ length s) × (seen s from 
 abbrev μ-loop : tie.MeasureT-loop
 μ-loop t s from at₀ at = length s - at
 
--- src/lib.rt:113:5
 loop-holds : tie.Need-loop-holds Inv-loop μ-loop
 loop-holds c = search needs
 
--- src/lib.rt:114:9
 blanks-requires : tie.Need-blanks-requires Inv-loop μ-loop
 blanks-requires c κs = search needs
 
--- src/lib.rt:115:13
 entry-at-requires : tie.Need-entry-at-requires Inv-loop μ-loop
 entry-at-requires c κs = search needs
 
--- src/lib.rt:117:13
 returns : tie.Need-returns Inv-loop μ-loop
 returns c =
     let l = c .before .before .before .loop .inv in
@@ -44,22 +40,18 @@ returns c =
     let y = b .low in
     (omega arith, entry-in (c .before .before .before .before .before .args .s .now) (c .before .before .blanks .result) (λ z. omega (arith, e)), e, x, λ z. b .stops (sym e ∙ z), l .2 ∙ b .before)
 
--- src/lib.rt:120:13
 returns-2 : tie.Need-returns-2 Inv-loop μ-loop
 returns-2 c =
     let l = c .before .before .before .before .loop .inv in
     let b = c .before .before .before .blanks .ensures in
     l .2 ∙ b .before ∙ start-end _ _ (b .high) (sym (c .before .before .entry-at .ensures) ∙ c .if2 .taken)
 
--- src/lib.rt:122:15
 line-end-requires : tie.Need-line-end-requires Inv-loop μ-loop
 line-end-requires c κs = (search needs, c .before .before .before .blanks .ensures .high, c .before .before .entry-at .ensures, c .before .if1 .left)
 
--- src/lib.rt:123:26
 enum-known-j : tie.Need-enum-known-j Inv-loop μ-loop
 enum-known-j c = search needs
 
--- src/lib.rt:113:5
 loop-less : tie.Need-loop-less Inv-loop μ-loop
 loop-less c =
     let b = c .before .before .before .before .before .before .before .blanks .ensures in
@@ -69,7 +61,6 @@ loop-less c =
     let z = x .2 n in
     omega (arith, x .1)
 
--- src/lib.rt:113:5
 loop-again : tie.Need-loop-again Inv-loop μ-loop
 loop-again c =
     let l = c .before .before .before .before .before .before .before .before .loop .inv in
@@ -78,11 +69,9 @@ loop-again c =
     let y = b .low in
     (omega (arith, x .0), x .1, l .2 ∙ b .before ∙ x .3)
 
--- src/lib.rt:127:17
 enum-told : tie.Need-enum-told Inv-loop μ-loop
 enum-told c = search needs
 
--- src/lib.rt:127:17
 returns-3 : tie.Need-returns-3 Inv-loop μ-loop
 returns-3 c =
     let l = c .before .before .before .before .before .before .before .loop .inv in

@@ -5,19 +5,15 @@ use Rattle.table_lines.proofs.worth.Tie as tie
 use Rattle.table_lines.proofs.worth.Reads as reads
 use Rattle.table_lines.proofs.worth.Lts as lts
 
--- src/lib.rt:150:1
 returns : tie.Need-returns
 returns c = rw (c .match .keys1) refl
 
--- src/lib.rt:150:1
 returns-2 : tie.Need-returns-2
 returns-2 c = rw (c .match .keys2) refl
 
--- src/lib.rt:150:1
 returns-3 : tie.Need-returns-3
 returns-3 c = rw (c .match .keys3) refl
 
--- src/lib.rt:150:1
 returns-4 : tie.Need-returns-4
 returns-4 c = let z : c .before .args .n ≡ 3 = omega (arith, c .match .rest) in rw z refl
 

@@ -17,36 +17,28 @@ use Rattle.table_read.proofs.check_body.Lts as lts
 use Rattle.table_read.proofs.pass.Reads as pass-reads
 use Rattle.terms.proofs.Refusal.new.Reads as new-reads
 
--- src/lib.rt:195:30
 slice-aggregate-pass : tie.Need-slice-aggregate-pass
 slice-aggregate-pass c = search needs
 
--- src/lib.rt:195:11
 pass-requires : tie.Need-pass-requires
 unfolding table
 pass-requires c κs = (refl, c .before .before .before .pre)
 
--- src/lib.rt:196:25
 enum-known-n : tie.Need-enum-known-n
 enum-known-n c = search needs
 
--- src/lib.rt:196:51
 new-requires : tie.Need-new-requires
 new-requires c κs = search needs
 
--- src/lib.rt:197:39
 enum-told : tie.Need-enum-told
 enum-told c = search needs
 
--- src/lib.rt:197:39
 array-copy-out-t16 : tie.Need-array-copy-out-t16
 array-copy-out-t16 c = search needs
 
--- src/lib.rt:189:1
 returns : tie.Need-returns
 returns c = rw (c .new .ensures) (check-refused _ _ (rw (c .before .before .n .given .1) at (c .before .before .before .before .before .pass .ensures)))
 
--- src/lib.rt:189:1
 returns-2 : tie.Need-returns-2
 returns-2 c = rw (toZ-ofZ (sfits-of {w = w32} (c .t16 .given))) (check-first (c .before .before .before .before .before .before .before .before .pre .some) (rw (c .before .enum-told .given .1) at (c .before .before .before .before .pass .ensures)))
 

@@ -18,52 +18,41 @@ use Rattle.frame.proofs.Frame.new.Reads as Frame-new-reads
 use Rattle.table_read.proofs.check_body.Reads as check-body-reads
 use Rattle.terms.proofs.Refusal.new.Reads as Refusal-new-reads
 
--- src/lib.rt:215:33
 new-requires : tie.Need-new-requires
 new-requires c κs = search needs
 
--- src/lib.rt:215:9
 returns : tie.Need-returns
 returns c = let S = c .before .before .before in rw (c .new .ensures) (sym (ap toldFirst (body-long _ _ _ _ _ (c .before .if1 .taken))))
 
--- src/lib.rt:217:11
 new-requires-2 : tie.Need-new-requires-2
 new-requires-2 c κs = search needs
 
--- src/lib.rt:218:45
 enum-told : tie.Need-enum-told
 enum-told c = search needs
 
--- src/lib.rt:218:45
 new-requires-3 : tie.Need-new-requires-3
 new-requires-3 c κs = search needs
 
--- src/lib.rt:219:23
 enum-known-fr : tie.Need-enum-known-fr
 enum-known-fr c = search needs
 
--- src/lib.rt:221:41
 new-requires-4 : tie.Need-new-requires-4
 new-requires-4 c κs = search needs
 
--- src/lib.rt:221:17
 returns-2 : tie.Need-returns-2
 returns-2 c =
     let S = c .before .before .before .before .before .before .before .before in let z = rw (toZ-ofZ (S .fits .first), toZ-ofZ (S .fits .last)) at (sym (c .before .before .before .before .before .new2 .ensures) ∙ c .before .before .before .fr .given .1) in
     rw (c .new4 .ensures) (sym (ap toldFirst (no-room _ _ _ _ _ (c .before .before .before .before .before .before .if1 .left) (framed-legal _ _ _ z) (c .before .if2 .taken))))
 
--- src/lib.rt:223:13
 check-body-requires : tie.Need-check-body-requires
 check-body-requires c κs =
     let S = c .before .before .before .before .before .before .before in let z = rw (toZ-ofZ (S .fits .first), toZ-ofZ (S .fits .last)) at (sym (c .before .before .before .before .new2 .ensures) ∙ c .before .before .fr .given .1) in framed-legal _ _ _ z .sound
 
--- src/lib.rt:211:1
 returns-3 : tie.Need-returns-3
 returns-3 c =
     let S = c .before .before .before .before .before .before in let z = rw (toZ-ofZ (S .fits .first), toZ-ofZ (S .fits .last)) at (sym (c .before .before .before .new2 .ensures) ∙ c .before .enum-told .given .1) in
     rw (c .new3 .ensures) (sym (ap toldFirst (frame-outside _ _ _ _ _ (framed-outside _ _ _ z))))
 
--- src/lib.rt:211:1
 returns-4 : tie.Need-returns-4
 returns-4 c =
     let S = c .before .before .before .before .before .before .before .before in let z = rw (toZ-ofZ (S .fits .first), toZ-ofZ (S .fits .last)) at (sym (c .before .before .before .before .before .new2 .ensures) ∙ c .before .before .before .fr .given .1) in

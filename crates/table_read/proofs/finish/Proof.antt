@@ -5,15 +5,12 @@ use Rattle.table_read.proofs.finish.Tie as tie
 use Rattle.table_read.proofs.finish.Reads as reads
 use Rattle.table_read.proofs.finish.Lts as lts
 
--- src/lib.rt:147:9
 returns : tie.Need-returns
 returns c = rw (lt-ltb _ _ (c .if1 .taken)) refl
 
--- src/lib.rt:150:9
 returns-2 : tie.Need-returns-2
 returns-2 c = rw (le-ltb _ _ (c .before .if1 .left), c .if2 .taken) refl
 
--- src/lib.rt:143:1
 returns-3 : tie.Need-returns-3
 returns-3 c = rw (le-ltb _ _ (c .before .if1 .left), c .if2 .left) refl
 

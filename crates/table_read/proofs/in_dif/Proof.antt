@@ -5,11 +5,9 @@ use Rattle.table_read.proofs.in_dif.Tie as tie
 use Rattle.table_read.proofs.in_dif.Reads as reads
 use Rattle.table_read.proofs.in_dif.Lts as lts
 
--- src/lib.rt:60:9
 returns : tie.Need-returns
 returns c = rw (c .if1 .taken) refl
 
--- src/lib.rt:56:1
 returns-2 : tie.Need-returns-2
 returns-2 c = rw (ne-eqb _ _ (c .if1 .left)) refl
 

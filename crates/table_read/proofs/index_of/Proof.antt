@@ -7,19 +7,15 @@ use Rattle.table_read.proofs.index_of.Tie as tie
 use Rattle.table_read.proofs.index_of.Reads as reads
 use Rattle.table_read.proofs.index_of.Lts as lts
 
--- src/lib.rt:70:9
 returns : tie.Need-returns
 returns c = rw (not-true (c .before .args .dif) (c .if1 .taken)) refl
 
--- src/lib.rt:73:9
 returns-2 : tie.Need-returns-2
 returns-2 c = rw (not-false (c .before .before .args .dif) (c .before .if1 .left), c .if2 .taken) refl
 
--- src/lib.rt:75:5
 sub-result : tie.Need-sub-result
 sub-result c = search needs
 
--- src/lib.rt:66:1
 returns-3 : tie.Need-returns-3
 returns-3 c = rw (not-false (c .before .before .args .dif) (c .before .if1 .left)) refl
 

@@ -19,77 +19,60 @@ Inv-loop t s fr out₀ r₀ out r = Reached (frame-rules fr) s out₀ out r
 abbrev μ-loop : tie.MeasureT-loop
 μ-loop t s fr out₀ r₀ out r = length s - r .at
 
--- src/lib.rt:166:5
 loop-holds : tie.Need-loop-holds Inv-loop μ-loop
 loop-holds c = reached-start _ _ _ _
 
--- src/lib.rt:168:15
 row-start-requires : tie.Need-row-start-requires Inv-loop μ-loop
 row-start-requires c κs = (c .before .before .pre .0, c .loop .inv .rests .high)
 
--- src/lib.rt:170:42
 enum-told : tie.Need-enum-told Inv-loop μ-loop
 enum-told c = search needs
 
--- src/lib.rt:170:17
 finish-requires : tie.Need-finish-requires Inv-loop μ-loop
 finish-requires c κs = search needs
 
--- src/lib.rt:170:17
 same-length : tie.Need-same-length Inv-loop μ-loop
 same-length c = reached-same (c .before .before .before .before .loop .inv)
 
--- src/lib.rt:170:17
 returns : tie.Need-returns Inv-loop μ-loop
 returns c = reached-end (c .before .before .before .before .loop .inv) (rw (c .before .enum-told .given .1) at (c .before .before .before .row-start .ensures)) (c .finish .ensures)
 
--- src/lib.rt:172:24
 enum-known-j : tie.Need-enum-known-j Inv-loop μ-loop
 enum-known-j c = search needs
 
--- src/lib.rt:173:17
 same-length-2 : tie.Need-same-length-2 Inv-loop μ-loop
 same-length-2 c = reached-same (c .before .before .before .before .loop .inv)
 
--- src/lib.rt:173:17
 returns-2 : tie.Need-returns-2 Inv-loop μ-loop
 returns-2 c = reached-fault (c .before .before .before .before .loop .inv) (rw (c .before .j .given .1) at (c .before .before .before .row-start .ensures))
 
--- src/lib.rt:175:25
 enum-known-j-2 : tie.Need-enum-known-j-2 Inv-loop μ-loop
 enum-known-j-2 c = search needs
 
--- src/lib.rt:175:40
 read-line-requires : tie.Need-read-line-requires Inv-loop μ-loop
 read-line-requires c κs =
     let x = rw (c .before .before .j2 .given .1) at (c .before .before .before .before .row-start .ensures) in let p = c .before .before .before .before .before .before .before .pre in
     (p .0, p .1, c .before .before .before .before .before .loop .inv .rests, x .1, x .2, x .3, x .4)
 
--- src/lib.rt:176:35
 enum-known-n : tie.Need-enum-known-n Inv-loop μ-loop
 enum-known-n c = search needs
 
--- src/lib.rt:177:21
 same-length-3 : tie.Need-same-length-3 Inv-loop μ-loop
 same-length-3 c = let x = reached-same (c .before .before .before .before .before .before .before .before .before .before .loop .inv) in search (needs, x)
 
--- src/lib.rt:177:21
 returns-3 : tie.Need-returns-3 Inv-loop μ-loop
 returns-3 c =
     let x = rw (c .before .before .before .before .before .before .before .j2 .given .1) at (c .before .before .before .before .before .before .before .before .before .row-start .ensures) in
     reached-refused (c .before .before .before .before .before .before .before .before .before .before .loop .inv) _ _ (x .5) (rw (c .before .n .given .1) at (c .before .before .before .before .read-line .ensures))
 
--- src/lib.rt:179:32
 enum-known-next : tie.Need-enum-known-next Inv-loop μ-loop
 enum-known-next c = search needs
 
--- src/lib.rt:166:5
 loop-less : tie.Need-loop-less Inv-loop μ-loop
 loop-less c =
     let x = rw (c .before .before .before .before .before .before .before .j2 .given .1) at (c .before .before .before .before .before .before .before .before .before .row-start .ensures) in let y = rw (c .before .next .given .1) at (c .before .before .before .before .read-line .ensures) in
     let h = y .1 .high in omega (arith, x .0, y .0)
 
--- src/lib.rt:166:5
 loop-again : tie.Need-loop-again Inv-loop μ-loop
 loop-again c =
     let x = rw (c .before .before .before .before .before .before .before .j2 .given .1) at (c .before .before .before .before .before .before .before .before .before .row-start .ensures) in

@@ -20,86 +20,68 @@ use Rattle.table_read.proofs.index_of.Reads as index-of-reads
 use Rattle.table_read.proofs.wanted.Reads as wanted-reads
 use Rattle.table_values.proofs.values.Reads as values-reads
 
--- src/lib.rt:104:11
 head-requires : tie.Need-head-requires
 head-requires c κs = search needs
 
--- src/lib.rt:105:29
 enum-told : tie.Need-enum-told
 enum-told c = search needs
 
--- src/lib.rt:106:28
 enum-known-h : tie.Need-enum-known-h
 enum-known-h c = search needs
 
--- src/lib.rt:107:30
 index-of-requires : tie.Need-index-of-requires
 index-of-requires c κs = search needs
 
--- src/lib.rt:107:17
 passes-requires : tie.Need-passes-requires
 passes-requires c κs =
     let p = c .before .before .before .before .before .before .pre in let a = c .before .before .before .before .before .before .args in let t = rw (c .before .before .h .given .1) at (c .before .before .before .before .head .ensures) in
     (p .1, t .small, rw (c .index-of .ensures) (index-small (a .r .dif) (a .r .k) (p .1 .few) (p .2 .few)))
 
--- src/lib.rt:108:17
 returns : tie.Need-returns
 returns c =
     let t = rw (c .before .before .before .before .h .given .1) at (c .before .before .before .before .before .before .head .ensures) in
     line-six (c .before .before .before .before .before .before .before .before .args .fr) _ (c .before .before .before .before .before .before .before .before .args .r) _ t (sym (rw (c .before .before .index-of .ensures) at (c .before .passes .ensures)) ∙ not-true _ (c .if1 .taken)) [] []
 
--- src/lib.rt:110:16
 bare-line-requires : tie.Need-bare-line-requires
 bare-line-requires c κs = let t = rw (c .before .before .before .before .h .given .1) at (c .before .before .before .before .before .before .head .ensures) in (c .before .before .before .before .before .before .before .before .pre .0, t .high)
 
--- src/lib.rt:111:17
 returns-2 : tie.Need-returns-2
 returns-2 c =
     let t = rw (c .before .before .before .before .before .before .h .given .1) at (c .before .before .before .before .before .before .before .before .head .ensures) in
     line-seven (c .before .before .before .before .before .before .before .before .before .before .args .fr) _ (c .before .before .before .before .before .before .before .before .before .before .args .r) _ t (sym (rw (c .before .before .before .before .index-of .ensures) at (c .before .before .before .passes .ensures)) ∙ not-false _ (c .before .before .if1 .left)) (sym (c .before .bare-line .ensures) ∙ c .if2 .taken) [] []
 
--- src/lib.rt:113:17
 wanted-requires : tie.Need-wanted-requires
 wanted-requires c κs = search needs
 
--- src/lib.rt:115:19
 values-requires : tie.Need-values-requires
 values-requires c κs =
     let p = c .before .before .before .before .before .before .before .before .before .before .before .before .pre in let t = rw (c .before .before .before .before .before .before .before .before .h .given .1) at (c .before .before .before .before .before .before .before .before .before .before .head .ensures) in let l = t .low in
     (p .0, p .1 .few, record { some = omega arith; high = t .high; stands = t .stands; small = omega arith; size = omega arith; few = p .2 .few })
 
--- src/lib.rt:130:33
 enum-known-c : tie.Need-enum-known-c
 enum-known-c c = search needs
 
--- src/lib.rt:131:30
 enum-known-c-2 : tie.Need-enum-known-c-2
 enum-known-c-2 c = search needs
 
--- src/lib.rt:135:26
 in-dif-requires : tie.Need-in-dif-requires
 in-dif-requires c κs = search needs
 
--- src/lib.rt:89:1
 returns-3 : tie.Need-returns-3
 returns-3 c = line-four (c .before .before .before .before .args .fr) _ (c .before .before .before .before .args .r) _ (rw (c .enum-told .given .1) at (c .before .before .head .ensures)) [] []
 
--- src/lib.rt:89:1
 same-length : tie.Need-same-length
 same-length c = search needs
 
--- src/lib.rt:89:1
 returns-4 : tie.Need-returns-4
 returns-4 c =
     let t = rw (c .before .before .before .before .before .before .before .before .before .before .before .before .before .h .given .1) at (c .before .before .before .before .before .before .before .before .before .before .before .before .before .before .before .head .ensures) in
     line-refused (c .before .before .before .before .before .before .before .before .before .before .before .before .before .before .before .before .before .args .fr) _ (c .before .before .before .before .before .before .before .before .before .before .before .before .before .before .before .before .before .args .r) _ t (sym (rw (c .before .before .before .before .before .before .before .before .before .before .before .index-of .ensures) at (c .before .before .before .before .before .before .before .before .before .before .passes .ensures)) ∙ not-false _ (c .before .before .before .before .before .before .before .before .before .if1 .left)) (sym (c .before .before .before .before .before .before .before .before .bare-line .ensures) ∙ c .before .before .before .before .before .before .before .if2 .left)
     [] [] (c .before .before .before .before .before .before .wanted .ensures) (rw (c .before .c .given .1) at (c .before .before .before .before .values .ensures))
 
--- src/lib.rt:89:1
 same-length-2 : tie.Need-same-length-2
 same-length-2 c = search needs
 
--- src/lib.rt:89:1
 returns-5 : tie.Need-returns-5
 returns-5 c =
     let t = rw (c .before .before .before .before .before .before .before .before .before .before .before .before .before .before .h .given .1) at (c .before .before .before .before .before .before .before .before .before .before .before .before .before .before .before .before .head .ensures) in

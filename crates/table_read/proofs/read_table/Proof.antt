@@ -17,34 +17,27 @@ use Rattle.table_read.proofs.read_table.Lts as lts
 use Rattle.table_read.proofs.check_table.Reads as check-table-reads
 use Rattle.table_read.proofs.store_table.Reads as store-table-reads
 
--- src/lib.rt:245:11
 check-table-requires : tie.Need-check-table-requires
 check-table-requires c κs = search needs
 
--- src/lib.rt:246:26
 enum-known-r : tie.Need-enum-known-r
 enum-known-r c = search needs
 
--- src/lib.rt:248:52
 enum-told : tie.Need-enum-told
 enum-told c = search needs
 
--- src/lib.rt:248:13
 store-table-requires : tie.Need-store-table-requires
 store-table-requires c κs =
     let S = c .before .before .before .before .before in let a = S .args in let z = rw (toZ-ofZ (S .fits .first), toZ-ofZ (S .fits .last)) at (sym (c .before .enum-told .given .1) ∙ c .before .before .before .check-table .ensures) in
     rw (toZ-ofZ (S .fits .first), toZ-ofZ (S .fits .last)) (first-accepts (readTable (a .first) (a .last) (a .points) (a .body .now) (length (a .out .now))) z)
 
--- src/lib.rt:242:1
 returns : tie.Need-returns
 returns c =
     let S = c .before .before .before .before .before in let z = rw (toZ-ofZ (S .fits .first), toZ-ofZ (S .fits .last)) at (sym (c .before .r .given .1) ∙ c .before .before .before .check-table .ensures) in read-refused z
 
--- src/lib.rt:242:1
 same-length : tie.Need-same-length
 same-length c = search needs
 
--- src/lib.rt:242:1
 returns-2 : tie.Need-returns-2
 returns-2 c =
     let S = c .before .before .before .before .before .before .before in let a = S .args in let z = rw (toZ-ofZ (S .fits .first), toZ-ofZ (S .fits .last)) at (sym (c .before .before .before .enum-told .given .1) ∙ c .before .before .before .before .before .check-table .ensures) in

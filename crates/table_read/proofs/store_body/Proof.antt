@@ -16,16 +16,13 @@ use Rattle.table_read.proofs.store_body.Reads as reads
 use Rattle.table_read.proofs.store_body.Lts as lts
 use Rattle.table_read.proofs.pass.Reads as pass-reads
 
--- src/lib.rt:207:5
 pass-requires : tie.Need-pass-requires
 unfolding table
 pass-requires c κs = (refl, c .before .before .before .pre .0)
 
--- src/lib.rt:202:1
 same-length : tie.Need-same-length
 same-length c = search needs
 
--- src/lib.rt:202:1
 returns : tie.Need-returns
 returns c = stored-all (c .before .before .before .before .before .pre .1) (c .before .pass .ensures)
 

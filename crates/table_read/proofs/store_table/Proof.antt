@@ -18,34 +18,28 @@ use Rattle.table_read.proofs.store_table.Lts as lts
 use Rattle.frame.proofs.Frame.new.Reads as new-reads
 use Rattle.table_read.proofs.store_body.Reads as store-body-reads
 
--- src/lib.rt:233:11
 new-requires : tie.Need-new-requires
 new-requires c κs = search needs
 
 enum-told : tie.Need-enum-told
 enum-told c = search needs
 
--- src/lib.rt:235:23
 enum-known-fr : tie.Need-enum-known-fr
 enum-known-fr c = search needs
 
--- src/lib.rt:236:13
 store-body-requires : tie.Need-store-body-requires
 store-body-requires c κs =
     let S = c .before .before .before .before .before .before in let z = rw (toZ-ofZ (S .fits .first), toZ-ofZ (S .fits .last)) at (sym (c .before .before .before .before .new .ensures) ∙ c .before .before .fr .given .1) in
     let g = framed-legal _ _ _ z in (g .sound, accepts-body _ _ _ _ _ g (S .pre) .1)
 
--- src/lib.rt:229:1
 returns : tie.Need-returns
 returns c =
     let S = c .before .before .before .before in let z = rw (toZ-ofZ (S .fits .first), toZ-ofZ (S .fits .last)) at (sym (c .before .before .new .ensures) ∙ c .enum-told .given .1) in
     accepts-not-outside _ _ _ _ _ (framed-outside _ _ _ z) (S .pre)
 
--- src/lib.rt:229:1
 same-length : tie.Need-same-length
 same-length c = search needs
 
--- src/lib.rt:229:1
 returns-2 : tie.Need-returns-2
 returns-2 c =
     let S = c .before .before .before .before .before .before .before .before in let z = rw (toZ-ofZ (S .fits .first), toZ-ofZ (S .fits .last)) at (sym (c .before .before .before .before .before .before .new .ensures) ∙ c .before .before .before .before .fr .given .1) in

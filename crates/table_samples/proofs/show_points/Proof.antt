@@ -14,47 +14,36 @@ Inv-loop out n i₀ t4 i = i ≤ 64
 abbrev μ-loop : tie.MeasureT-loop
 μ-loop out n i₀ t4 i = 64 - i
 
--- src/main.rt:21:5
 loop-holds : tie.Need-loop-holds Inv-loop μ-loop
 loop-holds c = search needs
 
--- src/main.rt:23:30
 slice-aggregate-write-all : tie.Need-slice-aggregate-write-all Inv-loop μ-loop
 slice-aggregate-write-all c = search needs
 
--- src/main.rt:23:13
 write-all-requires : tie.Need-write-all-requires Inv-loop μ-loop
 write-all-requires c κs = search needs
 
--- src/main.rt:24:36
 mul-print-ordinate : tie.Need-mul-print-ordinate Inv-loop μ-loop
 mul-print-ordinate c = search needs
 
--- src/main.rt:24:36
 element-copy-out-print-ordinate : tie.Need-element-copy-out-print-ordinate Inv-loop μ-loop
 element-copy-out-print-ordinate c = search needs
 
--- src/main.rt:24:13
 print-ordinate-requires : tie.Need-print-ordinate-requires Inv-loop μ-loop
 print-ordinate-requires c κs = search needs
 
--- src/main.rt:26:9
 add-i : tie.Need-add-i Inv-loop μ-loop
 add-i c = search needs
 
--- src/main.rt:21:5
 loop-less : tie.Need-loop-less Inv-loop μ-loop
 loop-less c = search needs
 
--- src/main.rt:21:5
 loop-again : tie.Need-loop-again Inv-loop μ-loop
 loop-again c = search needs
 
--- src/main.rt:28:5
 end-line-requires : tie.Need-end-line-requires Inv-loop μ-loop
 end-line-requires c κs = search needs
 
--- src/main.rt:19:1
 returns : tie.Need-returns Inv-loop μ-loop
 returns c = search needs
 

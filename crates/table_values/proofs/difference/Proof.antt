@@ -20,37 +20,29 @@ use Rattle.table_values.proofs.difference.Lts as lts
 use Rattle.table_values.proofs.put.Reads as put-reads
 use Rattle.table_values.proofs.shifted.Reads as shifted-reads
 
--- src/lib.rt:324:9
 returns : tie.Need-returns
 returns c = let p = c .before .before .pre in λ passing y w h. value-not _ passing _ (p .4) _ y w 8 (dif-none _ _ h (c .if1 .taken))
 
--- src/lib.rt:326:9
 shifted-requires : tie.Need-shifted-requires
 shifted-requires c κs = search needs
 
--- src/lib.rt:328:9
 returns-2 : tie.Need-returns-2
 returns-2 c = let p = c .before .before .before .before .pre in λ passing y w h. value-not _ passing _ (p .4) _ y w 9 (dif-out _ _ h (c .before .before .if1 .left) (sym (c .before .shifted .ensures) ∙ c .if2 .taken))
 
--- src/lib.rt:331:9
 returns-3 : tie.Need-returns-3
 returns-3 c =
     let p = c .before .before .before .before .before .pre in let a = c .before .before .before .before .before .args in let l = c .if3 .taken in let z = shift-some (leb 48 (a .c .e)) (a .v) (a .c .q) _ (c .before .before .shifted .ensures) (c .before .if2 .left) in
     λ passing y w h. value-full _ passing _ (p .4) _ y w (_ ∷ []) _ (dif-adds _ _ _ h (c .before .before .before .if1 .left) z) (omega arith)
 
--- src/lib.rt:333:5
 put-requires : tie.Need-put-requires
 put-requires c κs = let a = c .before .before .before .before .before .before .args in shift-some (leb 48 (a .c .e)) (a .v) (a .c .q) _ (c .before .before .before .shifted .ensures) (c .before .before .if2 .left) .high
 
--- src/lib.rt:337:12
 add-t16 : tie.Need-add-t16
 add-t16 c = search needs
 
--- src/lib.rt:316:1
 same-length : tie.Need-same-length
 same-length c = search needs
 
--- src/lib.rt:316:1
 returns-4 : tie.Need-returns-4
 returns-4 c =
     let p = c .before .before .before .before .before .before .before .before .pre in let a = c .before .before .before .before .before .before .before .before .args in let k = c .before .before .before .if3 .left in let n = c .before .before .before .before .before .before .if1 .left in

@@ -27,45 +27,35 @@ Inv-loop t s points out₀ c at₀ e₀ k₀ q₀ step₀ form₀ out at e k q s
 abbrev μ-loop : tie.MeasureT-loop
 μ-loop t s points out₀ c at₀ e₀ k₀ q₀ step₀ form₀ out at e k q step form = points - k
 
--- src/lib.rt:205:9
 returns : tie.Need-returns Inv-loop μ-loop
 returns c = went-none _ _ (c .before .before .pre .1)
 
--- src/lib.rt:207:5
 loop-holds : tie.Need-loop-holds Inv-loop μ-loop
 loop-holds c = let n = c .if1 .left in (went-none _ _ (c .before .before .pre .1), omega (arith, n), refl)
 
--- src/lib.rt:211:15
 packed-requires : tie.Need-packed-requires Inv-loop μ-loop
 packed-requires c κs = let l = c .before .before .loop .inv .0 .sits in let d = c .before .loop-test .taken in (c .before .before .before .before .before .pre .0, l .stands, omega arith, omega arith)
 
--- src/lib.rt:213:17
 enum-told : tie.Need-enum-told Inv-loop μ-loop
 enum-told c = search needs
 
--- src/lib.rt:215:30
 enum-known-v : tie.Need-enum-known-v Inv-loop μ-loop
 enum-known-v c = search needs
 
--- src/lib.rt:216:21
 shifted-requires : tie.Need-shifted-requires Inv-loop μ-loop
 shifted-requires c κs =
     let l = c .before .before .before .before .before .before .loop .inv .0 .sits in let x = rw (c .before .v .given .1) at (c .before .before .before .packed .ensures) in let b = below-ten (c .before .before .before .before .before .before .loop .e) in
     (l .small, let y = x .0 in omega arith)
 
--- src/lib.rt:220:17
 put-requires : tie.Need-put-requires Inv-loop μ-loop
 put-requires c κs = let l = c .before .before .before .before .before .before .before .before .before .loop in shift-some (leb 48 (l .e)) _ (l .q) _ (c .before .before .shifted .ensures) (c .before .if3 .left) .high
 
--- src/lib.rt:221:17
 add-k : tie.Need-add-k Inv-loop μ-loop
 add-k c = search needs
 
--- src/lib.rt:207:5
 loop-less : tie.Need-loop-less Inv-loop μ-loop
 loop-less c = search needs
 
--- src/lib.rt:207:5
 loop-again : tie.Need-loop-again Inv-loop μ-loop
 loop-again c =
     let l = c .before .before .before .before .before .before .before .before .before .before .before .loop in let x = rw (c .before .before .before .before .before .before .v .given .1) at (c .before .before .before .before .before .before .before .before .packed .ensures) in let b = below-ten (l .e) in
@@ -76,35 +66,27 @@ loop-again c =
       search needs,
     )
 
--- src/lib.rt:194:1
 same-length : tie.Need-same-length Inv-loop μ-loop
 same-length c = c .before .loop .inv .2
 
--- src/lib.rt:194:1
 returns-2 : tie.Need-returns-2 Inv-loop μ-loop
 returns-2 c = c .before .loop .inv .0
 
--- src/lib.rt:194:1
 same-length-2 : tie.Need-same-length-2 Inv-loop μ-loop
 same-length-2 c = c .before .before .loop .inv .2
 
--- src/lib.rt:194:1
 returns-3 : tie.Need-returns-3 Inv-loop μ-loop
 returns-3 c = c .before .before .loop .inv .0
 
--- src/lib.rt:194:1
 same-length-3 : tie.Need-same-length-3 Inv-loop μ-loop
 same-length-3 c = c .before .before .before .before .before .loop .inv .2
 
--- src/lib.rt:194:1
 returns-4 : tie.Need-returns-4 Inv-loop μ-loop
 returns-4 c = c .before .before .before .before .before .loop .inv .0
 
--- src/lib.rt:194:1
 same-length-4 : tie.Need-same-length-4 Inv-loop μ-loop
 same-length-4 c = c .before .before .before .before .before .before .before .before .loop .inv .2
 
--- src/lib.rt:194:1
 returns-5 : tie.Need-returns-5 Inv-loop μ-loop
 returns-5 c = c .before .before .before .before .before .before .before .before .loop .inv .0
 

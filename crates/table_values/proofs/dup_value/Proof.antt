@@ -18,43 +18,34 @@ use Rattle.table_values.proofs.dup_value.Lts as lts
 use Rattle.table_values.proofs.same_again.Reads as same-again-reads
 use Rattle.table_values.proofs.steps_again.Reads as steps-again-reads
 
--- src/lib.rt:404:9
 returns : tie.Need-returns
 returns c = let p = c .before .before .pre in λ passing y w h. value-not _ passing _ (p .3) _ y w 8 (dup-nowhere _ h (c .if1 .taken))
 
--- src/lib.rt:407:9
 returns-2 : tie.Need-returns-2
 returns-2 c = let p = c .before .before .before .pre in λ passing y w h. value-not _ passing _ (p .3) _ y w 8 (dup-few _ h (c .if2 .taken))
 
--- src/lib.rt:409:14
 sub-n : tie.Need-sub-n
 sub-n c = search needs
 
--- src/lib.rt:411:9
 same-again-requires : tie.Need-same-again-requires
 same-again-requires c κs =
     let p = c .before .before .before .before .before .pre in let a = c .before .before .before .before .before .args in let l = c .before .before .if2 .left in let e : a .v ≡ a .v - 1 + 1 = omega arith in
     (p .0, p .1, c .before .before .before .if1 .left, c .before .if3 .taken, omega arith, omega arith, rw (← e) (p .3))
 
--- src/lib.rt:411:9
 same-length : tie.Need-same-length
 same-length c = search needs
 
--- src/lib.rt:411:9
 returns-3 : tie.Need-returns-3
 returns-3 c = search needs
 
--- src/lib.rt:413:5
 steps-again-requires : tie.Need-steps-again-requires
 steps-again-requires c κs =
     let p = c .before .before .before .before .before .pre in let a = c .before .before .before .before .before .args in let l = c .before .before .if2 .left in let e : a .v ≡ a .v - 1 + 1 = omega arith in
     (p .0, p .1, c .before .if3 .left, omega arith, omega arith, rw (← e) (p .3))
 
--- src/lib.rt:398:1
 same-length-2 : tie.Need-same-length-2
 same-length-2 c = search needs
 
--- src/lib.rt:398:1
 returns-4 : tie.Need-returns-4
 returns-4 c = search needs
 

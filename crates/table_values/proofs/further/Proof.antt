@@ -4,15 +4,12 @@ use Rattle.table_values.proofs.further.Tie as tie
 use Rattle.table_values.proofs.further.Reads as reads
 use Rattle.table_values.proofs.further.Lts as lts
 
--- src/lib.rt:67:9
 returns : tie.Need-returns
 returns c = further-dup _ (c .if1 .taken)
 
--- src/lib.rt:70:9
 returns-2 : tie.Need-returns-2
 returns-2 c = further-none _ (c .before .if1 .left) (c .if2 .taken)
 
--- src/lib.rt:62:1
 returns-3 : tie.Need-returns-3
 returns-3 c = further-nine _ (c .before .if1 .left) (c .if2 .left)
 

@@ -19,39 +19,31 @@ use Rattle.table_values.proofs.missing.Lts as lts
 use Rattle.alphabet.proofs.entry_at.Reads as entry-at-reads
 use Rattle.table_values.proofs.put.Reads as put-reads
 
--- src/lib.rt:249:16
 add-next : tie.Need-add-next
 add-next c = search needs
 
--- src/lib.rt:251:9
 returns : tie.Need-returns
 returns c =
     let p = c .before .before .pre in let t = gap-token _ _ (sym (p .1 .stands) ∙ p .2) in
     λ passing y w h. value-not _ passing _ t _ y w 10 (gap-asked h (c .if1 .taken))
 
--- src/lib.rt:254:9
 returns-2 : tie.Need-returns-2
 returns-2 c =
     let p = c .before .before .before .pre in let t = gap-token _ _ (sym (p .1 .stands) ∙ p .2) in let l = c .if2 .taken in
     λ passing y w h. value-full _ passing _ t _ y w (0 ∷ []) Gap (gap-free h (c .before .if1 .left)) (omega arith)
 
--- src/lib.rt:256:5
 put-requires : tie.Need-put-requires
 put-requires c κs = search needs
 
--- src/lib.rt:257:9
 entry-at-requires : tie.Need-entry-at-requires
 entry-at-requires c κs = search needs
 
--- src/lib.rt:258:39
 add-t15 : tie.Need-add-t15
 add-t15 c = search needs
 
--- src/lib.rt:242:1
 same-length : tie.Need-same-length
 same-length c = search needs
 
--- src/lib.rt:242:1
 returns-3 : tie.Need-returns-3
 returns-3 c =
     let p = c .before .before .before .before .before .before .before .pre in let t = gap-token _ _ (sym (p .1 .stands) ∙ p .2) in let l = c .before .before .before .before .if2 .left in (

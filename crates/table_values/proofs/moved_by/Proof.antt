@@ -7,19 +7,15 @@ use Rattle.table_values.proofs.moved_by.Tie as tie
 use Rattle.table_values.proofs.moved_by.Reads as reads
 use Rattle.table_values.proofs.moved_by.Lts as lts
 
--- src/lib.rt:142:16
 sub-result : tie.Need-sub-result
 sub-result c = let z = reach-down _ _ (c .if1 .taken) (c .before .pre) in omega arith
 
--- src/lib.rt:142:9
 returns : tie.Need-returns
 returns c = rw (c .if1 .taken) refl
 
--- src/lib.rt:144:5
 add-result : tie.Need-add-result
 add-result c = let z = reach-up _ _ (c .if1 .left) (c .before .pre) in omega arith
 
--- src/lib.rt:137:1
 returns-2 : tie.Need-returns-2
 returns-2 c = rw (c .if1 .left) refl
 

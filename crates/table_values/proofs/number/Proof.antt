@@ -18,27 +18,21 @@ use Rattle.table_values.proofs.packed.Reads as packed-reads
 use Rattle.table_values.proofs.plain_number.Reads as plain-number-reads
 use Rattle.table_values.proofs.signed_number.Reads as signed-number-reads
 
--- src/lib.rt:126:9
 plain-number-requires : tie.Need-plain-number-requires
 plain-number-requires c κs = search needs
 
--- src/lib.rt:126:9
 returns : tie.Need-returns
 returns c = search needs
 
--- src/lib.rt:129:9
 signed-number-requires : tie.Need-signed-number-requires
 signed-number-requires c κs = search needs
 
--- src/lib.rt:129:9
 returns-2 : tie.Need-returns-2
 returns-2 c = search needs
 
--- src/lib.rt:131:5
 packed-requires : tie.Need-packed-requires
 packed-requires c κs = let p = c .before .before .before .pre in (p .0, p .1, c .before .if1 .left, ⊎-elim (λ x. x) (λ x. absurd (let y = c .if2 .left in omega arith)) (p .4))
 
--- src/lib.rt:121:1
 returns-3 : tie.Need-returns-3
 returns-3 c = search needs
 

@@ -20,21 +20,17 @@ use Rattle.table_values.proofs.own_value.Lts as lts
 use Rattle.table_values.proofs.moved_by.Reads as moved-by-reads
 use Rattle.table_values.proofs.put.Reads as put-reads
 
--- src/lib.rt:283:9
 returns : tie.Need-returns
 returns c = let p = c .before .before .pre in λ passing y w h. value-not _ passing _ (p .1) _ y w 9 (own-large _ _ h (c .if1 .taken))
 
--- src/lib.rt:285:9
 moved-by-requires : tie.Need-moved-by-requires
 moved-by-requires c κs = let a = c .before .before .args in own-reach (a .minus) (a .v) (c .if1 .left)
 
--- src/lib.rt:288:13
 returns-2 : tie.Need-returns-2
 returns-2 c =
     let p = c .before .before .before .before .before .pre in
     λ passing y w h. value-not _ passing _ (p .1) _ y w 10 (own-unequal _ _ h (c .before .before .before .if1 .left) (c .before .if2 .taken) (λ e. c .if3 .taken (c .before .before .moved-by .ensures ∙ e)))
 
--- src/lib.rt:290:9
 returns-3 : tie.Need-returns-3
 returns-3 c =
     let p = c .before .before .before .before .before .pre in let a = c .before .before .before .before .before .args in let l = c .before .before .before .if1 .left in let u = c .before .before .moved-by .ensures in (
@@ -44,25 +40,20 @@ returns-3 c =
           value-adds _ passing _ (p .1) _ y w [] Own _ _ _ (z .0) (let few = p .0 .few in omega arith) refl (omega arith) (rw (c .if3 .left ∙ z .1) (going codes-own)) refl,
     )
 
--- src/lib.rt:301:9
 returns-4 : tie.Need-returns-4
 returns-4 c =
     let p = c .before .before .before .before .before .pre in let a = c .before .before .before .before .before .args in let l = c .if4 .taken in
     λ passing y w h. value-full _ passing _ (p .1) _ y w _ Own (own-free (a .minus) (a .v) h (c .before .before .before .if1 .left) (c .before .if2 .left)) (omega arith)
 
--- src/lib.rt:303:5
 put-requires : tie.Need-put-requires
 put-requires c κs = let a = c .before .before .before .before .before .before .args in rw (c .before .before .before .moved-by .ensures) (own-small (a .minus) (a .v) (c .before .before .before .before .if1 .left))
 
--- src/lib.rt:307:12
 add-t18 : tie.Need-add-t18
 add-t18 c = search needs
 
--- src/lib.rt:267:1
 same-length : tie.Need-same-length
 same-length c = search needs
 
--- src/lib.rt:267:1
 returns-5 : tie.Need-returns-5
 returns-5 c =
     let p = c .before .before .before .before .before .before .before .before .pre in let a = c .before .before .before .before .before .before .before .before .args in let l = c .before .before .before .before .before .before .if1 .left in let u = c .before .before .before .before .before .moved-by .ensures in let k = c .before .before .before .if4 .left in (

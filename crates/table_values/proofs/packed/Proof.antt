@@ -8,25 +8,20 @@ use Rattle.table_values.proofs.packed.Lts as lts
 use Rattle.alphabet.proofs.digits.Reads as digits-reads
 use Rattle.table_values.proofs.further.Reads as further-reads
 
--- src/lib.rt:80:16
 add-next : tie.Need-add-next
 add-next c = let p = c .before .pre in let z = lead-in _ _ _ (p .1) (p .2) (p .3) in omega arith
 
--- src/lib.rt:81:40
 further-requires : tie.Need-further-requires
 further-requires c κs = search needs
 
--- src/lib.rt:81:9
 digits-requires : tie.Need-digits-requires
 digits-requires c κs =
     let p = c .before .before .pre in let z = lead-in _ _ _ (p .1) (p .2) (p .3) in let y = lead-fits _ _ _ (p .1) (p .2) (p .3) _ (c .further .ensures) in
     (p .0, omega arith, omega (arith, below-ten (c .before .before .args .e)))
 
--- src/lib.rt:83:9
 returns : tie.Need-returns
 returns c = let p = c .before .before .before .before .before .pre in packed-long _ _ _ (p .1) (p .2) (p .3) (c .before .before .before .further .ensures) (c .before .before .digits .ensures) (c .if1 .taken)
 
--- src/lib.rt:76:1
 returns-2 : tie.Need-returns-2
 returns-2 c = let p = c .before .before .before .before .before .pre in packed-token _ _ _ (p .1) (p .2) (p .3) (c .before .before .before .further .ensures) (c .before .before .digits .ensures) (c .if1 .left)
 

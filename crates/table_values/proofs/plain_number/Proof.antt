@@ -9,31 +9,24 @@ use Rattle.table_values.proofs.plain_number.Lts as lts
 use Rattle.alphabet.proofs.digits.Reads as digits-reads
 use Rattle.alphabet.proofs.entry_at.Reads as entry-at-reads
 
--- src/lib.rt:109:23
 sub-entry-at : tie.Need-sub-entry-at
 sub-entry-at c = search needs
 
--- src/lib.rt:109:8
 entry-at-requires : tie.Need-entry-at-requires
 entry-at-requires c κs = search needs
 
--- src/lib.rt:110:9
 returns : tie.Need-returns
 returns c = let p = c .before .before .before .pre in digit-late _ _ _ (p .1) (p .2) (p .3) (λ e. c .if1 .taken (c .before .entry-at .ensures ∙ e))
 
--- src/lib.rt:112:16
 add-next : tie.Need-add-next
 add-next c = let p = c .before .before .before .pre in let z = digit-here _ _ _ (p .1) (p .2) in omega (arith, z .0)
 
--- src/lib.rt:113:9
 digits-requires : tie.Need-digits-requires
 digits-requires c κs = let p = c .before .before .before .pre in let z = digit-here _ _ _ (p .1) (p .2) in (p .0, omega (arith, z .0), omega (arith, z .1))
 
--- src/lib.rt:115:9
 returns-2 : tie.Need-returns-2
 returns-2 c = let p = c .before .before .before .before .before .before .pre in plain-long _ _ _ (p .1) (p .2) (p .3) (sym (c .before .before .before .before .entry-at .ensures) ∙ c .before .before .before .if1 .left) (c .before .before .digits .ensures) (c .if2 .taken)
 
--- src/lib.rt:105:1
 returns-3 : tie.Need-returns-3
 returns-3 c = let p = c .before .before .before .before .before .before .pre in plain-token _ _ _ (p .1) (p .2) (p .3) (sym (c .before .before .before .before .entry-at .ensures) ∙ c .before .before .before .if1 .left) (c .before .before .digits .ensures) (c .if2 .left)
 

@@ -9,27 +9,21 @@ use Rattle.table_values.proofs.put.Reads as reads
 use Rattle.table_values.proofs.put.Lts as lts
 use Rattle.signed.proofs.entry_for.Reads as entry-for-reads
 
--- src/lib.rt:171:18
 entry-for-requires : tie.Need-entry-for-requires
 entry-for-requires c κs = search needs
 
--- src/lib.rt:171:9
 mul-t7 : tie.Need-mul-t7
 mul-t7 c = search needs
 
--- src/lib.rt:171:9
 slice-set-from-out : tie.Need-slice-set-from-out
 slice-set-from-out c = search needs
 
--- src/lib.rt:166:1
 same-length : tie.Need-same-length
 same-length c = search needs
 
--- src/lib.rt:166:1
 returns : tie.Need-returns
 returns c = rw (toZ-ofZ (sfits-of {w = w32} (c .entry-for .ok)), c .entry-for .ensures) refl
 
--- src/lib.rt:166:1
 returns-2 : tie.Need-returns-2
 returns-2 c = sym (set-out _ _ _ (c .if1 .left))
 

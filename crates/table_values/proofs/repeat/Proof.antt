@@ -24,39 +24,30 @@ Inv-loop out₀ k q minus d n i₀ u₀ left₀ out i u left = Repeating out₀ 
 abbrev μ-loop : tie.MeasureT-loop
 μ-loop out₀ k q minus d n i₀ u₀ left₀ out i u left = left
 
--- src/lib.rt:183:5
 loop-holds : tie.Need-loop-holds Inv-loop μ-loop
 loop-holds c = repeat-start _ _ _ _ _ _ (c .pre .1) (c .pre .2)
 
--- src/lib.rt:184:9
 moved-by-requires : tie.Need-moved-by-requires Inv-loop μ-loop
 moved-by-requires c κs = repeat-reach (c .before .loop .inv) (c .loop-test .taken)
 
--- src/lib.rt:185:9
 put-requires : tie.Need-put-requires Inv-loop μ-loop
 put-requires c κs = repeat-small (c .before .before .before .loop .inv) (c .before .before .loop-test .taken) _ (c .before .moved-by .ensures)
 
--- src/lib.rt:186:9
 add-i : tie.Need-add-i Inv-loop μ-loop
 add-i c = let z = c .before .before .before .before .before .loop .inv .count in let p = c .before .before .before .before .before .before .pre .0 in omega arith
 
--- src/lib.rt:187:9
 sub-left : tie.Need-sub-left Inv-loop μ-loop
 sub-left c = search needs
 
--- src/lib.rt:183:5
 loop-less : tie.Need-loop-less Inv-loop μ-loop
 loop-less c = search needs
 
--- src/lib.rt:183:5
 loop-again : tie.Need-loop-again Inv-loop μ-loop
 loop-again c = repeat-turn (c .before .before .before .before .before .loop .inv) (c .before .before .before .before .loop-test .taken) _ (c .before .before .before .moved-by .ensures) _ (c .before .put .ensures)
 
--- src/lib.rt:176:1
 same-length : tie.Need-same-length Inv-loop μ-loop
 same-length c = c .before .loop .inv .same
 
--- src/lib.rt:176:1
 returns : tie.Need-returns Inv-loop μ-loop
 returns c = repeat-end (c .before .loop .inv) (let z = c .loop-test .left in omega arith)
 

@@ -20,25 +20,20 @@ use Rattle.table_values.proofs.same_again.Reads as reads
 use Rattle.table_values.proofs.same_again.Lts as lts
 use Rattle.table_values.proofs.repeat.Reads as repeat-reads
 
--- src/lib.rt:352:15
 add-end : tie.Need-add-end
 add-end c = search needs
 
--- src/lib.rt:354:9
 returns : tie.Need-returns
 returns c =
     let p = c .before .before .pre in let a = c .before .before .args in let l = c .if1 .taken in let n = copies-length (a .n) (By false 0) (a .c .q) in
     λ passing y w h. let z = dup-same (a .n) h (p .2) (p .3) (p .4) in value-full _ passing _ (p .6) _ y w _ _ (z .0) (omega arith)
 
--- src/lib.rt:356:5
 repeat-requires : tie.Need-repeat-requires
 repeat-requires c κs = search needs
 
--- src/lib.rt:346:1
 same-length : tie.Need-same-length
 same-length c = search needs
 
--- src/lib.rt:346:1
 returns-2 : tie.Need-returns-2
 returns-2 c =
     let p = c .before .before .before .before .before .pre in let a = c .before .before .before .before .before .args in let l = c .before .before .before .if1 .left in let n = copies-length (a .n) (By false 0) (a .c .q) in (

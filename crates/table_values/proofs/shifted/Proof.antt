@@ -5,27 +5,21 @@ use Rattle.table_values.proofs.shifted.Tie as tie
 use Rattle.table_values.proofs.shifted.Reads as reads
 use Rattle.table_values.proofs.shifted.Lts as lts
 
--- src/lib.rt:154:13
 returns : tie.Need-returns
 returns c = shift-down _ _ (c .before .if1 .taken) (c .if2 .taken)
 
--- src/lib.rt:156:16
 sub-result : tie.Need-sub-result
 sub-result c = search needs
 
--- src/lib.rt:156:9
 returns-2 : tie.Need-returns-2
 returns-2 c = shift-less _ _ (c .before .if1 .taken) (c .before .before .pre .0) (c .if2 .left)
 
--- src/lib.rt:158:13
 add-u : tie.Need-add-u
 add-u c = search needs
 
--- src/lib.rt:160:9
 returns-3 : tie.Need-returns-3
 returns-3 c = shift-over _ _ (c .before .if1 .left) (c .if3 .taken)
 
--- src/lib.rt:148:1
 returns-4 : tie.Need-returns-4
 returns-4 c = shift-more _ _ (c .before .if1 .left) (c .if3 .left)
 

@@ -8,23 +8,18 @@ use Rattle.table_values.proofs.signed_number.Reads as reads
 use Rattle.table_values.proofs.signed_number.Lts as lts
 use Rattle.alphabet.proofs.digits.Reads as digits-reads
 
--- src/lib.rt:93:16
 add-next : tie.Need-add-next
 add-next c = let p = c .before .pre in let z = entry-in (c .before .args .s .now) (c .before .args .at) (λ x. omega (arith, p .1)) in omega arith
 
--- src/lib.rt:94:9
 digits-requires : tie.Need-digits-requires
 digits-requires c κs = let p = c .before .pre in let z = entry-in (c .before .args .s .now) (c .before .args .at) (λ x. omega (arith, p .1)) in (p .0, omega arith, omega arith)
 
--- src/lib.rt:96:9
 returns : tie.Need-returns
 returns c = let p = c .before .before .before .before .pre in sign-alone _ _ _ (p .1) (p .2) (p .3) (c .before .before .digits .ensures) (c .if1 .taken)
 
--- src/lib.rt:99:9
 returns-2 : tie.Need-returns-2
 returns-2 c = let p = c .before .before .before .before .before .before .pre in signed-long _ _ _ (p .1) (p .2) (p .3) (c .before .before .before .before .digits .ensures) (c .before .before .if1 .left) (c .if2 .taken)
 
--- src/lib.rt:89:1
 returns-3 : tie.Need-returns-3
 returns-3 c = let p = c .before .before .before .before .before .before .pre in signed-token _ _ _ (p .1) (p .2) (p .3) (c .before .before .before .before .digits .ensures) (c .before .before .if1 .left) (c .if2 .left)
 

@@ -20,42 +20,34 @@ use Rattle.table_values.proofs.steps_again.Lts as lts
 use Rattle.table_values.proofs.repeat.Reads as repeat-reads
 use Rattle.table_values.proofs.shifted.Reads as shifted-reads
 
--- src/lib.rt:373:15
 mul-far : tie.Need-mul-far
 mul-far c = let p = c .before .pre in let a = c .before .args in let z = far-small (a .c .step) (a .n) (p .0 .size) (p .4) in omega arith
 
--- src/lib.rt:374:9
 shifted-requires : tie.Need-shifted-requires
 shifted-requires c κs = let p = c .before .pre in let a = c .before .args in (p .0 .small, far-small (a .c .step) (a .n) (p .0 .size) (p .4))
 
--- src/lib.rt:376:9
 returns : tie.Need-returns
 returns c =
     let p = c .before .before .before .pre in let a = c .before .before .before .args in
     λ passing y w h. value-not _ passing _ (p .5) _ y w 9 (dup-out (a .n) (p .3) (p .0 .small) (repeats (a .n) h (p .2)) (sym (c .before .shifted .ensures) ∙ c .if1 .taken))
 
--- src/lib.rt:378:15
 add-end : tie.Need-add-end
 add-end c = search needs
 
--- src/lib.rt:380:9
 returns-2 : tie.Need-returns-2
 returns-2 c =
     let p = c .before .before .before .before .pre in let a = c .before .before .before .before .args in let l = c .if2 .taken in let n = copies-length (a .n) (By (leb 48 (a .c .form)) (a .c .step)) (a .c .q) in
     let z = shift-some (leb 48 (a .c .form)) (a .c .step * a .n) (a .c .q) _ (c .before .before .shifted .ensures) (c .before .if1 .left) in
     λ passing y w h. value-full _ passing _ (p .5) _ y w _ _ (dup-steps (a .n) (p .3) (p .0 .small) (repeats (a .n) h (p .2)) z) (omega arith)
 
--- src/lib.rt:382:5
 repeat-requires : tie.Need-repeat-requires
 repeat-requires c κs =
     let p = c .before .before .before .before .before .pre in let a = c .before .before .before .before .before .args in let l = c .before .if2 .left in let z = shift-some (leb 48 (a .c .form)) (a .c .step * a .n) (a .c .q) _ (c .before .before .before .shifted .ensures) (c .before .before .if1 .left) in
     (omega arith, p .0 .small, reaches (leb 48 (a .c .form)) (a .c .step) (a .n) (a .c .q) (z .inside))
 
--- src/lib.rt:364:1
 same-length : tie.Need-same-length
 same-length c = search needs
 
--- src/lib.rt:364:1
 returns-3 : tie.Need-returns-3
 returns-3 c =
     let p = c .before .before .before .before .before .before .before .pre in let a = c .before .before .before .before .before .before .before .args in let l = c .before .before .before .if2 .left in let n = copies-length (a .n) (By (leb 48 (a .c .form)) (a .c .step)) (a .c .q) in

@@ -24,35 +24,27 @@ use Rattle.table_values.proofs.missing.Reads as missing-reads
 use Rattle.table_values.proofs.number.Reads as number-reads
 use Rattle.table_values.proofs.value.Reads as value-reads
 
--- src/lib.rt:440:22
 line-end-requires : tie.Need-line-end-requires
 line-end-requires c κs = search needs
 
--- src/lib.rt:441:26
 enum-known-j : tie.Need-enum-known-j
 enum-known-j c = search needs
 
--- src/lib.rt:442:28
 enum-told : tie.Need-enum-told
 enum-told c = search needs
 
--- src/lib.rt:440:9
 returns : tie.Need-returns
 returns c = let x = rw (c .before .j .given .1) at (c .before .before .before .line-end .ensures) in (x .0, x .1, refl, λ passing y w h. line-token _ passing _ _ _ y w _ x)
 
--- src/lib.rt:440:9
 returns-2 : tie.Need-returns-2
 returns-2 c = let x = rw (c .enum-told .given .1) at (c .before .before .line-end .ensures) in λ passing y w h. fault-token _ passing _ _ _ y w 3 (x .1 _)
 
--- src/lib.rt:446:13
 blanks-requires : tie.Need-blanks-requires
 blanks-requires c κs = search needs
 
--- src/lib.rt:447:13
 entry-at-requires : tie.Need-entry-at-requires
 entry-at-requires c κs = search needs
 
--- src/lib.rt:448:9
 returns-3 : tie.Need-returns-3
 returns-3 c =
     let p = c .before .before .before .before .before .pre .2 in let b = c .before .blanks .ensures in let l = blank-moves _ _ _ _ (p .stands) (c .before .before .if2 .taken) b in (
@@ -61,47 +53,37 @@ returns-3 c =
       λ passing y w h. gone-same _ passing _ _ y w _ _ h (b .within),
     )
 
--- src/lib.rt:459:9
 missing-requires : tie.Need-missing-requires
 missing-requires c κs = search needs
 
--- src/lib.rt:459:9
 same-length : tie.Need-same-length
 same-length c = search needs
 
--- src/lib.rt:459:9
 returns-4 : tie.Need-returns-4
 returns-4 c = search needs
 
--- src/lib.rt:461:11
 number-requires : tie.Need-number-requires
 number-requires c κs =
     let p = c .before .before .before .before .pre in let a = c .before .before .before .before .args in
     (p .0, p .2 .stands, c .before .before .if1 .left, p .2 .some, kinds _ _ _ (p .2 .stands) (c .before .before .if1 .left) (c .before .if2 .left) (c .if3 .left))
 
--- src/lib.rt:462:35
 enum-told-2 : tie.Need-enum-told-2
 enum-told-2 c = search needs
 
--- src/lib.rt:463:26
 enum-known-v : tie.Need-enum-known-v
 enum-known-v c = search needs
 
--- src/lib.rt:463:38
 value-requires : tie.Need-value-requires
 value-requires c κs =
     let p = c .before .before .before .before .before .before .before .before .before .pre in let x = rw (c .before .before .v .given .1) at (c .before .before .before .before .number .ensures) in
     (p .2, p .1, c .before .before .before .before .before .before .before .if1 .left, kinds _ _ _ (p .2 .stands) (c .before .before .before .before .before .before .before .if1 .left) (c .before .before .before .before .before .before .if2 .left) (c .before .before .before .before .before .if3 .left), x .0, x .1)
 
--- src/lib.rt:433:1
 returns-5 : tie.Need-returns-5
 returns-5 c = let x = rw (c .enum-told2 .given .1) at (c .before .before .number .ensures) in λ passing y w h. fault-token _ passing _ _ _ y w 5 x
 
--- src/lib.rt:433:1
 same-length-2 : tie.Need-same-length-2
 same-length-2 c = search needs
 
--- src/lib.rt:433:1
 returns-6 : tie.Need-returns-6
 returns-6 c = search needs
 

@@ -21,45 +21,36 @@ use Rattle.table_values.proofs.difference.Reads as difference-reads
 use Rattle.table_values.proofs.dup_value.Reads as dup-value-reads
 use Rattle.table_values.proofs.own_value.Reads as own-value-reads
 
--- src/lib.rt:424:9
 dup-value-requires : tie.Need-dup-value-requires
 dup-value-requires c κs =
     let p = c .before .before .before .pre in let a = c .before .before .before .args in let z = dup-at (a .c .e) (a .v) (c .before .if1 .taken) in
     (p .0, p .1, rw (z .1) at (p .4), rw (z .0) at (p .5))
 
--- src/lib.rt:424:9
 same-length : tie.Need-same-length
 same-length c = search needs
 
--- src/lib.rt:424:9
 returns : tie.Need-returns
 returns c = search needs
 
--- src/lib.rt:427:9
 difference-requires : tie.Need-difference-requires
 difference-requires c κs =
     let p = c .before .before .before .before .pre in let a = c .before .before .before .before .args in let d = c .before .if2 .taken in let l : 32 ≤ a .c .e = omega arith in let h : a .c .e < 64 = omega arith in
     (p .0, (let b = below-ten (a .c .e) in let x = p .4 in omega arith), l, h, rw (dif-at (a .c .e) (a .v) l h) at (p .5))
 
--- src/lib.rt:427:9
 same-length-2 : tie.Need-same-length-2
 same-length-2 c = search needs
 
--- src/lib.rt:427:9
 returns-2 : tie.Need-returns-2
 returns-2 c = search needs
 
--- src/lib.rt:429:5
 own-value-requires : tie.Need-own-value-requires
 own-value-requires c κs =
     let p = c .before .before .before .before .pre in let a = c .before .before .before .before .args in
     (p .0, rw (own-at-all (a .c .e) (a .v) (c .before .before .if1 .left) (c .before .if2 .left) (p .2) (p .3)) at (p .5))
 
--- src/lib.rt:417:1
 same-length-3 : tie.Need-same-length-3
 same-length-3 c = search needs
 
--- src/lib.rt:417:1
 returns-3 : tie.Need-returns-3
 returns-3 c = search needs
 

@@ -25,56 +25,44 @@ Inv-loop t s points out₀ c₀ out c = Went points s c₀ c out₀ out × (leng
 abbrev μ-loop : tie.MeasureT-loop
 μ-loop t s points out₀ c₀ out c = length s - c .at
 
--- src/lib.rt:473:5
 loop-holds : tie.Need-loop-holds Inv-loop μ-loop
 loop-holds c = (went-none _ _ (c .before .pre .2), refl)
 
--- src/lib.rt:474:13
 differences-requires : tie.Need-differences-requires Inv-loop μ-loop
 differences-requires c κs = (c .before .before .before .pre .0, c .before .loop .inv .0 .sits)
 
--- src/lib.rt:475:15
 token-requires : tie.Need-token-requires Inv-loop μ-loop
 token-requires c κs = (c .before .before .before .before .before .before .pre .0, c .before .before .before .before .before .before .pre .1, c .before .before .differences .ensures .sits)
 
--- src/lib.rt:476:22
 enum-known-d : tie.Need-enum-known-d Inv-loop μ-loop
 enum-known-d c = search needs
 
--- src/lib.rt:473:5
 loop-less : tie.Need-loop-less Inv-loop μ-loop
 loop-less c =
     let x = rw (c .before .d .given .1) at (c .before .before .before .before .token .ensures) in let y = c .before .before .before .before .before .before .before .differences .ensures .low in let z = x .1 .high in omega (arith, x .0)
 
--- src/lib.rt:473:5
 loop-again : tie.Need-loop-again Inv-loop μ-loop
 loop-again c =
     let x = rw (c .before .d .given .1) at (c .before .before .before .before .token .ensures) in
     (went-step (went-went (c .before .before .before .before .before .before .before .before .before .loop .inv .0) (c .before .before .before .before .before .before .before .differences .ensures)) x, search needs)
 
--- src/lib.rt:479:24
 enum-known-j : tie.Need-enum-known-j Inv-loop μ-loop
 enum-known-j c = search needs
 
--- src/lib.rt:480:17
 same-length : tie.Need-same-length Inv-loop μ-loop
 same-length c = search needs
 
--- src/lib.rt:480:17
 returns : tie.Need-returns Inv-loop μ-loop
 returns c =
     let x = rw (c .before .j .given .1) at (c .before .before .before .before .token .ensures) in
     went-line (went-went (c .before .before .before .before .before .before .before .before .before .loop .inv .0) (c .before .before .before .before .before .before .before .differences .ensures)) x
 
--- src/lib.rt:482:27
 enum-known-n : tie.Need-enum-known-n Inv-loop μ-loop
 enum-known-n c = search needs
 
--- src/lib.rt:483:17
 same-length-2 : tie.Need-same-length-2 Inv-loop μ-loop
 same-length-2 c = search needs
 
--- src/lib.rt:483:17
 returns-2 : tie.Need-returns-2 Inv-loop μ-loop
 returns-2 c =
     let x = rw (c .before .n .given .1) at (c .before .before .before .before .token .ensures) in

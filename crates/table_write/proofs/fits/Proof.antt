@@ -9,31 +9,24 @@ use Rattle.table_write.proofs.fits.Reads as reads
 use Rattle.table_write.proofs.fits.Lts as lts
 use Rattle.table_write.proofs.measure.Reads as measure-reads
 
--- src/lib.rt:133:8
 mul-if1 : tie.Need-mul-if1
 mul-if1 c = search needs
 
--- src/lib.rt:133:8
 add-if1 : tie.Need-add-if1
 add-if1 c = search needs
 
--- src/lib.rt:134:9
 returns : tie.Need-returns
 returns c = let s = c .before in let p = s .pre in sym (always-room (s .args .fr) (s .args .ys .now) (p .0) (p .1) (p .2) (c .if1 .taken))
 
--- src/lib.rt:137:30
 array-borrow-prefix-none : tie.Need-array-borrow-prefix-none
 array-borrow-prefix-none c = search needs
 
--- src/lib.rt:137:30
 slice-aggregate-measure : tie.Need-slice-aggregate-measure
 slice-aggregate-measure c = search needs
 
--- src/lib.rt:137:9
 measure-requires : tie.Need-measure-requires
 measure-requires c κs = search needs
 
--- src/lib.rt:128:1
 returns-2 : tie.Need-returns-2
 returns-2 c = ap (λ (n : ℕ). leb n (c .before .before .before .before .args .room)) (c .before .measure .ensures)
 

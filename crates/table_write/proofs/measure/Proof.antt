@@ -23,37 +23,69 @@ Inv-loop ys none₀ fr n s₀ i₀ none s i = Going (headOf fr) (ordinates ys) n
 abbrev μ-loop : tie.MeasureT-loop
 μ-loop ys none₀ fr n s₀ i₀ none s i = length ys - i
 
--- src/lib.rt:111:9
 begin-requires : tie.Need-begin-requires Inv-loop μ-loop
 begin-requires c κs = search needs
 
--- src/lib.rt:113:5
 loop-holds : tie.Need-loop-holds Inv-loop μ-loop
-loop-holds c = let e = c .before .before .begin .ensures in (starts _ _ _ _ _ (e .0) (e .1), λ _. omega (arith, e .1, ap (λ (x : State). x .column) (e .0)))
+loop-holds c =
+    let e = c .before .before .begin .ensures in
+    (starts _ _ _ _ _ (e .0) (e .1), λ _. omega (arith, e .1, ap (λ (x : State). x .column) (e .0)))
 
--- src/lib.rt:114:9
 count-turn-requires : tie.Need-count-turn-requires Inv-loop μ-loop
-count-turn-requires c κs = let a = c .before .before .before .before .before .before .before .before .args in let p = c .before .before .before .before .before .before .before .before .pre in let x = c .before .before .loop .inv in let g = x .0 in let l = length-map (a .ys .now) ordinate-of in let few = p .0 .few in let i = g .is in let same = g .same in let left = c .before .loop-test .taken in (p .0, p .1, g .started, omega arith, g .column-most, going-near _ _ g (omega (arith, p .1)), x .1 (omega arith), omega (arith, p .2, put-length (c .before .before .before .before .before .begin .ensures .2)))
+count-turn-requires c κs =
+    let a = c .before .before .before .before .before .before .before .before .args in
+    let p = c .before .before .before .before .before .before .before .before .pre in
+    let x = c .before .before .loop .inv in
+    let g = x .0 in
+    let l = length-map (a .ys .now) ordinate-of in
+    let few = p .0 .few in
+    let i = g .is in
+    let same = g .same in
+    let left = c .before .loop-test .taken in (
+      p .0,
+      p .1,
+      g .started,
+      omega arith,
+      g .column-most,
+      going-near _ _ g (omega (arith, p .1)),
+      x .1 (omega arith),
+      omega (arith, p .2, put-length (c .before .before .before .before .before .begin .ensures .2)),
+    )
 
--- src/lib.rt:113:5
 loop-less : tie.Need-loop-less Inv-loop μ-loop
-loop-less c = let w = c .before .before .count-turn .ensures .0 in let g = c .before .before .before .before .before .loop .inv .0 in let on = w .on in let i = g .is in omega (arith, c .before .before .before .before .loop-test .taken)
+loop-less c =
+    let w = c .before .before .count-turn .ensures .0 in
+    let g = c .before .before .before .before .before .loop .inv .0 in
+    let on = w .on in
+    let i = g .is in
+    omega (arith, c .before .before .before .before .loop-test .taken)
 
--- src/lib.rt:113:5
 loop-again : tie.Need-loop-again Inv-loop μ-loop
 loop-again c = let e = c .before .before .count-turn .ensures in (goes _ _ (c .before .before .before .before .before .loop .inv .0) (e .0), e .1)
 
--- src/lib.rt:117:5
 finish-requires : tie.Need-finish-requires Inv-loop μ-loop
-finish-requires c κs = let a = c .before .before .before .before .before .before .before .before .args in let p = c .before .before .before .before .before .before .before .before .pre in let g = c .before .before .loop .inv .0 in let l = length-map (a .ys .now) ordinate-of in let few = p .0 .few in (p .0, g .started .small, omega (arith, going-near _ _ g (omega (arith, p .1))))
+finish-requires c κs =
+    let a = c .before .before .before .before .before .before .before .before .args in
+    let p = c .before .before .before .before .before .before .before .before .pre in
+    let g = c .before .before .loop .inv .0 in
+    let l = length-map (a .ys .now) ordinate-of in
+    let few = p .0 .few in
+    (p .0, g .started .small, omega (arith, going-near _ _ g (omega (arith, p .1))))
 
--- src/lib.rt:106:1
 same-length : tie.Need-same-length Inv-loop μ-loop
 same-length c = search needs
 
--- src/lib.rt:106:1
 returns : tie.Need-returns Inv-loop μ-loop
-returns c = let a = c .before .before .before .before .before .before .before .before .before .before .before .args in let p = c .before .before .before .before .before .before .before .before .before .before .before .pre in let l = length-map (a .ys .now) ordinate-of in let some = p .0 .some in let e = c .before .before .before .before .before .before .before .before .begin .ensures in let z = finish (headOf (a .fr)) (ordinates (a .ys .now)) _ (omega (arith, p .1)) (e .0) (e .1) (e .2) (c .before .before .before .before .before .loop .inv .0) (omega (arith, c .before .before .before .before .loop-test .left)) (l ∙ p .1) (c .before .before .finish .ensures) in z .next ∙ omega arith
+returns c =
+    let a = c .before .before .before .before .before .before .before .before .before .before .before .args in
+    let p = c .before .before .before .before .before .before .before .before .before .before .before .pre in
+    let l = length-map (a .ys .now) ordinate-of in
+    let some = p .0 .some in
+    let e = c .before .before .before .before .before .before .before .before .begin .ensures in
+    let z = finish (headOf (a .fr)) (ordinates (a .ys .now)) _ (omega (arith, p .1)) (e .0) (e .1) (e .2)
+    (c .before .before .before .before .before .loop .inv .0)
+    (omega (arith, c .before .before .before .before .loop-test .left)) (l ∙ p .1) (c .before .before .finish .ensures) in
+    z .next ∙ omega arith
 
 pub measure-spec : {M : Type 1} → statement M
 measure-spec =

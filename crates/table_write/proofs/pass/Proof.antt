@@ -22,37 +22,55 @@ Inv-loop ys text₀ fr n s₀ i₀ text s i = Going (headOf fr) (ordinates ys) t
 abbrev μ-loop : tie.MeasureT-loop
 μ-loop ys text₀ fr n s₀ i₀ text s i = length ys - i
 
--- src/lib.rt:111:9
 begin-requires : tie.Need-begin-requires Inv-loop μ-loop
 begin-requires c κs = search needs
 
--- src/lib.rt:113:5
 loop-holds : tie.Need-loop-holds Inv-loop μ-loop
 loop-holds c = let e = c .before .before .begin .ensures in starts _ _ _ _ _ (e .0) (e .1)
 
--- src/lib.rt:114:9
 turn-requires : tie.Need-turn-requires Inv-loop μ-loop
-turn-requires c κs = let a = c .before .before .before .before .before .before .before .before .args in let p = c .before .before .before .before .before .before .before .before .pre in let g = c .before .before .loop .inv in let l = length-map (a .ys .now) ordinate-of in let few = p .0 .few in let i = g .is in (p .0, p .1, g .started, omega (arith, c .before .loop-test .taken), omega (arith, going-near _ _ g (omega (arith, p .1))), g .column-most)
+turn-requires c κs =
+    let a = c .before .before .before .before .before .before .before .before .args in
+    let p = c .before .before .before .before .before .before .before .before .pre in
+    let g = c .before .before .loop .inv in
+    let l = length-map (a .ys .now) ordinate-of in
+    let few = p .0 .few in
+    let i = g .is in
+    (p .0, p .1, g .started, omega (arith, c .before .loop-test .taken), omega (arith, going-near _ _ g (omega (arith, p .1))), g .column-most)
 
--- src/lib.rt:113:5
 loop-less : tie.Need-loop-less Inv-loop μ-loop
-loop-less c = let w = c .before .before .turn .ensures in let g = c .before .before .before .before .before .loop .inv in let on = w .on in let i = g .is in omega (arith, c .before .before .before .before .loop-test .taken)
+loop-less c =
+    let w = c .before .before .turn .ensures in
+    let g = c .before .before .before .before .before .loop .inv in
+    let on = w .on in
+    let i = g .is in
+    omega (arith, c .before .before .before .before .loop-test .taken)
 
--- src/lib.rt:113:5
 loop-again : tie.Need-loop-again Inv-loop μ-loop
 loop-again c = goes _ _ (c .before .before .before .before .before .loop .inv) (c .before .before .turn .ensures)
 
--- src/lib.rt:117:5
 finish-requires : tie.Need-finish-requires Inv-loop μ-loop
-finish-requires c κs = let a = c .before .before .before .before .before .before .before .before .args in let p = c .before .before .before .before .before .before .before .before .pre in let g = c .before .before .loop .inv in let l = length-map (a .ys .now) ordinate-of in let few = p .0 .few in (p .0, g .started .small, omega (arith, going-near _ _ g (omega (arith, p .1))))
+finish-requires c κs =
+    let a = c .before .before .before .before .before .before .before .before .args in
+    let p = c .before .before .before .before .before .before .before .before .pre in
+    let g = c .before .before .loop .inv in
+    let l = length-map (a .ys .now) ordinate-of in
+    let few = p .0 .few in
+    (p .0, g .started .small, omega (arith, going-near _ _ g (omega (arith, p .1))))
 
--- src/lib.rt:106:1
 same-length : tie.Need-same-length Inv-loop μ-loop
 same-length c = search needs
 
--- src/lib.rt:106:1
 returns : tie.Need-returns Inv-loop μ-loop
-returns c = let a = c .before .before .before .before .before .before .before .before .before .before .before .args in let p = c .before .before .before .before .before .before .before .before .before .before .before .pre in let l = length-map (a .ys .now) ordinate-of in let some = p .0 .some in let e = c .before .before .before .before .before .before .before .before .begin .ensures in finish (headOf (a .fr)) (ordinates (a .ys .now)) _ (omega (arith, p .1)) (e .0) (e .1) (e .2) (c .before .before .before .before .before .loop .inv) (omega (arith, c .before .before .before .before .loop-test .left)) (l ∙ p .1) (c .before .before .finish .ensures)
+returns c =
+    let a = c .before .before .before .before .before .before .before .before .before .before .before .args in
+    let p = c .before .before .before .before .before .before .before .before .before .before .before .pre in
+    let l = length-map (a .ys .now) ordinate-of in
+    let some = p .0 .some in
+    let e = c .before .before .before .before .before .before .before .before .begin .ensures in
+    finish (headOf (a .fr)) (ordinates (a .ys .now)) _ (omega (arith, p .1)) (e .0) (e .1) (e .2)
+    (c .before .before .before .before .before .loop .inv)
+    (omega (arith, c .before .before .before .before .loop-test .left)) (l ∙ p .1) (c .before .before .finish .ensures)
 
 pub pass-spec : {M : Type 1} → statement M
 pass-spec =

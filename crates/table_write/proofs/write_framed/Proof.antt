@@ -13,49 +13,38 @@ use Rattle.table_write.proofs.pass.Reads as pass-reads
 use Rattle.table_write.proofs.refused.Reads as refused-reads
 use Rattle.table_write.proofs.distance.Reads as distance-reads
 
--- src/lib.rt:121:9
 refused-requires : tie.Need-refused-requires
 refused-requires c κs = search needs
 
--- src/lib.rt:121:9
 returns : tie.Need-returns
 returns c = let a = c .before .before .before .args in too-few (a .fr) (a .ordinates .now) (a .text .now) (c .before .if1 .taken) (c .refused .ensures) refl
 
--- src/lib.rt:123:18
 sub-steps : tie.Need-sub-steps
 sub-steps c = search needs
 
--- src/lib.rt:124:8
 distance-requires : tie.Need-distance-requires
 distance-requires c κs = search needs
 
--- src/lib.rt:125:9
 refused-requires-2 : tie.Need-refused-requires-2
 refused-requires-2 c κs = search needs
 
--- src/lib.rt:125:9
 returns-2 : tie.Need-returns-2
 returns-2 c = let a = c .before .before .before .before .before .args in too-near (a .fr) (a .ordinates .now) (a .text .now) (c .before .before .before .if1 .left)
     (omega (arith, c .before .if2 .taken, c .before .before .distance .ensures)) (c .refused2 .ensures) refl
 
--- src/lib.rt:127:9
 slice-aggregate-ys : tie.Need-slice-aggregate-ys
 slice-aggregate-ys c = let a = c .before .before .before .before .before .args in sym (length-take-le (a .fr .points) (a .ordinates .now) (c .before .before .before .if1 .left))
 
--- src/lib.rt:128:8
 fits-requires : tie.Need-fits-requires
 fits-requires c κs = let s = c .before .before .before .before .before in
     (s .pre, length-take-le (s .args .fr .points) (s .args .ordinates .now) (c .before .before .before .if1 .left), omega (arith, c .before .if2 .left, c .before .before .distance .ensures))
 
--- src/lib.rt:129:13
 pass-requires : tie.Need-pass-requires
 pass-requires c κs = let s = c .before .before .before .before .before .before .before .before in (s .pre, length-take-le (s .args .fr .points) (s .args .ordinates .now) (c .before .before .before .before .before .before .if1 .left))
 
--- src/lib.rt:130:9
 same-length : tie.Need-same-length
 same-length c = search needs
 
--- src/lib.rt:130:9
 returns-3 : tie.Need-returns-3
 returns-3 c =
     let b = c .before .before .before .before .before .before .before in
@@ -63,11 +52,9 @@ returns-3 c =
     in-room (a .fr) (a .ordinates .now) (a .text .now) (b .before .before .if1 .left) (omega (arith, b .if2 .left, b .before .distance .ensures))
     (leb-true _ _ (sym (c .before .before .before .before .before .fits2 .ensures) ∙ c .before .before .before .before .if3 .taken)) (c .before .before .pass .ensures) refl
 
--- src/lib.rt:132:5
 refused-requires-3 : tie.Need-refused-requires-3
 refused-requires-3 c κs = search needs
 
--- src/lib.rt:115:1
 returns-4 : tie.Need-returns-4
 returns-4 c =
     let b = c .before .before .before .before in

@@ -9,46 +9,38 @@ use Rattle.frame.proofs.Frame.new.Reads as reads
 use Rattle.frame.proofs.Frame.new.Lts as lts
 use Rattle.frame.proofs.lift.Reads as lift-reads
 
--- src/lib.rt:55:13
 lift-requires : tie.Need-lift-requires
 lift-requires c κs = search needs
 
--- src/lib.rt:56:13
 lift-requires-2 : tie.Need-lift-requires-2
 lift-requires-2 c κs = search needs
 
--- src/lib.rt:58:13
 returns : tie.Need-returns
 returns c = first-outside _ _ _ (sym (rw (toZ-ofZ (c .before .before .before .fits .f)) at (c .before .before .lift .ensures)) ∙ c .if1 .taken)
 
--- src/lib.rt:61:13
 returns-2 : tie.Need-returns-2
 returns-2 c =
     let a = lifted-some _ _ (rw (toZ-ofZ (c .before .before .before .before .fits .f)) at (c .before .before .before .lift .ensures)) (c .before .if1 .left) in
     last-outside _ _ _ a (sym (rw (toZ-ofZ (c .before .before .before .before .fits .l)) at (c .before .before .lift2 .ensures)) ∙ c .if2 .taken)
 
--- src/lib.rt:64:13
 returns-3 : tie.Need-returns-3
 returns-3 c =
     let a = lifted-some _ _ (rw (toZ-ofZ (c .before .before .before .before .before .fits .f)) at (c .before .before .before .before .lift .ensures)) (c .before .before .if1 .left) in
     let b = lifted-some _ _ (rw (toZ-ofZ (c .before .before .before .before .before .fits .l)) at (c .before .before .before .lift2 .ensures)) (c .before .if2 .left) in
     no-point _ _ _ a b (c .if3 .taken)
 
--- src/lib.rt:67:13
 returns-4 : tie.Need-returns-4
 returns-4 c =
     let a = lifted-some _ _ (rw (toZ-ofZ (c .before .before .before .before .before .before .fits .f)) at (c .before .before .before .before .before .lift .ensures)) (c .before .before .before .if1 .left) in
     let b = lifted-some _ _ (rw (toZ-ofZ (c .before .before .before .before .before .before .fits .l)) at (c .before .before .before .before .lift2 .ensures)) (c .before .before .if2 .left) in
     too-many _ _ _ a b (c .if4 .taken)
 
--- src/lib.rt:70:13
 returns-5 : tie.Need-returns-5
 returns-5 c =
     let a = lifted-some _ _ (rw (toZ-ofZ (c .before .before .before .before .before .before .before .fits .f)) at (c .before .before .before .before .before .before .lift .ensures)) (c .before .before .before .before .if1 .left) in
     let b = lifted-some _ _ (rw (toZ-ofZ (c .before .before .before .before .before .before .before .fits .l)) at (c .before .before .before .before .before .lift2 .ensures)) (c .before .before .before .if2 .left) in
     ill-matched _ _ _ a b (omega arith) (omega arith) (c .if5 .taken)
 
--- src/lib.rt:52:5
 returns-6 : tie.Need-returns-6
 returns-6 c =
     let a = lifted-some _ _ (rw (toZ-ofZ (c .before .before .before .before .before .before .before .fits .f)) at (c .before .before .before .before .before .before .lift .ensures)) (c .before .before .before .before .if1 .left) in

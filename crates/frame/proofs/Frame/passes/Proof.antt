@@ -8,51 +8,39 @@ use Rattle.frame.proofs.Frame.passes.Reads as reads
 use Rattle.frame.proofs.Frame.passes.Lts as lts
 use Rattle.frame.proofs.apart.Reads as apart-reads
 
--- src/lib.rt:84:13
 returns : tie.Need-returns
 returns c = alone (c .before .args .self) _ _ (c .if1 .taken)
 
--- src/lib.rt:86:22
 sub-steps : tie.Need-sub-steps
 sub-steps c = search needs
 
--- src/lib.rt:88:21
 mul-given : tie.Need-mul-given
 mul-given c = let z = products (c .before .pre .0) (c .before .pre .1) (c .before .pre .2) in omega arith
 
--- src/lib.rt:88:33
 mul-given-2 : tie.Need-mul-given-2
 mul-given-2 c = let z = products (c .before .pre .0) (c .before .pre .1) (c .before .pre .2) in omega arith
 
--- src/lib.rt:88:21
 add-given : tie.Need-add-given
 add-given c = let z = products (c .before .pre .0) (c .before .pre .1) (c .before .pre .2) in omega arith
 
--- src/lib.rt:89:21
 mul-asked : tie.Need-mul-asked
 mul-asked c = let z = products (c .before .pre .0) (c .before .pre .1) (c .before .pre .2) in omega arith
 
--- src/lib.rt:89:37
 mul-asked-2 : tie.Need-mul-asked-2
 mul-asked-2 c = let z = products (c .before .pre .0) (c .before .pre .1) (c .before .pre .2) in omega arith
 
--- src/lib.rt:89:21
 add-asked : tie.Need-add-asked
 add-asked c = let z = products (c .before .pre .0) (c .before .pre .1) (c .before .pre .2) in omega arith
 
--- src/lib.rt:90:13
 apart-requires : tie.Need-apart-requires
 apart-requires c κs = search needs
 
--- src/lib.rt:90:9
 mul-result : tie.Need-mul-result
 mul-result c = let z = products (c .before .before .pre .0) (c .before .before .pre .1) (c .before .before .pre .2) in omega (arith, c .apart .ensures)
 
--- src/lib.rt:90:35
 apart-requires-2 : tie.Need-apart-requires-2
 apart-requires-2 c κs = search needs
 
--- src/lib.rt:76:5
 returns-2 : tie.Need-returns-2
 returns-2 c = rw (c .before .apart .ensures, c .apart2 .ensures) (spread (c .before .before .before .args .self) _ _ (c .before .before .if1 .left))
 

@@ -19,57 +19,72 @@ Inv-loop ys s n i₀ p₀ column₀ y₀ next₀ i p column y next = LoneTo (ord
 abbrev μ-loop : tie.MeasureT-loop
 μ-loop ys s n i₀ p₀ column₀ y₀ next₀ i p column y next = length ys - next
 
--- src/counted.rt:67:9
 ordinate-at-requires : tie.Need-ordinate-at-requires Inv-loop μ-loop
 ordinate-at-requires c κs = search needs
 
--- src/counted.rt:68:20
 add-next : tie.Need-add-next Inv-loop μ-loop
 add-next c = search needs
 
--- src/counted.rt:69:5
 loop-holds : tie.Need-loop-holds Inv-loop μ-loop
-loop-holds c = let a = c .before .args in let p = c .before .pre in let y = c .ordinate-at .ensures in lone-start _ (a .s) _ (p .0) (p .1) (p .2) (omega (arith, p .3, length-map (a .ys .now) ordinate-of)) (p .5) (y .0) (y .1)
+loop-holds c =
+    let a = c .before .args in
+    let p = c .before .pre in
+    let y = c .ordinate-at .ensures in
+    lone-start _ (a .s) _ (p .0) (p .1) (p .2) (omega (arith, p .3, length-map (a .ys .now) ordinate-of)) (p .5) (y .0) (y .1)
 
--- src/counted.rt:70:13
 ordinate-at-requires-2 : tie.Need-ordinate-at-requires-2 Inv-loop μ-loop
 ordinate-at-requires-2 c κs = search needs
 
--- src/counted.rt:71:28
 lone-width-requires : tie.Need-lone-width-requires Inv-loop μ-loop
 lone-width-requires c κs = let t = c .before .before .loop .inv in (t .counted .started .small, t .small, c .ordinate-at2 .ensures .1)
 
--- src/counted.rt:71:19
 add-all : tie.Need-add-all Inv-loop μ-loop
-add-all c = let t = c .before .before .before .loop .inv in let high = t .high in let p = c .before .before .before .before .before .pre in omega (arith, c .lone-width .ensures .1, p .5, p .6)
+add-all c =
+    let t = c .before .before .before .loop .inv in
+    let high = t .high in
+    let p = c .before .before .before .before .before .pre in
+    omega (arith, c .lone-width .ensures .1, p .5, p .6)
 
--- src/counted.rt:73:13
 state-after-requires : tie.Need-state-after-requires Inv-loop μ-loop
-state-after-requires c κs = let t = c .before .before .before .before .loop .inv in let high = t .high in let p = c .before .before .before .before .before .before .pre in (t .low, omega (arith, p .5, p .6), omega (arith, p .6))
+state-after-requires c κs =
+    let t = c .before .before .before .before .loop .inv in
+    let high = t .high in
+    let p = c .before .before .before .before .before .before .pre in
+    (t .low, omega (arith, p .5, p .6), omega (arith, p .6))
 
--- src/counted.rt:73:13
 returns : tie.Need-returns Inv-loop μ-loop
-returns c = let a = c .before .before .before .before .before .before .before .args in let t = c .before .before .before .before .before .loop .inv in let inside = t .inside in rw (c .state-after .ensures) (lone-end _ _ t, omega (arith, length-map (a .ys .now) ordinate-of))
+returns c =
+    let a = c .before .before .before .before .before .before .before .args in
+    let t = c .before .before .before .before .before .loop .inv in
+    let inside = t .inside in
+    rw (c .state-after .ensures) (lone-end _ _ t, omega (arith, length-map (a .ys .now) ordinate-of))
 
--- src/counted.rt:79:16
 add-next-2 : tie.Need-add-next-2 Inv-loop μ-loop
 add-next-2 c = search needs
 
--- src/counted.rt:69:5
 loop-less : tie.Need-loop-less Inv-loop μ-loop
 loop-less c = omega (arith, c .before .before .before .loop-test .taken)
 
--- src/counted.rt:69:5
 loop-again : tie.Need-loop-again Inv-loop μ-loop
-loop-again c = let t = c .before .before .before .before .loop .inv in let a = c .before .before .before .before .before .before .args in let z = c .before .before .ordinate-at2 .ensures in lone-next _ _ t _ _ (omega (arith, c .before .before .before .loop-test .taken, length-map (a .ys .now) ordinate-of)) (z .0) (z .1) (c .before .lone-width .ensures .0) (c .if1 .left)
+loop-again c =
+    let t = c .before .before .before .before .loop .inv in
+    let a = c .before .before .before .before .before .before .args in
+    let z = c .before .before .ordinate-at2 .ensures in
+    lone-next _ _ t _ _ (omega (arith, c .before .before .before .loop-test .taken, length-map (a .ys .now) ordinate-of)) (z .0) (z .1) (c .before .lone-width .ensures .0) (c .if1 .left)
 
--- src/counted.rt:81:5
 state-after-requires-2 : tie.Need-state-after-requires-2 Inv-loop μ-loop
-state-after-requires-2 c κs = let t = c .before .loop .inv in let high = t .high in let p = c .before .before .before .pre in (t .low, omega (arith, p .5, p .6), omega (arith, p .6))
+state-after-requires-2 c κs =
+    let t = c .before .loop .inv in
+    let high = t .high in
+    let p = c .before .before .before .pre in
+    (t .low, omega (arith, p .5, p .6), omega (arith, p .6))
 
--- src/counted.rt:59:1
 returns-2 : tie.Need-returns-2 Inv-loop μ-loop
-returns-2 c = let a = c .before .before .before .before .args in let t = c .before .before .loop .inv in let inside = t .inside in rw (c .state-after2 .ensures) (lone-end _ _ t, omega (arith, length-map (a .ys .now) ordinate-of))
+returns-2 c =
+    let a = c .before .before .before .before .args in
+    let t = c .before .before .loop .inv in
+    let inside = t .inside in
+    rw (c .state-after2 .ensures) (lone-end _ _ t, omega (arith, length-map (a .ys .now) ordinate-of))
 
 pub lone-differences-spec : {M : Type 1} → statement M
 lone-differences-spec =

@@ -11,37 +11,32 @@ use Rattle.table_write.proofs.counted.lone_width.Lts as lts
 use Rattle.table_write.proofs.distance.Reads as distance-reads
 use Rattle.table_write.proofs.digits.further_digits.Reads as further-digits-reads
 
--- src/counted.rt:32:9
 returns : tie.Need-returns
 returns c = (lone-gap _ _ _ (c .if1 .taken), omega arith)
 
--- src/counted.rt:34:8
 add-if2 : tie.Need-add-if2
 add-if2 c = search needs
 
--- src/counted.rt:34:17
 add-if2-2 : tie.Need-add-if2-2
 add-if2-2 c = search needs
 
--- src/counted.rt:35:9
 returns-2 : tie.Need-returns-2
 returns-2 c = (lone-again _ _ _ (c .before .if1 .left) (c .if2 .taken), omega arith)
 
--- src/counted.rt:37:34
 distance-requires : tie.Need-distance-requires
 distance-requires c κs = search needs
 
--- src/counted.rt:37:9
 further-digits-requires : tie.Need-further-digits-requires
 further-digits-requires c κs = omega (arith, c .distance .ensures, c .before .before .before .pre .0, c .before .before .before .pre .1)
 
--- src/counted.rt:38:5
 add-result : tie.Need-add-result
 add-result c = search needs
 
--- src/counted.rt:27:1
 returns-3 : tie.Need-returns-3
-returns-3 c = let d = c .before .distance .ensures in let n = c .further-digits .ensures in (ap (λ (x : ℕ). 1 + x) (n .0 ∙ ap (further 9) d) ∙ lone-alone _ _ _ (c .before .before .before .if1 .left) (c .before .before .if2 .left), omega (arith, n .1))
+returns-3 c =
+    let d = c .before .distance .ensures in
+    let n = c .further-digits .ensures in
+    (ap (λ (x : ℕ). 1 + x) (n .0 ∙ ap (further 9) d) ∙ lone-alone _ _ _ (c .before .before .before .if1 .left) (c .before .before .if2 .left), omega (arith, n .1))
 
 pub lone-width-spec : {M : Type 1} → statement M
 lone-width-spec =

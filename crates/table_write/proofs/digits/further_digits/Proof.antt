@@ -12,7 +12,6 @@ Inv-loop v n₀ limit₀ n limit = Counting v n limit
 abbrev μ-loop : tie.MeasureT-loop
 μ-loop v n₀ limit₀ n limit = 10 - n
 
--- src/digits.rt
 returns : tie.Need-returns Inv-loop μ-loop
 returns c = count-end _ 0 10 (count-none _) (c .if1 .taken)
 

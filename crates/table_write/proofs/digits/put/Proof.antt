@@ -6,19 +6,15 @@ use Rattle.table_write.proofs.digits.put.Tie as tie
 use Rattle.table_write.proofs.digits.put.Reads as reads
 use Rattle.table_write.proofs.digits.put.Lts as lts
 
--- src/digits.rt:16:9
 slice-write-out : tie.Need-slice-write-out
 slice-write-out c = search needs
 
--- src/digits.rt:12:1
 same-length : tie.Need-same-length
 same-length c = search needs
 
--- src/digits.rt:12:1
 returns : tie.Need-returns
 returns c = search needs
 
--- src/digits.rt:12:1
 returns-2 : tie.Need-returns-2
 returns-2 c = sym (set-out _ _ _ (c .if1 .left))
 

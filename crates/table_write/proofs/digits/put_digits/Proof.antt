@@ -15,45 +15,35 @@ Inv-loop out₀ at v n w₀ j₀ out w j = Digits v n at out₀ out w j
 abbrev μ-loop : tie.MeasureT-loop
 μ-loop out₀ at v n w₀ j₀ out w j = j
 
--- src/digits.rt:41:5
 loop-holds : tie.Need-loop-holds Inv-loop μ-loop
 loop-holds c = digits-start _ _ _ _ (c .before .pre .1) (c .before .pre .0)
 
--- src/digits.rt:43:18
 add-b : tie.Need-add-b Inv-loop μ-loop
 add-b c = search needs
 
--- src/digits.rt:43:17
 cast-b : tie.Need-cast-b Inv-loop μ-loop
 cast-b c = search needs
 
--- src/digits.rt:44:17
 sub-i : tie.Need-sub-i Inv-loop μ-loop
 sub-i c = search needs
 
--- src/digits.rt:45:18
 add-put : tie.Need-add-put Inv-loop μ-loop
 add-put c = let a = c .before .before .before .before .args in let l = c .before .before .loop .inv .few in omega
     (arith, c .before .before .before .before .pre .0, c .before .before .before .before .pre .2, further-le 9 (a .v))
 
--- src/digits.rt:45:9
 put-requires : tie.Need-put-requires Inv-loop μ-loop
 put-requires c κs = search needs
 
--- src/digits.rt:41:5
 loop-less : tie.Need-loop-less Inv-loop μ-loop
 loop-less c = search needs
 
--- src/digits.rt:41:5
 loop-again : tie.Need-loop-again Inv-loop μ-loop
 loop-again c = let e = c .before .before .put .ensures in digits-more _ _ _ _ (c .before .before .before .before .before .loop .inv)
     (c .before .before .before .before .loop-test .taken) (rw e (simp length-set refl)) e
 
--- src/digits.rt:35:1
 same-length : tie.Need-same-length Inv-loop μ-loop
 same-length c = c .before .loop .inv .same
 
--- src/digits.rt:35:1
 returns : tie.Need-returns Inv-loop μ-loop
 returns c = digits-end _ _ _ (c .before .before .before .pre .0) (c .before .loop .inv) (c .loop-test .left)
 

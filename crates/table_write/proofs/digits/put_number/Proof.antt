@@ -10,36 +10,28 @@ use Rattle.table_write.proofs.digits.put_number.Lts as lts
 use Rattle.table_write.proofs.digits.put.Reads as put-reads
 use Rattle.table_write.proofs.digits.put_digits.Reads as put-digits-reads
 
--- src/digits.rt:57:16
 add-next : tie.Need-add-next
 add-next c = search needs
 
--- src/digits.rt:58:9
 put-digits-requires : tie.Need-put-digits-requires
 put-digits-requires c κs = search needs
 
--- src/digits.rt:59:14
 add-b : tie.Need-add-b
 add-b c = search needs
 
--- src/digits.rt:59:13
 cast-b : tie.Need-cast-b
 cast-b c = search needs
 
--- src/digits.rt:60:5
 put-requires : tie.Need-put-requires
 put-requires c κs = search needs
 
--- src/digits.rt:61:5
 add-result : tie.Need-add-result
 add-result c = let a = c .before .before .before .before .before .before .before .before .before .args in omega
     (arith, c .before .before .before .before .before .before .before .before .before .pre .1, c .before .before .before .before .before .before .before .before .before .pre .3, further-le 9 (a .v))
 
--- src/digits.rt:53:1
 same-length : tie.Need-same-length
 same-length c = search needs
 
--- src/digits.rt:53:1
 returns : tie.Need-returns
 returns c = let d = c .before .before .before .before .before .before .put-digits .ensures in number-put _ _ _ _
     (c .before .before .before .before .before .before .before .before .before .pre .1) (d .2) (c .before .before .put .ensures) _ _ refl (d .0)

@@ -9,23 +9,18 @@ use Rattle.table_write.proofs.groups.dup_bytes.Reads as reads
 use Rattle.table_write.proofs.groups.dup_bytes.Lts as lts
 use Rattle.table_write.proofs.digits.further_digits.Reads as further-digits-reads
 
--- src/groups.rt:132:9
 returns : tie.Need-returns
 returns c = (sym (ap length (dup-none _ (c .if1 .taken))), omega arith)
 
--- src/groups.rt:134:18
 add-copies : tie.Need-add-copies
 add-copies c = search needs
 
--- src/groups.rt:135:9
 further-digits-requires : tie.Need-further-digits-requires
 further-digits-requires c κs = search needs
 
--- src/groups.rt:136:5
 add-result : tie.Need-add-result
 add-result c = search needs
 
--- src/groups.rt:127:1
 returns-2 : tie.Need-returns-2
 returns-2 c = let n = c .further-digits .ensures in (dup-length _ _ (c .before .if1 .left) (n .0), omega (arith, n .1))
 

@@ -14,39 +14,30 @@ use Rattle.table_write.proofs.groups.copies_of.Reads as copies-of-reads
 use Rattle.table_write.proofs.groups.dup_bytes.Reads as dup-bytes-reads
 use Rattle.table_write.proofs.groups.token_of.Reads as token-of-reads
 
--- src/groups.rt:144:9
 ordinate-at-requires : tie.Need-ordinate-at-requires
 ordinate-at-requires c κs = search needs
 
--- src/groups.rt:145:9
 token-of-requires : tie.Need-token-of-requires
 token-of-requires c κs = search needs
 
--- src/groups.rt:146:16
 add-next : tie.Need-add-next
 add-next c = search needs
 
--- src/groups.rt:147:9
 copies-of-requires : tie.Need-copies-of-requires
 copies-of-requires c κs = search needs
 
--- src/groups.rt:149:9
 further-digits-requires : tie.Need-further-digits-requires
 further-digits-requires c κs = search needs
 
--- src/groups.rt:150:9
 dup-bytes-requires : tie.Need-dup-bytes-requires
 dup-bytes-requires c κs = search needs
 
--- src/groups.rt:151:17
 add-width : tie.Need-add-width
 add-width c = search needs
 
--- src/groups.rt:151:17
 add-width-2 : tie.Need-add-width-2
 add-width-2 c = search needs
 
--- src/groups.rt:140:1
 returns : tie.Need-returns
 returns c = let a = c .before .before .before .before .before .args in let m = c .before .before .copies-of .ensures in let d = c .before .further-digits .ensures in
     found (ordinates (a .ys .now)) (a .i) (a .p) _ _ _ _ _ (c .before .before .before .before .ordinate-at .ensures .0) (c .before .before .before .token-of .ensures)

@@ -12,43 +12,33 @@ use Rattle.table_write.proofs.digits.put.Reads as put-reads
 use Rattle.table_write.proofs.digits.put_digits.Reads as put-digits-reads
 use Rattle.table_write.proofs.groups.dup_byte.Reads as dup-byte-reads
 
--- src/groups.rt:179:9
 returns : tie.Need-returns
 returns c = put-as (dup-none _ (c .if1 .taken)) (put-none _ _)
 
--- src/groups.rt:181:18
 add-count : tie.Need-add-count
 add-count c = search needs
 
--- src/groups.rt:182:9
 further-digits-requires : tie.Need-further-digits-requires
 further-digits-requires c κs = search needs
 
--- src/groups.rt:183:16
 add-next : tie.Need-add-next
 add-next c = search needs
 
--- src/groups.rt:184:9
 put-digits-requires : tie.Need-put-digits-requires
 put-digits-requires c κs = search needs
 
--- src/groups.rt:185:9
 dup-byte-requires : tie.Need-dup-byte-requires
 dup-byte-requires c κs = search needs
 
--- src/groups.rt:186:5
 put-requires : tie.Need-put-requires
 put-requires c κs = search needs
 
--- src/groups.rt:187:5
 add-result : tie.Need-add-result
 add-result c = search needs
 
--- src/groups.rt:174:1
 same-length : tie.Need-same-length
 same-length c = search needs
 
--- src/groups.rt:174:1
 returns-2 : tie.Need-returns-2
 returns-2 c = let d = c .before .before .before .before .before .before .before .put-digits .ensures in dup-put _ _ _ _
     (c .before .before .before .before .before .before .before .before .before .further-digits .ensures .0) (d .2) (c .before .before .put .ensures) _ _

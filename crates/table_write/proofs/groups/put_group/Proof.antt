@@ -11,23 +11,18 @@ use Rattle.table_write.proofs.groups.put_group.Lts as lts
 use Rattle.table_write.proofs.digits.put_number.Reads as put-number-reads
 use Rattle.table_write.proofs.groups.put_dup.Reads as put-dup-reads
 
--- src/groups.rt:196:9
 returns : tie.Need-returns
 returns c = let g = c .before .before .args .g in sym (sets-past _ _ (number (g .base) (g .size) ++ dupText (g .more)) (c .if1 .taken))
 
--- src/groups.rt:202:9
 put-number-requires : tie.Need-put-number-requires
 put-number-requires c κs = search needs
 
--- src/groups.rt:203:5
 put-dup-requires : tie.Need-put-dup-requires
 put-dup-requires c κs = search needs
 
--- src/groups.rt:191:1
 same-length : tie.Need-same-length
 same-length c = search needs
 
--- src/groups.rt:191:1
 returns-2 : tie.Need-returns-2
 returns-2 c = put-then (c .before .before .before .before .before .before .put-number .ensures .0) (c .before .before .put-dup .ensures) .stored
 

@@ -6,47 +6,36 @@ use Rattle.table_write.proofs.heads.abscissa.Tie as tie
 use Rattle.table_write.proofs.heads.abscissa.Reads as reads
 use Rattle.table_write.proofs.heads.abscissa.Lts as lts
 
--- src/heads.rt:22:9
 returns : tie.Need-returns
 returns c = (one-point _ _ _ _ (c .if1 .taken), c .before .pre .0 .first)
 
--- src/heads.rt:24:18
 sub-steps : tie.Need-sub-steps
 sub-steps c = search needs
 
--- src/heads.rt:26:27
 sub-before : tie.Need-sub-before
 sub-before c = search needs
 
--- src/heads.rt:26:18
 mul-before : tie.Need-mul-before
 mul-before c = let z = products (c .before .args .fr) (c .before .args .i) (c .before .pre .0) (c .before .pre .1) in omega arith
 
--- src/heads.rt:27:17
 mul-after : tie.Need-mul-after
 mul-after c = let z = products (c .before .args .fr) (c .before .args .i) (c .before .pre .0) (c .before .pre .1) in omega arith
 
--- src/heads.rt:28:17
 add-exact : tie.Need-add-exact
 add-exact c = let z = products (c .before .args .fr) (c .before .args .i) (c .before .pre .0) (c .before .pre .1) in omega arith
 
--- src/heads.rt:29:18
 add-halves : tie.Need-add-halves
 add-halves c = let z = products (c .before .args .fr) (c .before .args .i) (c .before .pre .0) (c .before .pre .1) in omega arith
 
--- src/heads.rt:29:18
 add-halves-2 : tie.Need-add-halves-2
 add-halves-2 c = let z = products (c .before .args .fr) (c .before .args .i) (c .before .pre .0) (c .before .pre .1) in omega (arith, c .before .pre .0 .few)
 
--- src/heads.rt:30:15
 add-result : tie.Need-add-result
 add-result c = search needs
 
--- src/heads.rt:30:5
 div-result : tie.Need-div-result
 div-result c = search needs
 
--- src/heads.rt:14:1
 returns-2 : tie.Need-returns-2
 returns-2 c = (some-points _ _ _ _ (c .if1 .left), nearest-below _ _ _ _ (c .if1 .left) (c .before .pre .1) (c .before .pre .0 .first) (c .before .pre .0 .last))
 

@@ -8,55 +8,42 @@ use Rattle.table_write.proofs.heads.put_fraction.Reads as reads
 use Rattle.table_write.proofs.heads.put_fraction.Lts as lts
 use Rattle.table_write.proofs.digits.put.Reads as put-reads
 
--- src/heads.rt:39:9
 returns : tie.Need-returns
 returns c = (put-as (no-fraction _ (c .if1 .taken)) (put-none _ _), omega arith)
 
--- src/heads.rt:41:18
 add-tenth : tie.Need-add-tenth
 add-tenth c = search needs
 
--- src/heads.rt:41:17
 cast-tenth : tie.Need-cast-tenth
 cast-tenth c = search needs
 
--- src/heads.rt:42:22
 add-hundredth : tie.Need-add-hundredth
 add-hundredth c = search needs
 
--- src/heads.rt:42:21
 cast-hundredth : tie.Need-cast-hundredth
 cast-hundredth c = search needs
 
--- src/heads.rt:43:23
 add-thousandth : tie.Need-add-thousandth
 add-thousandth c = search needs
 
--- src/heads.rt:43:22
 cast-thousandth : tie.Need-cast-thousandth
 cast-thousandth c = search needs
 
--- src/heads.rt:44:5
 put-requires : tie.Need-put-requires
 put-requires c κs = search needs
 
--- src/heads.rt:45:14
 add-put : tie.Need-add-put
 add-put c = search needs
 
--- src/heads.rt:45:5
 put-requires-2 : tie.Need-put-requires-2
 put-requires-2 c κs = search needs
 
--- src/heads.rt:47:16
 add-result : tie.Need-add-result
 add-result c = search needs
 
--- src/heads.rt:47:9
 same-length : tie.Need-same-length
 same-length c = search needs
 
--- src/heads.rt:47:9
 returns-2 : tie.Need-returns-2
 returns-2 c = (
   put-as (one-place _ (c .before .before .before .before .before .before .before .before .before .if1 .left) (c .if2 .taken))
@@ -64,46 +51,36 @@ returns-2 c = (
   omega arith,
 )
 
--- src/heads.rt:49:14
 add-put-2 : tie.Need-add-put-2
 add-put-2 c = search needs
 
--- src/heads.rt:49:5
 put-requires-3 : tie.Need-put-requires-3
 put-requires-3 c κs = search needs
 
--- src/heads.rt:51:16
 add-result-2 : tie.Need-add-result-2
 add-result-2 c = search needs
 
--- src/heads.rt:51:9
 same-length-2 : tie.Need-same-length-2
 same-length-2 c = search needs
 
--- src/heads.rt:51:9
 returns-3 : tie.Need-returns-3
 returns-3 c =
     let b = c .before .before .before .before .before .before .before .before in
     let a = b .before .before .before .before in
     (put-as (two-places _ (a .before .before .if1 .left) (c .before .before .before .before .before .if2 .left) (c .if3 .taken)) (put-three _ _ (a .put .ensures) _ _ (b .put2 .ensures) (c .before .before .before .put3 .ensures)), omega arith)
 
--- src/heads.rt:53:14
 add-put-3 : tie.Need-add-put-3
 add-put-3 c = search needs
 
--- src/heads.rt:53:5
 put-requires-4 : tie.Need-put-requires-4
 put-requires-4 c κs = search needs
 
--- src/heads.rt:54:5
 add-result-3 : tie.Need-add-result-3
 add-result-3 c = search needs
 
--- src/heads.rt:34:1
 same-length-3 : tie.Need-same-length-3
 same-length-3 c = search needs
 
--- src/heads.rt:34:1
 returns-4 : tie.Need-returns-4
 returns-4 c =
     let d = c .before .before .before .before .before .before .before in

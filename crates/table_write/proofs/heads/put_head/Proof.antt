@@ -10,19 +10,15 @@ use Rattle.table_write.proofs.digits.put.Reads as put-reads
 use Rattle.table_write.proofs.heads.abscissa.Reads as abscissa-reads
 use Rattle.table_write.proofs.heads.put_magnitude.Reads as put-magnitude-reads
 
--- src/heads.rt:74:9
 abscissa-requires : tie.Need-abscissa-requires
 abscissa-requires c κs = search needs
 
--- src/heads.rt:76:9
 put-magnitude-requires : tie.Need-put-magnitude-requires
 put-magnitude-requires c κs = search needs
 
--- src/heads.rt:76:9
 same-length : tie.Need-same-length
 same-length c = search needs
 
--- src/heads.rt:76:9
 returns : tie.Need-returns
 returns c = let m = c .before .before .put-magnitude .ensures in (
   put-as
@@ -30,27 +26,21 @@ returns c = let m = c .before .before .put-magnitude .ensures in (
   omega (arith, m .1),
 )
 
--- src/heads.rt:78:5
 put-requires : tie.Need-put-requires
 put-requires c κs = search needs
 
--- src/heads.rt:79:16
 add-next : tie.Need-add-next
 add-next c = search needs
 
--- src/heads.rt:80:30
 sub-put-magnitude : tie.Need-sub-put-magnitude
 sub-put-magnitude c = search needs
 
--- src/heads.rt:80:5
 put-magnitude-requires-2 : tie.Need-put-magnitude-requires-2
 put-magnitude-requires-2 c κs = search needs
 
--- src/heads.rt:70:1
 same-length-2 : tie.Need-same-length-2
 same-length-2 c = search needs
 
--- src/heads.rt:70:1
 returns-2 : tie.Need-returns-2
 returns-2 c = let m = c .before .before .put-magnitude2 .ensures in (
   put-as

@@ -10,23 +10,18 @@ use Rattle.table_write.proofs.digits.further_digits.Reads as further-di
 use Rattle.table_write.proofs.digits.put_number.Reads as put-number-reads
 use Rattle.table_write.proofs.heads.put_fraction.Reads as put-fraction-reads
 
--- src/heads.rt:64:9
 further-digits-requires : tie.Need-further-digits-requires
 further-digits-requires c κs = search needs
 
--- src/heads.rt:65:9
 put-number-requires : tie.Need-put-number-requires
 put-number-requires c κs = search needs
 
--- src/heads.rt:66:5
 put-fraction-requires : tie.Need-put-fraction-requires
 put-fraction-requires c κs = search needs
 
--- src/heads.rt:58:1
 same-length : tie.Need-same-length
 same-length c = search needs
 
--- src/heads.rt:58:1
 returns : tie.Need-returns
 returns c = let n = c .before .before .before .before .before .before .put-number .ensures in let f = c .before .before .put-fraction .ensures in
     (put-as (magnitude-is _) (put-then (n .0) (f .0)), omega (arith, n .1, f .1))

@@ -14,37 +14,39 @@ use Rattle.table_write.proofs.groups.find.Reads as find-reads
 use Rattle.table_write.proofs.lines.fill.Reads as fill-reads
 use Rattle.table_write.proofs.lines.new_line.Reads as new-line-reads
 
--- src/lines.rt:154:9
 new-line-requires : tie.Need-new-line-requires
 new-line-requires c κs = search needs
 
--- src/lines.rt:158:9
 fill-requires : tie.Need-fill-requires
 fill-requires c κs = search needs
 
--- src/lines.rt:158:9
 same-length : tie.Need-same-length
 same-length c = search needs
 
--- src/lines.rt:158:9
 returns : tie.Need-returns
-returns c = let a = c .before .before .before .before .before .before .before .before .before .before .args in let p = c .before .before .before .before .before .before .before .before .before .before .pre in let f = c .before .before .fill .ensures in turn-breaks (headOf (a .fr)) (ordinates (a .ys .now)) (a .s) (a .g) (omega (arith, p .3, length-map (a .ys .now) ordinate-of)) (p .4) _ (p .5) (rw (c .before .before .before .before .if1 .taken) refl) (c .before .before .before .before .before .before .before .new-line .ensures) (f .0) (f .1)
+returns c =
+    let a = c .before .before .before .before .before .before .before .before .before .before .args in
+    let p = c .before .before .before .before .before .before .before .before .before .before .pre in
+    let f = c .before .before .fill .ensures in
+    turn-breaks (headOf (a .fr)) (ordinates (a .ys .now)) (a .s) (a .g) (omega (arith, p .3, length-map (a .ys .now) ordinate-of))
+    (p .4) _ (p .5) (rw (c .before .before .before .before .if1 .taken) refl) (c .before .before .before .before .before .before .before .new-line .ensures) (f .0) (f .1)
 
--- src/lines.rt:160:9
 find-requires : tie.Need-find-requires
 find-requires c κs = search needs
 
--- src/lines.rt:161:5
 fill-requires-2 : tie.Need-fill-requires-2
 fill-requires-2 c κs = search needs
 
--- src/lines.rt:148:1
 same-length-2 : tie.Need-same-length-2
 same-length-2 c = search needs
 
--- src/lines.rt:148:1
 returns-2 : tie.Need-returns-2
-returns-2 c = let a = c .before .before .before .before .before .before .before .before .before .before .before .args in let p = c .before .before .before .before .before .before .before .before .before .before .before .pre in let f = c .before .before .fill2 .ensures in turn-breaks (headOf (a .fr)) (ordinates (a .ys .now)) (a .s) (a .g) (omega (arith, p .3, length-map (a .ys .now) ordinate-of)) (p .4) _ (p .5) (rw (c .before .before .before .before .before .if1 .left) refl) (c .before .before .before .before .before .before .before .before .new-line .ensures) (f .0) (f .1)
+returns-2 c =
+    let a = c .before .before .before .before .before .before .before .before .before .before .before .args in
+    let p = c .before .before .before .before .before .before .before .before .before .before .before .pre in
+    let f = c .before .before .fill2 .ensures in
+    turn-breaks (headOf (a .fr)) (ordinates (a .ys .now)) (a .s) (a .g) (omega (arith, p .3, length-map (a .ys .now) ordinate-of))
+    (p .4) _ (p .5) (rw (c .before .before .before .before .before .if1 .left) refl) (c .before .before .before .before .before .before .before .before .new-line .ensures) (f .0) (f .1)
 
 pub break-line-spec : {M : Type 1} → statement M
 break-line-spec =

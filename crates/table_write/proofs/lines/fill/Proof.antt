@@ -12,39 +12,31 @@ use Rattle.table_write.proofs.lines.fill.Lts as lts
 use Rattle.signed.proofs.ordinate_at.Reads as ordinate-at-reads
 use Rattle.table_write.proofs.groups.put_group.Reads as put-group-reads
 
--- src/lines.rt:96:5
 put-group-requires : tie.Need-put-group-requires
 put-group-requires c κs = let a = c .before .before .args in let p = c .before .before .pre in let h = p .0 in let inside = h .inside in let size = h .size in
     (h .base, omega arith, h .digits, omega (arith, p .1, length-map (a .ys .now) ordinate-of), omega (arith, p .2))
 
--- src/lines.rt:97:17
 add-index : tie.Need-add-index
 add-index c = let a = c .before .before .before .before .before .args in let inside = c .before .before .before .before .before .pre .0 .inside in omega
     (arith, c .before .before .before .before .before .pre .1, length-map (a .ys .now) ordinate-of)
 
--- src/lines.rt:98:9
 ordinate-at-requires : tie.Need-ordinate-at-requires
 ordinate-at-requires c κs = let a = c .before .before .before .before .before .args in let inside = c .before .before .before .before .before .pre .0 .inside in omega
     (arith, length-map (a .ys .now) ordinate-of)
 
--- src/lines.rt:99:17
 add-given : tie.Need-add-given
 add-given c = let a = c .before .before .before .before .before .before .args in let inside = c .before .before .before .before .before .before .pre .0 .inside in omega
     (arith, c .before .before .before .before .before .before .pre .1, length-map (a .ys .now) ordinate-of)
 
--- src/lines.rt:100:17
 add-place : tie.Need-add-place
 add-place c = search needs
 
--- src/lines.rt:101:17
 add-bytes : tie.Need-add-bytes
 add-bytes c = search needs
 
--- src/lines.rt:89:1
 same-length : tie.Need-same-length
 same-length c = search needs
 
--- src/lines.rt:89:1
 returns : tie.Need-returns
 returns c = let a = c .before .before .before .before .before .before .args in let p = c .before .before .before .before .before .before .pre in let y = c .ordinate-at .ensures in
     filled (headOf (a .fr)) (ordinates (a .ys .now)) (a .i) (a .p) (a .at) (a .column) _ (a .g) _ _ (p .0) (c .before .before .before .put-group .ensures) (y .0) (y .1) (p .3)

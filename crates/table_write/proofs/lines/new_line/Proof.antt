@@ -10,33 +10,32 @@ use Rattle.table_write.proofs.lines.new_line.Lts as lts
 use Rattle.table_write.proofs.lines.put_end.Reads as put-end-reads
 use Rattle.table_write.proofs.lines.put_opening.Reads as put-opening-reads
 
--- src/lines.rt:126:9
 put-end-requires : tie.Need-put-end-requires
 put-end-requires c κs = search needs
 
--- src/lines.rt:127:9
 put-opening-requires : tie.Need-put-opening-requires
 put-opening-requires c κs = search needs
 
--- src/lines.rt:128:18
 sub-column : tie.Need-sub-column
 sub-column c = search needs
 
--- src/lines.rt:130:9
 same-length : tie.Need-same-length
 same-length c = search needs
 
--- src/lines.rt:130:9
 returns : tie.Need-returns
-returns c = let a = c .before .before .before .before .before .before .before .before .before .before .args in let v = c .before .before .before .put-opening .ensures in new-line (headOf (a .fr)) (a .s) (c .before .before .before .before .before .before .before .put-end .ensures) (v .0) (v .1) _ true (rw (c .if1 .taken) refl) (sym (c .if1 .taken))
+returns c =
+    let a = c .before .before .before .before .before .before .before .before .before .before .args in
+    let v = c .before .before .before .put-opening .ensures in
+    new-line (headOf (a .fr)) (a .s) (c .before .before .before .before .before .before .before .put-end .ensures) (v .0) (v .1) _ true (rw (c .if1 .taken) refl) (sym (c .if1 .taken))
 
--- src/lines.rt:119:1
 same-length-2 : tie.Need-same-length-2
 same-length-2 c = search needs
 
--- src/lines.rt:119:1
 returns-2 : tie.Need-returns-2
-returns-2 c = let a = c .before .before .before .before .before .before .before .before .before .before .args in let v = c .before .before .before .put-opening .ensures in new-line (headOf (a .fr)) (a .s) (c .before .before .before .before .before .before .before .put-end .ensures) (v .0) (v .1) _ false (rw (c .if1 .left) refl) (sym (c .if1 .left))
+returns-2 c =
+    let a = c .before .before .before .before .before .before .before .before .before .before .args in
+    let v = c .before .before .before .put-opening .ensures in
+    new-line (headOf (a .fr)) (a .s) (c .before .before .before .before .before .before .before .put-end .ensures) (v .0) (v .1) _ false (rw (c .if1 .left) refl) (sym (c .if1 .left))
 
 pub new-line-spec : {M : Type 1} → statement M
 new-line-spec =

@@ -9,23 +9,18 @@ use Rattle.table_write.proofs.lines.put_check.Lts as lts
 use Rattle.table_write.proofs.heads.put_head.Reads as put-head-reads
 use Rattle.table_write.proofs.lines.put_own.Reads as put-own-reads
 
--- src/lines.rt:57:18
 sub-before : tie.Need-sub-before
 sub-before c = search needs
 
--- src/lines.rt:58:9
 put-head-requires : tie.Need-put-head-requires
 put-head-requires c κs = search needs
 
--- src/lines.rt:59:5
 put-own-requires : tie.Need-put-own-requires
 put-own-requires c κs = search needs
 
--- src/lines.rt:53:1
 same-length : tie.Need-same-length
 same-length c = search needs
 
--- src/lines.rt:53:1
 returns : tie.Need-returns
 returns c = let h = c .before .before .before .before .before .before .put-head .ensures in let v = c .before .before .put-own .ensures in
     (put-as (check-is _ _ _) (put-then (h .0) (v .0)), omega (arith, h .1, v .1))

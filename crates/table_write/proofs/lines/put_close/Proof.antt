@@ -10,23 +10,18 @@ use Rattle.table_write.proofs.lines.put_close.Lts as lts
 use Rattle.table_write.proofs.lines.put_check.Reads as put-check-reads
 use Rattle.table_write.proofs.lines.put_end.Reads as put-end-reads
 
--- src/lines.rt:81:9
 returns : tie.Need-returns
 returns c = put-as (close-not _ _ _ _ (not-true _ (c .if1 .taken))) (put-none _ _)
 
--- src/lines.rt:84:9
 put-check-requires : tie.Need-put-check-requires
 put-check-requires c κs = search needs
 
--- src/lines.rt:85:5
 put-end-requires : tie.Need-put-end-requires
 put-end-requires c κs = search needs
 
--- src/lines.rt:76:1
 same-length : tie.Need-same-length
 same-length c = search needs
 
--- src/lines.rt:76:1
 returns-2 : tie.Need-returns-2
 returns-2 c = put-as (close-dif _ _ _ _ (not-false _ (c .before .before .before .before .before .before .before .before .if1 .left)))
     (put-then (c .before .before .before .before .before .before .put-check .ensures .0) (c .before .before .put-end .ensures))

@@ -6,27 +6,21 @@ use Rattle.table_write.proofs.lines.put_end.Reads as reads
 use Rattle.table_write.proofs.lines.put_end.Lts as lts
 use Rattle.table_write.proofs.digits.put.Reads as put-reads
 
--- src/lines.rt:32:5
 put-requires : tie.Need-put-requires
 put-requires c κs = search needs
 
--- src/lines.rt:33:14
 add-put : tie.Need-add-put
 add-put c = search needs
 
--- src/lines.rt:33:5
 put-requires-2 : tie.Need-put-requires-2
 put-requires-2 c κs = search needs
 
--- src/lines.rt:34:5
 add-result : tie.Need-add-result
 add-result c = search needs
 
--- src/lines.rt:28:1
 same-length : tie.Need-same-length
 same-length c = search needs
 
--- src/lines.rt:28:1
 returns : tie.Need-returns
 returns c = put-two _ _ (c .before .before .before .before .before .before .put .ensures) _ (c .before .before .put2 .ensures)
 

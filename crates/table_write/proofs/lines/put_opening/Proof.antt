@@ -9,27 +9,21 @@ use Rattle.table_write.proofs.lines.put_opening.Lts as lts
 use Rattle.table_write.proofs.heads.put_head.Reads as put-head-reads
 use Rattle.table_write.proofs.lines.put_check.Reads as put-check-reads
 
--- src/lines.rt:70:9
 put-check-requires : tie.Need-put-check-requires
 put-check-requires c κs = let p = c .before .before .before .pre in (p .0, p .1 .some (c .before .if1 .taken), omega (arith, p .2), p .1 .small, p .3)
 
--- src/lines.rt:70:9
 same-length : tie.Need-same-length
 same-length c = search needs
 
--- src/lines.rt:70:9
 returns : tie.Need-returns
 returns c = let v = c .before .before .put-check .ensures in (put-as (opening-dif _ _ _ _ (c .before .before .before .before .if1 .taken)) (v .0), v .1)
 
--- src/lines.rt:72:5
 put-head-requires : tie.Need-put-head-requires
 put-head-requires c κs = search needs
 
--- src/lines.rt:63:1
 same-length-2 : tie.Need-same-length-2
 same-length-2 c = search needs
 
--- src/lines.rt:63:1
 returns-2 : tie.Need-returns-2
 returns-2 c = let v = c .before .before .put-head .ensures in (put-as (opening-not _ _ _ _ (c .before .before .before .before .if1 .left)) (v .0), omega (arith, v .1))
 

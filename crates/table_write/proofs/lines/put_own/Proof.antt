@@ -8,39 +8,30 @@ use Rattle.table_write.proofs.lines.put_own.Lts as lts
 use Rattle.table_write.proofs.digits.further_digits.Reads as further-digits-reads
 use Rattle.table_write.proofs.digits.put_number.Reads as put-number-reads
 
--- src/lines.rt:44:13
 further-digits-requires : tie.Need-further-digits-requires
 further-digits-requires c κs = search needs
 
--- src/lines.rt:45:9
 put-number-requires : tie.Need-put-number-requires
 put-number-requires c κs = search needs
 
--- src/lines.rt:45:9
 same-length : tie.Need-same-length
 same-length c = search needs
 
--- src/lines.rt:45:9
 returns : tie.Need-returns
 returns c = let n = c .before .before .put-number .ensures in (put-as (sqz-up _ (c .before .before .before .before .before .if1 .taken)) (n .0), n .1)
 
--- src/lines.rt:47:13
 sub-w : tie.Need-sub-w
 sub-w c = search needs
 
--- src/lines.rt:48:9
 further-digits-requires-2 : tie.Need-further-digits-requires-2
 further-digits-requires-2 c κs = search needs
 
--- src/lines.rt:49:5
 put-number-requires-2 : tie.Need-put-number-requires-2
 put-number-requires-2 c κs = search needs
 
--- src/lines.rt:38:1
 same-length-2 : tie.Need-same-length-2
 same-length-2 c = search needs
 
--- src/lines.rt:38:1
 returns-2 : tie.Need-returns-2
 returns-2 c = let n = c .before .before .put-number2 .ensures in (put-as (sqz-down _ (c .before .before .before .before .before .if1 .left)) (n .0), n .1)
 

@@ -13,37 +13,29 @@ use Rattle.table_write.proofs.groups.find.Reads as find-reads
 use Rattle.table_write.proofs.lines.break_line.Reads as break-line-reads
 use Rattle.table_write.proofs.lines.fill.Reads as fill-reads
 
--- src/lines.rt:135:9
 find-requires : tie.Need-find-requires
 find-requires c κs = search needs
 
--- src/lines.rt:137:15
 add-all : tie.Need-add-all
 add-all c = search needs
 
--- src/lines.rt:139:9
 fill-requires : tie.Need-fill-requires
 fill-requires c κs = search needs
 
--- src/lines.rt:139:9
 same-length : tie.Need-same-length
 same-length c = search needs
 
--- src/lines.rt:139:9
 returns : tie.Need-returns
 returns c = let a = c .before .before .before .before .before .before .before .args in let p = c .before .before .before .before .before .before .before .pre in
     turn-fits (headOf (a .fr)) (ordinates (a .ys .now)) (a .s) _ (omega (arith, p .3, length-map (a .ys .now) ordinate-of))
     (c .before .before .before .before .before .find .ensures) (c .before .before .before .before .if1 .taken) (c .before .before .fill .ensures .0)
 
--- src/lines.rt:141:5
 break-line-requires : tie.Need-break-line-requires
 break-line-requires c κs = search needs
 
--- src/lines.rt:127:1
 same-length-2 : tie.Need-same-length-2
 same-length-2 c = search needs
 
--- src/lines.rt:127:1
 returns-2 : tie.Need-returns-2
 returns-2 c = search needs
 
