@@ -1,14 +1,13 @@
 -- What the counting of groups needs. No place of the code is named here. Assumes nothing.
 use mathlib.Core.Path.{_≡_, refl, sym, ap, _∙_}
 use mathlib.Core.Bool.{Bool, true, false}
-use mathlib.Core.List.{List, [], _∷_, _++_}
-use Prim.Native.Nat.{ℕ, zero, suc, _+_, _-_, _*_, _≤_, _<_}
+use mathlib.Core.List.{List, [], _++_}
+use Prim.Native.Nat.{ℕ, _+_, _-_, _≤_, _<_}
 use native.Mathlib.Omega.{arith}
 use lib.Dec.{ltb, eqb}
 use lib.ListN.{length, getD, drop, length-append}
 use lib.Seq.{drop-cons}
 use borrow.Author.Tests.{eqb-true, eqb-false, eq-eqb, ne-eqb, ltb-true, ltb-false}
-use native.Mathlib.Numerals.{add-one}
 use Rattle.alphabet_spec.specs.Logic.{pick, by-case}
 use Rattle.table_spec.specs.Frame.{apart}
 use Rattle.table_spec.specs.Groups.{dupText}
@@ -17,8 +16,8 @@ use Rattle.table_write.specs.declared.Group.{Group}
 use Rattle.table_write.specs.declared.State.{State}
 use Rattle.table_write.specs.Digits.{further}
 use Rattle.table_write.specs.Pieces.{Ahead, ahead-of, put-length, sets-past}
-use Rattle.table_write.specs.Tokens.{again, run, TokenFor, Found, group-at, lone}
-use Rattle.table_write.specs.Lines.{from, next-state, after, Started, opening, line-state, Wrote, NewLine, Counted, Full, difference-state}
+use Rattle.table_write.specs.Tokens.{run, TokenFor, Found, group-at, lone}
+use Rattle.table_write.specs.Lines.{from, next-state, after, Started, line-state, Wrote, NewLine, Counted, Full, difference-state}
 use Rattle.table_write.proofs.TokenSteps.{found, again-not, dif-up, dif-same, dif-down}
 use Rattle.table_write.proofs.TextSteps.{from-fits, group-slim}
 use Rattle.table_write.proofs.LineSteps.{left-break}
@@ -231,9 +230,6 @@ module _ (ys : List ℕ) (s : State) where
             let v : s .at + (column - s .column) + w ≡ s .at + (column + w - s .column) = omega arith in
             rw (u, x .bytes, x .dif-is, v) at g
 
-    pub lone-end : Counted ys s (difference-state s i p column)
-    lone-end = t .counted
-
 -- ---- what was counted, as a turn of the pass
 
 pick-small : (b : Bool) (p : ℕ) → p < 4294967296 → pick b p 0 < 4294967296
@@ -242,7 +238,7 @@ pick-small false p h = omega arith
 
 module _ (hd : ℕ → List ℕ) (ys : List ℕ) {s t : State} (c : Counted ys s t) where
   -- nothing is stored past the end
-  pub past : (x : List ℕ) (n : ℕ) (o : List ℕ) → length o ≤ s .at → Ahead x n o (s .at) (from hd ys s) → Ahead x n o (t .at) (from hd ys t)
+  past : (x : List ℕ) (n : ℕ) (o : List ℕ) → length o ≤ s .at → Ahead x n o (s .at) (from hd ys s) → Ahead x n o (t .at) (from hd ys t)
   past x n o l a =
       let later = c .later in
       record {

@@ -1,10 +1,9 @@
 -- What the writing of lines needs. No place of the code is named here. Assumes nothing.
-use mathlib.Core.Path.{_≡_, refl, sym, ap, _∙_}
+use mathlib.Core.Path.{_≡_, refl, ap, _∙_}
 use mathlib.Core.Bool.{Bool, true, false}
 use mathlib.Core.List.{List, [], _∷_, _++_}
-use Prim.Native.Nat.{ℕ, zero, suc, _+_, _-_, _*_, _^_, _≤_, _<_}
+use Prim.Native.Nat.{ℕ, _+_, _-_, _^_, _≤_, _<_}
 use native.Mathlib.Omega.{arith}
-use lib.Dec.{leb}
 use lib.ListN.{length, getD}
 use lib.Seq.{sets, length-sets}
 use borrow.Author.Tests.{le-leb, lt-leb}
@@ -15,8 +14,8 @@ use Rattle.table_spec.specs.Writing.{check, close, lines-of}
 use Rattle.table_write.specs.declared.Group.{Group}
 use Rattle.table_write.specs.declared.State.{State}
 use Rattle.table_write.specs.Pieces.{Put, Ahead, number, put-then, put-length, ahead-of}
-use Rattle.table_write.specs.Tokens.{Found, group-at, count-at, dif-at}
-use Rattle.table_write.specs.Lines.{from, next-state, after, opening, start, Started, Wrote, NewLine, Going}
+use Rattle.table_write.specs.Tokens.{Found, group-at}
+use Rattle.table_write.specs.Lines.{from, next-state, after, opening, start, Wrote, NewLine, Going}
 use Rattle.table_write.proofs.TextSteps.{from-fits, from-break, from-end, lines-start}
 
 -- ---- the start of a line, and the last line

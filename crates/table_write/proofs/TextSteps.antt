@@ -2,25 +2,25 @@
 use mathlib.Core.Path.{_≡_, refl, sym, ap, _∙_}
 use mathlib.Core.Bool.{Bool, true, false}
 use mathlib.Core.List.{List, [], _∷_, _++_}
-use Prim.Native.Nat.{ℕ, zero, suc, _+_, _-_, _*_, _≤_, _<_}
+use Prim.Native.Nat.{ℕ, zero, suc, _+_, _-_, _≤_, _<_}
 use native.Mathlib.Omega.{arith}
 use native.Mathlib.Nat.{add-zero, add-suc, suc-add, not-suc-le-zero, le-of-suc-le-suc}
 use native.Mathlib.Numerals.{add-one}
-use lib.Dec.{ltb, leb, eqb}
+use lib.Dec.{leb}
 use lib.ListN.{length, getD, take, drop, length-append, length-drop, drop-of-length-le}
 use lib.Seq.{drop-cons, drop-drop}
 use borrow.Author.Tests.{le-leb, lt-leb}
 use Rattle.alphabet_spec.specs.Logic.{pick, by-case}
 use Rattle.alphabet_spec.specs.Kinds.{Lead, sqz}
 use Rattle.table_spec.specs.Frame.{zero-ordinate}
-use Rattle.table_spec.specs.Values.{Form, Own, Gap, By, Dup, isDif, lastOr}
+use Rattle.table_spec.specs.Values.{Form, Own, Gap, By, Dup, lastOr}
 use Rattle.table_spec.specs.Numerals.{numeral}
 use Rattle.table_spec.specs.Groups.{form, sqzText, tokenText, alike, many, dupText, group}
 use Rattle.table_spec.specs.Writing.{put, check, open-line, go-on, close, text, lines-of}
 use Rattle.table_write.specs.declared.State.{State}
 use Rattle.table_write.specs.Digits.{length-low, further-le}
 use Rattle.table_write.specs.Tokens.{count-at, group-at, dif-at}
-use Rattle.table_write.specs.Lines.{from, next-state, after, opening, start}
+use Rattle.table_write.specs.Lines.{from, after, opening, start}
 
 -- ---- lengths
 

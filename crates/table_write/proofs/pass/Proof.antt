@@ -5,7 +5,7 @@ use borrow.Author.Needs.{needs}
 use lib.ListN.{length, length-map}
 use Rattle.table_spec.specs.Frame.{ordinate-of}
 use Rattle.table_write.specs.Tokens.{ordinates}
-use Rattle.table_write.specs.Pieces.{headOf, put-length}
+use Rattle.table_write.specs.Pieces.{headOf}
 use Rattle.table_write.specs.Lines.{Going}
 use Rattle.table_write.proofs.LineSteps.{starts, goes, going-near, finish}
 use Rattle.table_write.proofs.pass.Statement.{statement}
