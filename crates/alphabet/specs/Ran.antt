@@ -9,7 +9,7 @@ use native.Mathlib.Nat.{add-zero, zero-add, add-suc, suc-add, pow-suc, pow-le-po
 use lib.Dec.{ltb, lit<}
 use lib.ListN.{length, drop}
 use borrow.Author.Tests.{lt-ltb, le-ltb, ltb-true, ltb-false}
-use Rattle.alphabet_spec.specs.Logic.{pick, by-case}
+use Rattle.terms.specs.Logic.{pick, by-case}
 use Rattle.alphabet_spec.specs.Digits.{Run, long, run, oneMore, digits}
 use Rattle.alphabet_spec.specs.Entries.{entryAt}
 use Rattle.alphabet_spec.specs.DigitLaws.{digits-stop, digits-on, digit-at}

@@ -2,7 +2,7 @@
 use mathlib.Core.Bool.{Bool, true, false}
 use Prim.Native.Nat.{ℕ, _+_, _-_}
 use lib.Dec.{ltb, leb, eqb}
-use Rattle.alphabet_spec.specs.Logic.{pick, both}
+use Rattle.terms.specs.Logic.{pick, both}
 use Rattle.alphabet_spec.specs.Kinds.{Lead, sqz, dif, dup}
 use Rattle.alphabet_spec.specs.Digits.{within}
 

@@ -6,7 +6,7 @@ use Prim.Native.Nat.{ℕ, zero, suc, _+_, _<_}
 use native.Mathlib.Nat.{add-zero, zero-add, add-suc, suc-add, le-of-suc-le-suc, not-suc-le-zero}
 use lib.Dec.{T}
 use lib.ListN.{length, getD}
-use Rattle.alphabet_spec.specs.Logic.{both}
+use Rattle.terms.specs.Logic.{both}
 
 both-left : (a b : Bool) → T (both a b) → T a
 both-left true b t = tt

@@ -5,7 +5,7 @@ use Prim.Native.Nat.{ℕ, zero, suc, _+_, _-_, _≤_, _<_}
 use native.Mathlib.Omega.{arith}
 use lib.Dec.{ltb, leb, eqb}
 use borrow.Author.Tests.{ltb-true, leb-true, eqb-true, le-leb, lt-ltb}
-use Rattle.alphabet_spec.specs.Logic.{pick, by-case, ten}
+use Rattle.terms.specs.Logic.{pick, by-case, ten}
 use Rattle.alphabet_spec.specs.Kinds.{Lead, sqz, dif, dup, Pseudo, sqz-up, sqz-down, dif-zero, dif-up, dif-down, dup-low, dup-nine, Blank, space, tab}
 use Rattle.alphabet_spec.specs.Digits.{within}
 use Rattle.alphabet_spec.specs.Bytes.{Byte, digit, lead, sign, quest, blank, point, lf, cr, dollar, other, kind}

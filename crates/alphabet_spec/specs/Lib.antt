@@ -1,4 +1,3 @@
-pub mod Logic
 pub mod Kinds
 pub mod Digits
 pub mod Bytes

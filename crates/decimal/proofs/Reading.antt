@@ -9,7 +9,7 @@ use lib.Dec.{ltb}
 use lib.Pow.{pow-add}
 use lib.ListN.{length, getD, drop}
 use borrow.Author.Tests.{lt-ltb, le-ltb, eq-eqb, ne-eqb, ltb-true}
-use Rattle.alphabet_spec.specs.Logic.{pick, by-case}
+use Rattle.terms.specs.Logic.{pick, by-case}
 use Rattle.alphabet_spec.specs.Digits.{long, run, digits}
 use Rattle.alphabet.specs.Ran.{Ran, ran-is}
 use Rattle.decimal_spec.specs.declared.Mantissa.{Mantissa}

@@ -4,7 +4,7 @@ use mathlib.Core.List.{List}
 use Prim.Native.Nat.{ℕ, _+_, _-_}
 use lib.Dec.{ltb, eqb}
 use lib.ListN.{getD, drop}
-use Rattle.alphabet_spec.specs.Logic.{pick, both}
+use Rattle.terms.specs.Logic.{pick, both}
 use Rattle.alphabet_spec.specs.Digits.{Run, long, run, digits}
 use Rattle.decimal_spec.specs.declared.Mantissa.{Mantissa}
 use Rattle.decimal_spec.specs.declared.Exponent.{Exponent}

@@ -4,7 +4,7 @@ use mathlib.Core.Path.{_≡_}
 use mathlib.Core.Bool.{Bool, true, false}
 use Prim.Native.Nat.{ℕ, _+_, _-_, _*_, _/_, _≤_, _<_}
 use lib.Dec.{ltb, leb}
-use Rattle.alphabet_spec.specs.Logic.{pick}
+use Rattle.terms.specs.Logic.{pick}
 use Rattle.decimal_spec.specs.declared.Rounded.{Rounded}
 use Rattle.decimal_spec.specs.declared.Rounded.the-variants.{Whole, Beyond}
 use Rattle.decimal_spec.specs.declared.Quotient.{Quotient}

@@ -6,7 +6,7 @@ use Prim.Native.Nat.{ℕ, zero, suc, _*_, _^_}
 use Prim.Native.String.{String, len, charAt}
 use Prim.Native.Char.{code}
 use lib.Dec.{eqb}
-use Rattle.alphabet_spec.specs.Logic.{pick}
+use Rattle.terms.specs.Logic.{pick}
 use Rattle.alphabet_spec.specs.Digits.{digits}
 use Rattle.decimal_spec.specs.declared.Number.{Number}
 use Rattle.decimal_spec.specs.declared.Count.{Count}

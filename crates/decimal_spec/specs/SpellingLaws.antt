@@ -10,7 +10,8 @@ use lib.Dec.{ltb, leb, eqb}
 use lib.ListN.{length, getD, drop, List·getD-eq-default}
 use lib.Seq.{drop-cons, getD-drop, drop-drop}
 use borrow.Author.Tests.{lt-ltb, eq-eqb, ne-eqb, ltb-true, ltb-false, leb-true, eqb-true}
-use Rattle.alphabet_spec.specs.Logic.{pick, both, by-case}
+use Rattle.terms.specs.Logic.{pick, both, by-case, zero-one, both-true}
+use Rattle.terms.specs.Places.{inside}
 use Rattle.alphabet_spec.specs.Digits.{within, Run, long, run, oneMore, digits}
 use Rattle.alphabet_spec.specs.KindLaws.{digit-within}
 use Rattle.decimal_spec.specs.declared.Mantissa.{Mantissa}
@@ -27,12 +28,6 @@ at-first s i t e = ap (λ (k : ℕ). getD s k 0) (sym (add-zero i)) ∙ sym (get
 
 at-more : (s : List ℕ) (i n : ℕ) (t u : List ℕ) → drop i s ≡ t → drop n t ≡ u → drop (i + n) s ≡ u
 at-more s i n t u e f = sym (drop-drop n i s) ∙ ap (λ (l : List ℕ). drop n l) e ∙ f
-
--- a byte that is not 0 stands in the text, before what follows it
-pub inside : (s : List ℕ) (i b : ℕ) → getD s i 0 ≡ b → 0 < b → i < length s
-inside s i b e h =
-    by-case (λ t. ltb i (length s) ≡ t → i < length s) (ltb i (length s)) (λ _ q. ltb-true i (length s) q)
-    (λ _ q. absurd (omega (arith, List·getD-eq-default s 0 (ltb-false i (length s) q)))) refl
 
 at-byte : (s : List ℕ) (i b : ℕ) → getD s i 0 ≡ b → 0 < b → drop i s ≡ b ∷ drop (i + 1) s
 at-byte s i b e h = drop-cons s i 0 (inside s i b e h) ∙ rw (e, add-one i) refl
@@ -169,10 +164,6 @@ number-unique {t = t} x y h l =
 
 -- ---- what is read is spelled
 
-both-true : (a b : Bool) → both a b ≡ true → (a ≡ true) × (b ≡ true)
-both-true true b e = (refl, e)
-both-true false b e = let z : _≡_ {A = ℕ} 0 1 = cc in absurd (omega arith)
-
 abbrev Spelt : List ℕ → ℕ → ℕ → ℕ → ℕ → ℕ → Type 0
 Spelt t m v k w j = (n : ℕ) × (j ≡ k + n) × (n ≤ m) × SpelledDigits n v w t (drop n t)
 
@@ -184,7 +175,7 @@ ended t m v k w j e =
 
 further : (b : ℕ) (t : List ℕ) (ih : (m v k w j : ℕ) → digits t m v k ≡ run w j → Spelt t m v k w j) (m v k w j : ℕ)
     → 48 ≤ b → b < 58 → oneMore (digits t) m v k (b - 48) ≡ run w j → Spelt (b ∷ t) m v k w j
-further b t ih zero v k w j l h e = let z : _≡_ {A = ℕ} 0 1 = cc in absurd (omega arith)
+further b t ih zero v k w j l h e = zero-one cc
 further b t ih (suc m) v k w j l h e =
     let x = ih m (v * 10 + (b - 48)) (suc k) w j e in
     let n = x .0 in

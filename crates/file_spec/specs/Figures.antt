@@ -5,7 +5,7 @@ use Prim.Native.Nat.{ℕ, zero, suc, _+_, _*_, _^_}
 use lib.Dec.{ltb, eqb}
 use lib.IntN.{ℤ, pos, negsuc}
 use lib.ListN.{take}
-use Rattle.alphabet_spec.specs.Logic.{pick, both}
+use Rattle.terms.specs.Logic.{pick, both}
 use Rattle.label_spec.specs.Space.{pastSpace}
 use Rattle.table_spec.specs.Frame.{largest-abscissa, zero-ordinate}
 use Rattle.table_spec.specs.Values.{signed}

@@ -6,7 +6,7 @@ use lib.Dec.{ltb, leb}
 use lib.IntN.{ℤ}
 use lib.ListN.{length, getD, take, drop}
 use lib.Seq.{sets}
-use Rattle.alphabet_spec.specs.Logic.{pick}
+use Rattle.terms.specs.Logic.{pick}
 use Rattle.terms.specs.Refusals.{refusal}
 use Rattle.table_spec.specs.Frame.{entry-for}
 use Rattle.table_spec.specs.Reading.{Answer, refuse, accept, readTable}

@@ -10,7 +10,7 @@ use lib.Signed.{mag, ltZ}
 use mir.Syntax.{w64}
 use mir.Val.{SFits}
 use borrow.Author.Tests.{ltb-true, ltb-false, leb-true, leb-false, le-leb, lt-leb, lt-ltb, eq-eqb, ne-eqb}
-use Rattle.alphabet_spec.specs.Logic.{pick, both, by-case, no-way}
+use Rattle.terms.specs.Logic.{pick, both, by-case, no-way}
 use Rattle.table_spec.specs.Frame.{frame-legal, abscissa, abscissa-legal, points-legal, lift, zero-abscissa, passes, apart}
 use Rattle.signed.specs.Scale.{lift-small}
 use Rattle.frame.specs.declared.Frame.{Frame}

@@ -6,23 +6,16 @@ use native.Mathlib.Omega.{arith}
 use lib.Dec.{leb}
 use lib.IntN.{ℤ, pos, negsuc}
 use borrow.Author.Tests.{leb-true}
-use Rattle.alphabet_spec.specs.Logic.{pick, both, by-case, no-way}
+use Rattle.terms.specs.Logic.{pick, by-case, zero-one, both-true}
 use Rattle.table_spec.specs.Frame.{frame-legal, abscissa, abscissa-legal, points-legal}
 use Rattle.frame.specs.declared.Frame.{Frame}
 use Rattle.frame.specs.declared.Framed.{Framed}
 use Rattle.frame.specs.declared.Framed.the-variants.{Legal, Outside}
 use Rattle.frame.specs.Legal.{framed, Sound}
 
-both-true : (a b : Bool) → both a b ≡ true → (a ≡ true) × (b ≡ true)
-both-true true b e = (refl, e)
-both-true false b e = no-way e
-
 pub legal-abscissa : (x : ℤ) → abscissa-legal x ≡ true → (0 < abscissa x) × (abscissa x < 20000000000)
 legal-abscissa (pos n) e = let l = leb-true n 9999999999 e in (omega arith, omega arith)
 legal-abscissa (negsuc n) e = let l = leb-true (suc n) 9999999999 e in (omega arith, omega arith)
-
-differ : {A : Type 0} {fr : Frame} → Outside ≡ Legal fr → A
-differ e = absurd (let z : _≡_ {A = ℕ} 0 1 = cc in omega arith)
 
 legal-sound : (f l : ℤ) (n : ℕ) → frame-legal f l n ≡ true → Sound (record { first = abscissa f; last = abscissa l; points = n })
 unfolding frame-legal
@@ -41,10 +34,10 @@ module _ (f l : ℤ) (n : ℕ) where
   pub framed-outside : framed f l n ≡ Outside → frame-legal f l n ≡ false
   unfolding framed
   framed-outside =
-      by-case (λ t. pick t (Legal (record { first = abscissa f; last = abscissa l; points = n })) Outside ≡ Outside → t ≡ false) (frame-legal f l n) (λ _ e. differ (sym e)) (λ _ e. refl)
+      by-case (λ t. pick t (Legal (record { first = abscissa f; last = abscissa l; points = n })) Outside ≡ Outside → t ≡ false) (frame-legal f l n) (λ _ e. zero-one cc) (λ _ e. refl)
 
   pub framed-legal : {fr : Frame} → framed f l n ≡ Legal fr → Framing f l n fr
   unfolding framed
   framed-legal {fr} =
       by-case (λ t. frame-legal f l n ≡ t → pick t (Legal (record { first = abscissa f; last = abscissa l; points = n })) Outside ≡ Legal fr → Framing f l n fr) (frame-legal f l n)
-      (λ _ h e. let z : fr ≡ record { first = abscissa f; last = abscissa l; points = n } = cc in record { legal = h; is = z; sound = rw z (legal-sound f l n h) }) (λ _ h e. differ e) refl
+      (λ _ h e. let z : fr ≡ record { first = abscissa f; last = abscissa l; points = n } = cc in record { legal = h; is = z; sound = rw z (legal-sound f l n h) }) (λ _ h e. zero-one cc) refl

@@ -6,7 +6,7 @@ use lib.IntN.{ℤ}
 use Rattle.frame.specs.declared.Frame.{Frame}
 use Rattle.frame.specs.declared.Framed.{Framed}
 use Rattle.frame.specs.declared.Framed.the-variants.{Legal, Outside}
-use Rattle.alphabet_spec.specs.Logic.{pick}
+use Rattle.terms.specs.Logic.{pick}
 use Rattle.table_spec.specs.Frame.{frame-legal, abscissa, abscissa-legal, most-points}
 
 -- the frame that F, L and N make, or refusal 1

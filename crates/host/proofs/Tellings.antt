@@ -5,6 +5,7 @@ use Prim.Native.Nat.{ℕ}
 use native.Mathlib.Omega.{arith}
 use lib.IntN.{ℤ, pos}
 use lib.ListN.{length}
+use Rattle.terms.specs.Logic.{zero-one}
 use Rattle.terms.specs.Refusals.{refusal}
 use Rattle.terms.specs.declared.Refusal.{Refusal}
 use Rattle.terms.specs.declared.TableRead.the-variants as tables
@@ -19,18 +20,15 @@ use Rattle.file_spec.specs.declared.FileRead.the-variants as files
 use Rattle.file.specs.Answers.{FileSays}
 use Rattle.host.specs.Answers.{numberOf, placeOf, TableTold, declinedBy, lengthOf, TextTold, fileNumber, filePlace, filePoints, fileFirst, fileLast, FileTold}
 
-differ : {A : Type 0} → _≡_ {A = ℕ} 0 1 → A
-differ z = absurd (omega arith)
-
 -- ---- a table read
 
 table-accepted : (n : ℕ) (x : Answer) {m : ℕ} → tables.Accepted m ≡ told n x → (0 ≡ numberOf x) × (m ≡ placeOf n x)
-table-accepted n (refuse c a) e = differ cc
+table-accepted n (refuse c a) e = zero-one cc
 table-accepted n (accept ys) e = (refl, cc)
 
 table-refused : (n : ℕ) (x : Answer) {r : Refusal} → tables.Refused r ≡ told n x → (r .number ≡ numberOf x) × (r .place ≡ placeOf n x)
 table-refused n (refuse c a) {r} e = let z : r ≡ refusal c a = cc in (rw z refl, rw z refl)
-table-refused n (accept ys) e = differ cc
+table-refused n (accept ys) e = zero-one cc
 
 module _ {f l : ℤ} {n : ℕ} {body : List ℕ} {out out' : List ℤ} where
   pub told-accepted : {m : ℕ} → TableSays f l n body out out' (tables.Accepted m) → TableTold f l n body out out' m 0
@@ -42,12 +40,12 @@ module _ {f l : ℤ} {n : ℕ} {body : List ℕ} {out out' : List ℤ} where
 -- ---- a table written
 
 text-wrote : (x : Outcome) {m : ℕ} → texts.Length m ≡ writing.told x → (0 ≡ declinedBy x) × (m ≡ lengthOf x)
-text-wrote (declined c) e = differ cc
+text-wrote (declined c) e = zero-one cc
 text-wrote (wrote t) e = (refl, cc)
 
 text-declined : (x : Outcome) {r : Refusal} → texts.Refused r ≡ writing.told x → (r .number ≡ declinedBy x) × (0 ≡ lengthOf x)
 text-declined (declined c) {r} e = let z : r ≡ refusal c 0 = cc in (rw z refl, refl)
-text-declined (wrote t) e = differ cc
+text-declined (wrote t) e = zero-one cc
 
 module _ {f l : ℤ} {n : ℕ} {ys : List ℤ} {text text' : List ℕ} where
   pub told-wrote : {m : ℕ} → texts.Length m ≡ writing.told (writeTable f l n ys (length text)) → text' ≡ laid text (writeTable f l n ys (length text)) → TextTold f l n ys text text' m 0
@@ -59,12 +57,12 @@ module _ {f l : ℤ} {n : ℕ} {ys : List ℤ} {text text' : List ℕ} where
 -- ---- a file read
 
 file-accepted : (x : FileAnswer) {t : FileTable} → files.Accepted t ≡ toldFile x → (0 ≡ fileNumber x) × (0 ≡ filePlace x) × (t .points ≡ filePoints x) × (t .first ≡ fileFirst x) × (t .last ≡ fileLast x)
-file-accepted (refuse-file c a) e = differ cc
+file-accepted (refuse-file c a) e = zero-one cc
 file-accepted (accept-file n f l ys) {t} e = let z : t ≡ record { points = n; first = f; last = l } = cc in (refl, refl, rw z refl, rw z refl, rw z refl)
 
 file-refused : (x : FileAnswer) {r : Refusal} → files.Refused r ≡ toldFile x → (r .number ≡ fileNumber x) × (r .place ≡ filePlace x) × (0 ≡ filePoints x) × (pos 0 ≡ fileFirst x) × (pos 0 ≡ fileLast x)
 file-refused (refuse-file c a) {r} e = let z : r ≡ refusal c a = cc in (rw z refl, rw z refl, refl, refl, refl)
-file-refused (accept-file n f l ys) e = differ cc
+file-refused (accept-file n f l ys) e = zero-one cc
 
 module _ {file : List ℕ} {out out' : List ℤ} where
   pub told-file : {t : FileTable} → FileSays file out out' (files.Accepted t) → FileTold file out out' 0 (t .points) (t .first) (t .last) 0

@@ -9,7 +9,8 @@ use lib.ListN.{length, getD, take, drop}
 use borrow.Author.Tests.{lt-ltb, le-ltb}
 use Rattle.label_spec.specs.declared.Spot.{Spot}
 use Rattle.label_spec.specs.declared.Spot.the-variants.{Place, Nowhere}
-use Rattle.label_spec.specs.Names.{pick, norm, blank}
+use Rattle.terms.specs.Logic.{pick}
+use Rattle.label_spec.specs.Names.{norm, blank}
 use Rattle.label_spec.specs.Labels.{Walk, over, bad, label, longestName, eqIn, headed, step, walk, from}
 use Rattle.label_spec.specs.File.{member, twice, judged}
 use Rattle.label_spec.specs.Scans.{known, clash, judge}

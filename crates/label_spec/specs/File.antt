@@ -8,7 +8,8 @@ use Rattle.terms.specs.Refusals.{refusal}
 use Rattle.label_spec.specs.declared.Opened.{Opened}
 use Rattle.label_spec.specs.declared.Walked.{Walked}
 use Rattle.label_spec.specs.declared.Labelled.{Labelled}
-use Rattle.label_spec.specs.Names.{pick, sames, TITLE, END}
+use Rattle.terms.specs.Logic.{pick}
+use Rattle.label_spec.specs.Names.{sames, TITLE, END}
 use Rattle.label_spec.specs.Labels.{Walk, over, bad, label, from, hashed}
 use Rattle.label_spec.specs.Space.{pastSpace}
 

@@ -14,7 +14,8 @@ use Rattle.label_spec.specs.declared.Spot.{Spot}
 use Rattle.label_spec.specs.declared.Spot.the-variants.{Place, Nowhere}
 use Rattle.label_spec.specs.declared.Label.{Label}
 use Rattle.label_spec.specs.declared.Label.the-variants.{At, Bad, None}
-use Rattle.label_spec.specs.Names.{pick, blank, nameIn}
+use Rattle.terms.specs.Logic.{pick}
+use Rattle.label_spec.specs.Names.{blank, nameIn}
 use Rattle.label_spec.specs.Labels.{Walk, over, bad, label, longestName, eqIn, headed, step, walk, from, hashed}
 
 -- The line's first `=` from the place i on.

@@ -6,7 +6,8 @@ use lib.Dec.{leb, eqb}
 use lib.ListN.{length, getD, take, drop}
 use Rattle.label_spec.specs.declared.Spot.{Spot}
 use Rattle.label_spec.specs.declared.Spot.the-variants.{Place, Nowhere}
-use Rattle.label_spec.specs.Names.{pick, blank, norm}
+use Rattle.terms.specs.Logic.{pick}
+use Rattle.label_spec.specs.Names.{blank, norm}
 
 -- What a walk over a text meets, in order. A label: the places of its `##`, of its name and of its `=`, and its name as it is compared.
 -- `bad`: a `##` first on a line without `=`, or with a name too long (refusal 20).

@@ -10,7 +10,8 @@ use lib.Dec.{eqb}
 use lib.ListN.{length, getD, take, drop}
 use lib.Seq.{drop-cons, take-length}
 use borrow.Author.Tests.{eq-eqb, ne-eqb, eqb-true, le-leb, lt-leb}
-use Rattle.label_spec.specs.Names.{pick, blank, ignored, upper, norm, sames, nameIn}
+use Rattle.terms.specs.Logic.{pick}
+use Rattle.label_spec.specs.Names.{blank, ignored, upper, norm, sames, nameIn}
 
 -- A name that starts at i: it is over, its first byte is not kept, or its first byte is kept.
 module _ (s : List ℕ) (i e : ℕ) where

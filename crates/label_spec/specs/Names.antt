@@ -4,11 +4,7 @@ use mathlib.Core.List.{List, [], _∷_}
 use Prim.Native.Nat.{ℕ, _-_}
 use lib.Dec.{leb, eqb}
 use lib.ListN.{take, drop}
-
--- A choice by a test.
-abbrev pub pick {ℓ} : {A : Type ℓ} → Bool → A → A → A
-pick true a b = a
-pick false a b = b
+use Rattle.terms.specs.Logic.{pick}
 
 -- Blanks are space and tab (01, Spelling of a body).
 unfoldable pub blank : ℕ → Bool

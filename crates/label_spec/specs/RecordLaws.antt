@@ -7,7 +7,8 @@ use lib.Dec.{leb}
 use lib.ListN.{length, take, drop}
 use Rattle.label_spec.specs.declared.Spot.{Spot}
 use Rattle.label_spec.specs.declared.Spot.the-variants.{Place, Nowhere}
-use Rattle.label_spec.specs.Names.{pick, norm}
+use Rattle.terms.specs.Logic.{pick}
+use Rattle.label_spec.specs.Names.{norm}
 use Rattle.label_spec.specs.Labels.{Walk, bad, label, longestName, headed, from, hashed}
 use Rattle.label_spec.specs.LabelLaws.{eqAt, label-is}
 use Rattle.label_spec.specs.Records.{markOf}

@@ -7,7 +7,8 @@ use lib.ListN.{length, take, drop}
 use Rattle.label_spec.specs.declared.Found.{Found}
 use Rattle.label_spec.specs.declared.Labelled.{Labelled}
 use Rattle.label_spec.specs.declared.Record.{Record}
-use Rattle.label_spec.specs.Names.{pick, sames}
+use Rattle.terms.specs.Logic.{pick}
+use Rattle.label_spec.specs.Names.{sames}
 use Rattle.label_spec.specs.Labels.{Walk, over, bad, label, from}
 use Rattle.label_spec.specs.File.{labelled}
 

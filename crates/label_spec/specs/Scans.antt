@@ -5,7 +5,8 @@ use mathlib.Core.List.{List, [], _∷_}
 use Prim.Native.Nat.{ℕ}
 use lib.Dec.{ltb}
 use Rattle.label_spec.specs.declared.Walked.{Walked}
-use Rattle.label_spec.specs.Names.{pick, sames, TITLE, END}
+use Rattle.terms.specs.Logic.{pick}
+use Rattle.label_spec.specs.Names.{sames, TITLE, END}
 use Rattle.label_spec.specs.Labels.{Walk, over, bad, label}
 use Rattle.terms.specs.Refusals.{refusal}
 

@@ -5,7 +5,8 @@ use mathlib.Core.List.{List, [], _∷_}
 use Prim.Native.Nat.{ℕ, _+_}
 use lib.Dec.{eqb}
 use lib.ListN.{getD, drop}
-use Rattle.label_spec.specs.Names.{pick, blank}
+use Rattle.terms.specs.Logic.{pick}
+use Rattle.label_spec.specs.Names.{blank}
 
 -- A blank or LF.
 unfoldable pub space : ℕ → Bool

@@ -10,7 +10,8 @@ use lib.Dec.{eqb}
 use lib.ListN.{length, getD, drop, drop-of-length-le}
 use lib.Seq.{drop-cons, getD-drop}
 use borrow.Author.Tests.{eq-eqb, ne-eqb}
-use Rattle.label_spec.specs.Names.{pick, blank}
+use Rattle.terms.specs.Logic.{pick}
+use Rattle.label_spec.specs.Names.{blank}
 use Rattle.label_spec.specs.Space.{space, opens, past, pastAt}
 
 pub past-end : (s : List ℕ) (i : ℕ) (t : Bool) → length s ≤ i → pastAt s i t ≡ i

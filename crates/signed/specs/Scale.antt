@@ -13,7 +13,7 @@ use mir.Syntax.{w32, w64}
 use mir.Val.{SFits, toZ}
 use mir.Facts.{toZ-pos}
 use borrow.Author.Tests.{ltb-true, ltb-false, le-ltb, lt-ltb}
-use Rattle.alphabet_spec.specs.Logic.{by-case}
+use Rattle.terms.specs.Logic.{by-case}
 use Rattle.table_spec.specs.Frame.{lift, lower, ordinate-of, entry-for, zero-ordinate}
 
 -- ---- up the scale

@@ -7,12 +7,13 @@ use native.Mathlib.Omega.{arith}
 use native.Mathlib.Nat.{add-zero, zero-add}
 use lib.ListN.{length, length-append}
 use borrow.Author.Tests.{le-ltb, le-leb}
-use Rattle.alphabet_spec.specs.Logic.{no-way}
+use Rattle.terms.specs.Logic.{zero-one, no-way}
 use Rattle.alphabet_spec.specs.Bytes.{kind}
 use Rattle.alphabet_spec.specs.KindLaws.{pseudo-kind, blank-kind}
 use Rattle.table_spec.specs.Frame.{Rules}
 use Rattle.table_spec.specs.Values.{Value, Form, Own, Spot, first, after}
 use Rattle.table_spec.specs.Reading.{fresh, inner, opening, inside, step, stop, tokens, Answer, refuse, accept, push, bare, difBefore, took, checked, finish, judge, read}
+use Rattle.table_spec.specs.ReadingLaws.{push-none, push-push}
 use Rattle.table_law.specs.Spelling.{Spelled, plus, minus, plain, packed, missing, LineEnd, over as end-over, lf as end-lf, cr-lf, comment as end-comment, Line, done}
 use Rattle.table_law.specs.Spelling.{blank as with-blank, value as with-value, Body, end, indent, passed, row, Spells}
 use Rattle.table_law.specs.Heads.{lengthens, Apart, head-read}
@@ -41,27 +42,14 @@ line-apart {tabs = tabs} (done h) g = end-apart tabs h
 line-apart (with-blank h r) g = ap lengthens (blank-kind h)
 line-apart {tabs = tabs} (with-value h m r) g = value-apart tabs h g
 
-pub zero-one : _≡_ {A = ℕ} 0 1 → ⊥
-zero-one e = omega arith
-
 -- a line that is spelled has a value after its head
 not-bare : {tabs q c : Bool} {w : Spot} {p e : ℕ} {vs t s : List ℕ} {r : Form} → Line tabs q w p vs r e t s → w ≡ first c → (a : ℕ) → bare (tokens tabs t 0 a (inner q)) ≡ false
 unfolding tokens step inside
-not-bare (done h) g a = absurd (zero-one cc)
+not-bare (done h) g a = zero-one cc
 not-bare (with-blank h r) g a = rw (blank-kind h) (not-bare r g (suc a))
 not-bare {tabs = tabs} (with-value h m r) g a = rw (value-read tabs a h (line-apart r refl) .1) refl
 
 -- ---- a line, and a body
-
-push-none : (x : Answer) → push [] x ≡ x
-unfolding push
-push-none (refuse c a) = refl
-push-none (accept ys) = refl
-
-push-push : (us vs : List ℕ) (x : Answer) → push us (push vs x) ≡ push (us ++ vs) x
-unfolding push
-push-push us vs (refuse c a) = refl
-push-push us vs (accept ys) = ap accept (sym (append-assoc us vs ys))
 
 module _ (R : Rules) where
   -- what a line does, where its points fit: it adds them, and the body goes on after its last point, in its last form
@@ -70,7 +58,7 @@ module _ (R : Rules) where
   unfolding judge tokens step inside took
   line-does {q = q} {p = p} {s = s} {r = f} (done h) a i n =
       let z = end-inner (R .tabs) h a q in
-      (z .0, rw (z .1, add-zero i) (sym (push-none (judge R (tokens (R .tabs) s 0 (z .0) fresh) i p (after f)))))
+      (z .0, rw (z .1, add-zero i) (push-none (judge R (tokens (R .tabs) s 0 (z .0) fresh) i p (after f))))
   line-does (with-blank h r) a i n = rw (blank-kind h) (line-does r (suc a) i n)
   line-does {e = y} {s = s} {r = x} (with-value {us = us} {vs = vs} h m r) a i n =
       let z = value-read (R .tabs) a h (line-apart r refl) in

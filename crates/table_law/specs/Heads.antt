@@ -8,7 +8,7 @@ use lib.Dec.{eqb}
 use lib.ListN.{drop}
 use lib.Seq.{drop-drop}
 use borrow.Author.Tests.{eqb-true}
-use Rattle.alphabet_spec.specs.Logic.{pick, by-case, no-way}
+use Rattle.terms.specs.Logic.{pick, by-case, no-way}
 use Rattle.alphabet_spec.specs.Digits.{Run, long, run, digits, some}
 use Rattle.alphabet_spec.specs.Bytes.{Byte, digit, lead, sign, quest, blank, point, lf, cr, dollar, other, kind}
 use Rattle.alphabet_spec.specs.KindLaws.{digit-kind, Back, isDigit, kind-digit}

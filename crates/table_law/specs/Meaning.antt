@@ -6,7 +6,7 @@ use Prim.Native.Nat.{ℕ, _-_, _≤_}
 use native.Mathlib.Omega.{arith}
 use lib.Dec.{ltb, leb, eqb}
 use borrow.Author.Tests.{ltb-true, ltb-false, leb-true, eqb-true, eqb-false, lt-ltb, le-ltb, le-leb, eq-eqb, ne-eqb}
-use Rattle.alphabet_spec.specs.Logic.{pick, by-case, no-way}
+use Rattle.terms.specs.Logic.{pick, by-case, no-way}
 use Rattle.table_spec.specs.Values.{Value, own, gap, by, times, Form, Own, Gap, By, Dup, Spot, first, after, ordinate, moved, copies}
 use Rattle.table_spec.specs.Reading.{Says, adds, not, inRange, allIn, again, says}
 use Rattle.table_law.specs.Spelling.{Ordinate, Ordinates, all-none, all-more, Stands, check, own-first, own-after, gap-first, gap-after, dif-after, dup-own, dup-gap, dup-dif}

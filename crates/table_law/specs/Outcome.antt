@@ -11,13 +11,14 @@ use lib.IntN.{ℤ, pos, negsuc}
 use lib.ListN.{length, length-map, take, drop, getD, List·getD-map}
 use lib.Seq.{sets-eq, take-at, drop-at, getD-drop, getD-take, length-sets}
 use borrow.Author.Tests.{ltb-true, ltb-false, leb-true, le-leb, le-ltb}
-use Rattle.alphabet_spec.specs.Logic.{pick, by-case}
+use Rattle.terms.specs.Logic.{pick, by-case, zero-one}
 use Rattle.table_spec.specs.Frame.{Rules, rules, longest-body, frame-legal, abscissa, entry-for}
 use Rattle.table_spec.specs.Reading.{Answer, refuse, accept, read, readTable, stored}
+use Rattle.table_spec.specs.ReadingLaws.{no-accept}
 use Rattle.table_law.specs.Spelling.{Spells}
 use Rattle.table_law.specs.Small.{Small, spells-small}
-use Rattle.table_law.specs.Complete.{zero-one, complete, spells-count}
-use Rattle.table_law.specs.Sound.{no-accept, read-sound}
+use Rattle.table_law.specs.Complete.{complete, spells-count}
+use Rattle.table_law.specs.Sound.{read-sound}
 
 -- frame and body are within their limits, and there is room for N ordinates: neither 1 nor 2 is given
 pub record Allowed (f l : ℤ) (n : ℕ) (s : List ℕ) (space : ℕ) : Type 0 where
@@ -96,7 +97,7 @@ module _ (f l : ℤ) (n : ℕ) (s : List ℕ) (space : ℕ) where
 pub mark-missing : (u : ℕ) → (entry-for u ≡ negsuc 2147483647) ↔ (u ≡ 0)
 mark-missing u = (
   by-case (λ t. ltb u 2147483648 ≡ t → cond t (negsuc (2147483648 - suc u)) (pos (u - 2147483648)) ≡ negsuc 2147483647 → u ≡ 0) (ltb u 2147483648)
-      (λ _ h e. let z : 2147483648 - suc u ≡ 2147483647 = cc in omega (arith, ltb-true u 2147483648 h)) (λ _ h e. absurd (zero-one cc)) refl,
+      (λ _ h e. let z : 2147483648 - suc u ≡ 2147483647 = cc in omega (arith, ltb-true u 2147483648 h)) (λ _ h e. zero-one cc) refl,
   λ e. rw e refl,
 )
 

@@ -7,7 +7,7 @@ use native.Mathlib.Omega.{arith}
 use lib.Dec.{ltb, leb}
 use lib.IntN.{ℤ}
 use lib.ListN.{length, drop}
-use Rattle.alphabet_spec.specs.Logic.{pick, both, by-case}
+use Rattle.terms.specs.Logic.{pick, both, by-case}
 use Rattle.alphabet_spec.specs.Digits.{Run, long, run, digits, some}
 use Rattle.alphabet_spec.specs.Bytes.{Byte, digit, lead, sign, quest, blank, point, lf, cr, dollar, other, kind}
 use Rattle.table_spec.specs.Frame.{Rules, rules, abscissa, longest-body, frame-legal}

@@ -7,7 +7,7 @@ use native.Mathlib.Omega.{arith}
 use lib.Dec.{ltb, leb}
 use lib.ListN.{length, length-append, drop}
 use borrow.Author.Tests.{ltb-false, leb-true}
-use Rattle.alphabet_spec.specs.Logic.{pick, by-case, no-way}
+use Rattle.terms.specs.Logic.{pick, by-case, no-way}
 use Rattle.alphabet_spec.specs.Digits.{Run, long, run, digits, some}
 use Rattle.alphabet_spec.specs.Bytes.{Byte, digit, lead, sign, quest, blank, point, lf, cr, dollar, other, kind}
 use Rattle.alphabet_spec.specs.KindLaws.{Back, kind-back}
@@ -16,16 +16,14 @@ use Rattle.table_spec.specs.Values.{Value, own, gap, Form, Own, isDif, Spot, fi
 use Rattle.table_spec.specs.Reading.{Tokens, over, fault, value, line, Ending, ends as ends-in, none as no-end, ending, thousandths, Mode, fresh, inner, Rest, ended}
 use Rattle.table_spec.specs.Reading.{headed, valued, opening, inside, step, stop, tokens, Says, adds, not, says, Answer, refuse, accept, push, bare, difBefore, took}
 use Rattle.table_spec.specs.Reading.{checked, finish, judge, read}
+use Rattle.table_spec.specs.ReadingLaws.{no-accept}
 use Rattle.table_law.specs.Spelling.{Spelled, missing, Stands, LineEnd, over as end-over, Line, done, blank as with-blank, value as with-value, Body, end, indent, passed, row, Spells}
 use Rattle.table_law.specs.Heads.{HeadIs, unsigned-is, signed-is as signed-head}
 use Rattle.table_law.specs.Tokens.{EndIs, ending-is, ValueIs, packed-is, plain-is, signed-is}
 use Rattle.table_law.specs.Meaning.{Said, said}
-use Rattle.table_law.specs.Complete.{zero-one, complete}
+use Rattle.table_law.specs.Complete.{complete}
 
 -- ---- answers that accept
-
-pub no-accept : {A : Type 0} {c a : ℕ} {ys : List ℕ} → refuse c a ≡ accept ys → A
-no-accept e = absurd (zero-one cc)
 
 push-accept : (us : List ℕ) (x : Answer) (ys : List ℕ) → push us x ≡ accept ys → (zs : List ℕ) × (x ≡ accept zs) × (ys ≡ us ++ zs)
 unfolding push

@@ -11,7 +11,7 @@ use lib.Seq.{sets}
 use borrow.Author.Tests.{le-leb, lt-leb, lt-ltb, le-ltb, leb-true, leb-false, ltb-true, ltb-false}
 use Rattle.terms.specs.Refusals.{refusal}
 use Rattle.terms.specs.declared.TableRead.the-variants as tables
-use Rattle.alphabet_spec.specs.Logic.{pick, both, by-case}
+use Rattle.terms.specs.Logic.{pick, both, by-case, zero-one}
 use Rattle.table_spec.specs.Frame.{Rules, frame-legal, longest-body, entry-for}
 use Rattle.table_spec.specs.Reading.{Answer, refuse, accept, read, readTable, stored}
 use Rattle.frame.specs.declared.Frame.{Frame}
@@ -25,15 +25,12 @@ use Rattle.table_read.specs.declared.Checked.the-variants as checks
 
 -- ---- what a pass answered
 
-differ : {A : Type 0} → _≡_ {A = ℕ} 0 1 → A
-differ z = absurd (omega arith)
-
 pub pass-refused : (x : Answer) {c a : ℕ} → passed.Refused c a ≡ passedOf x → x ≡ refuse c a
 pass-refused (refuse c a) e = cc
-pass-refused (accept ys) e = differ cc
+pass-refused (accept ys) e = zero-one cc
 
 pub pass-all : (x : Answer) → passed.All ≡ passedOf x → (ys : List ℕ) × (x ≡ accept ys)
-pass-all (refuse c a) e = differ cc
+pass-all (refuse c a) e = zero-one cc
 pass-all (accept ys) e = (ys, refl)
 
 pub check-refused : {R : Rules} {s : List ℕ} (out out' : List ℤ) {c a : ℕ} → PassSays R s out out' (passed.Refused c a) → checks.Refused (refusal c a) ≡ toldFirst (read R s)
@@ -94,10 +91,10 @@ read-refused {f} {l} {n} {s} {out} {r} e = go (readTable f l n s (length out)) e
   where
     go : (x : Answer) → checks.Refused r ≡ toldFirst x → readTable f l n s (length out) ≡ x → TableSays f l n s out out (tables.Refused r)
     go (refuse c a) e h = let z : r ≡ refusal c a = cc in record { answers = rw (h, z) refl; leaves = rw h refl }
-    go (accept ys) e h = differ cc
+    go (accept ys) e h = zero-one cc
 
 pub first-accepts : (x : Answer) {y : ℤ} → checks.First y ≡ toldFirst x → Accepts x
-first-accepts (refuse c a) e = differ cc
+first-accepts (refuse c a) e = zero-one cc
 first-accepts (accept ys) e = tt
 
 pub read-accepted : {f l : ℤ} {n : ℕ} {s : List ℕ} {out out' : List ℤ} → Accepts (readTable f l n s (length out)) → out' ≡ stored out (readTable f l n s (length out)) → TableSays f l n s out out' (tables.Accepted n)

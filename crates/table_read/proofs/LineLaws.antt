@@ -8,7 +8,7 @@ use lib.Dec.{ltb, leb, eqb}
 use lib.IntN.{ℤ}
 use lib.ListN.{length}
 use borrow.Author.Tests.{le-leb, ne-eqb}
-use Rattle.alphabet_spec.specs.Logic.{pick, by-case, no-way}
+use Rattle.terms.specs.Logic.{pick, by-case, no-way}
 use Rattle.table_spec.specs.Frame.{passes}
 use Rattle.table_spec.specs.Values.{Form, Spot, first, after, index}
 use Rattle.table_spec.specs.Reading.{fresh, inner, head, fault, bare, difBefore, Answer, refuse, checked, judge}

@@ -10,12 +10,13 @@ use lib.IntN.{ℤ}
 use lib.ListN.{length, length-append}
 use lib.Seq.{sets, length-sets}
 use borrow.Author.Tests.{ltb-false}
-use Rattle.alphabet_spec.specs.Logic.{pick, by-case, no-way}
+use Rattle.terms.specs.Logic.{pick, by-case, no-way}
 use Rattle.table_spec.specs.Frame.{Rules, entry-for}
 use Rattle.table_spec.specs.Values.{Spot, after, Own}
 use Rattle.table_spec.specs.Reading.{Tokens, over, fault, fresh, Answer, refuse, accept, push, difBefore, finish, judge, tokens, read}
 use Rattle.table_lines.specs.Seen.{seen}
-use Rattle.table_values.proofs.Turns.{push-push, push-none, stored-then}
+use Rattle.table_values.proofs.Turns.{stored-then}
+use Rattle.table_spec.specs.ReadingLaws.{push-none, push-push}
 use Rattle.table_read.specs.Rows.{Between, Rests, Onward, LineSays, finished, passedOf, PassSays}
 use Rattle.table_read.specs.declared.Row.{Row}
 use Rattle.table_read.specs.declared.LineRead.the-variants as linewise

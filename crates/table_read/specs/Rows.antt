@@ -7,7 +7,7 @@ use lib.Dec.{ltb, leb, eqb}
 use lib.IntN.{ℤ}
 use lib.ListN.{length}
 use lib.Seq.{sets}
-use Rattle.alphabet_spec.specs.Logic.{pick}
+use Rattle.terms.specs.Logic.{pick}
 use Rattle.table_spec.specs.Frame.{Rules, rules, entry-for}
 use Rattle.table_spec.specs.Values.{Spot}
 use Rattle.table_spec.specs.Reading.{fresh, Answer, refuse, accept, push, difBefore, judge, read}

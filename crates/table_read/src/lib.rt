@@ -8,7 +8,7 @@ ghost use lib.IntN.{ℤ};
 ghost use lib.ListN.{length};
 ghost use Rattle.alphabet_spec.specs.Entries.{entryAt, table};
 ghost use Rattle.frame.specs.Legal.{Sound};
-ghost use Rattle.alphabet_spec.specs.Logic.{pick};
+ghost use Rattle.terms.specs.Logic.{pick};
 ghost use Rattle.table_spec.specs.Values.{index};
 ghost use Rattle.table_spec.specs.Reading.{Answer, accept, read, readTable, stored};
 ghost use Rattle.table_read.specs.Rows.{frame-rules, difForm, Rests, LineSays, finished, PassSays};

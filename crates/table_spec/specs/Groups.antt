@@ -3,7 +3,7 @@ use mathlib.Core.Bool.{Bool, true, false}
 use mathlib.Core.List.{List, [], _∷_, _++_}
 use Prim.Native.Nat.{ℕ, zero, suc, _+_, _-_}
 use lib.Dec.{leb, eqb}
-use Rattle.alphabet_spec.specs.Logic.{pick, both}
+use Rattle.terms.specs.Logic.{pick, both}
 use Rattle.alphabet_spec.specs.Kinds.{Lead, sqz, dif, dup}
 use Rattle.table_spec.specs.Frame.{zero-ordinate}
 use Rattle.table_spec.specs.Values.{Form, Own, Gap, By, Dup, isDif}

@@ -6,7 +6,7 @@ use lib.Dec.{ltb, leb, eqb}
 use lib.IntN.{ℤ}
 use lib.ListN.{length, take}
 use lib.Seq.{sets}
-use Rattle.alphabet_spec.specs.Logic.{pick}
+use Rattle.terms.specs.Logic.{pick}
 use Rattle.table_spec.specs.Frame.{frame-legal, abscissa, ordinate-of, apart, nearest}
 use Rattle.table_spec.specs.Values.{isDif}
 use Rattle.table_spec.specs.Numerals.{headText}

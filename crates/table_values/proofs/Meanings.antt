@@ -6,7 +6,7 @@ use Prim.Native.Nat.{ℕ, zero, suc, _+_, _-_, _*_, _≤_, _<_}
 use native.Mathlib.Omega.{arith}
 use lib.Dec.{ltb, leb, eqb}
 use borrow.Author.Tests.{le-leb, lt-leb, lt-ltb, le-ltb, eq-eqb, ne-eqb}
-use Rattle.alphabet_spec.specs.Logic.{pick, by-case}
+use Rattle.terms.specs.Logic.{pick, by-case}
 use Rattle.table_spec.specs.Values.{Value, own, gap, by, times, Form, Own, Gap, By, Dup, Spot, first, after, ordinate, moved, copies, lastOr}
 use Rattle.table_spec.specs.Reading.{Says, adds, not, says, again, inRange, allIn}
 use Rattle.table_values.specs.States.{shiftedTo, Reaches, Codes, own as codes-own, gap as codes-gap, dif, dup-not, dup-dif, Holds, opening, checking, going}

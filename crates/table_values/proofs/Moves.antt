@@ -8,7 +8,7 @@ use native.Mathlib.Nat.{mul-suc, add-zero, mul-one, mul-le-mul}
 use lib.Dec.{ltb, leb, eqb}
 use lib.ListN.{length}
 use borrow.Author.Tests.{lt-ltb, le-ltb, le-leb, lt-leb, ltb-true, ltb-false, leb-true, leb-false}
-use Rattle.alphabet_spec.specs.Logic.{pick, by-case, no-way}
+use Rattle.terms.specs.Logic.{pick, by-case, no-way}
 use Rattle.table_spec.specs.Values.{Form, Own, Gap, By, moved, copies, lastOr}
 use Rattle.table_spec.specs.Reading.{inRange, allIn}
 use Rattle.table_values.specs.States.{shiftedTo, Reaches}

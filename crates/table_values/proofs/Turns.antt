@@ -11,7 +11,7 @@ use lib.IntN.{ℤ}
 use lib.ListN.{length, length-append, set}
 use lib.Seq.{sets}
 use borrow.Author.Tests.{le-leb, lt-leb, ltb-true, ltb-false}
-use Rattle.alphabet_spec.specs.Logic.{pick, by-case}
+use Rattle.terms.specs.Logic.{pick, by-case}
 use Rattle.alphabet_spec.specs.Entries.{entryAt}
 use Rattle.table_spec.specs.Frame.{entry-for}
 use Rattle.table_spec.specs.Values.{Value, Form, Spot, first, after, lastOr}
@@ -19,21 +19,12 @@ use Rattle.table_spec.specs.Reading.{Tokens, fault, line, fresh, Says, adds, no
 use Rattle.table_lines.specs.Seen.{seen, behind, here}
 use Rattle.table_lines.specs.Ends.{Blanked, Ended}
 use Rattle.table_lines.specs.declared.Ending.the-variants.{Next, Bad}
+use Rattle.table_spec.specs.ReadingLaws.{push-none, push-push}
 use Rattle.table_values.specs.Numbers.{Token}
 use Rattle.table_values.specs.States.{ruled, Holds, Sits, Reads, Gone, Went, Row}
 use Rattle.table_values.specs.declared.Cur.{Cur}
 
 -- ---- points, one part after the other
-
-pub push-push : (us vs : List ℕ) (x : Answer) → push us (push vs x) ≡ push (us ++ vs) x
-unfolding push
-push-push us vs (refuse c a) = refl
-push-push us vs (accept ys) = ap accept (sym (append-assoc us vs ys))
-
-pub push-none : (x : Answer) → x ≡ push [] x
-unfolding push
-push-none (refuse c a) = refl
-push-none (accept ys) = refl
 
 pub stored-then : (us vs : List ℕ) (out : List ℤ) (k : ℕ) → sets (sets out k (map entry-for us)) (k + length us) (map entry-for vs) ≡ sets out k (map entry-for (us ++ vs))
 stored-then [] vs out k = rw (add-zero k) refl

@@ -7,7 +7,7 @@ use lib.Dec.{leb}
 use lib.IntN.{ℤ}
 use lib.ListN.{length}
 use lib.Seq.{sets}
-use Rattle.alphabet_spec.specs.Logic.{pick}
+use Rattle.terms.specs.Logic.{pick}
 use Rattle.alphabet_spec.specs.Kinds.{tabs-too}
 use Rattle.alphabet_spec.specs.Entries.{entryAt}
 use Rattle.table_spec.specs.Frame.{Rules, entry-for}

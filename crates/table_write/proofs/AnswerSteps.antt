@@ -10,7 +10,7 @@ use lib.ListN.{length, take, length-map}
 use borrow.Author.Tests.{lt-ltb, le-ltb, le-leb}
 use Rattle.terms.specs.declared.TableWritten.{TableWritten}
 use Rattle.terms.specs.declared.TableWritten.the-variants.{Length}
-use Rattle.alphabet_spec.specs.Logic.{pick}
+use Rattle.terms.specs.Logic.{pick}
 use Rattle.frame.specs.declared.Frame.{Frame}
 use Rattle.frame.specs.declared.Framed.the-variants.{Legal, Outside}
 use Rattle.frame.specs.Legal.{framed, Sound}

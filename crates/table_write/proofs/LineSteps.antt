@@ -7,7 +7,7 @@ use native.Mathlib.Omega.{arith}
 use lib.ListN.{length, getD}
 use lib.Seq.{sets, length-sets}
 use borrow.Author.Tests.{le-leb, lt-leb}
-use Rattle.alphabet_spec.specs.Logic.{pick, no-way}
+use Rattle.terms.specs.Logic.{pick, no-way}
 use Rattle.table_spec.specs.Numerals.{numeral}
 use Rattle.table_spec.specs.Groups.{sqzText, dupText}
 use Rattle.table_spec.specs.Writing.{check, close, lines-of}

@@ -10,7 +10,7 @@ use lib.Dec.{leb}
 use lib.ListN.{length, getD, take, drop, length-append, length-drop, drop-of-length-le}
 use lib.Seq.{drop-cons, drop-drop}
 use borrow.Author.Tests.{le-leb, lt-leb}
-use Rattle.alphabet_spec.specs.Logic.{pick, by-case}
+use Rattle.terms.specs.Logic.{pick, by-case}
 use Rattle.alphabet_spec.specs.Kinds.{Lead, sqz}
 use Rattle.table_spec.specs.Frame.{zero-ordinate}
 use Rattle.table_spec.specs.Values.{Form, Own, Gap, By, Dup, lastOr}

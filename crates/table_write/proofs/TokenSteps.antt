@@ -10,7 +10,7 @@ use lib.Dec.{ltb, leb, eqb, lit≤}
 use lib.ListN.{length, getD, drop, length-append, drop-of-length-le, length-drop}
 use lib.Seq.{drop-cons}
 use borrow.Author.Tests.{ltb-true, ltb-false, eqb-true, eqb-false, leb-true, leb-false, le-leb, lt-leb, lt-ltb, le-ltb, eq-eqb, ne-eqb}
-use Rattle.alphabet_spec.specs.Logic.{pick, both, by-case, no-way}
+use Rattle.terms.specs.Logic.{pick, both, by-case, no-way}
 use Rattle.alphabet_spec.specs.Kinds.{dif}
 use Rattle.table_spec.specs.Frame.{zero-ordinate}
 use Rattle.table_spec.specs.Values.{Form, Own, Gap, By, Dup, isDif}

@@ -9,7 +9,7 @@ use Rattle.terms.specs.Refusals.{refusal}
 use Rattle.terms.specs.declared.TableWritten.{TableWritten}
 use Rattle.terms.specs.declared.TableWritten.the-variants.{Length, Refused}
 use Rattle.frame.specs.declared.Frame.{Frame}
-use Rattle.alphabet_spec.specs.Logic.{pick}
+use Rattle.terms.specs.Logic.{pick}
 use Rattle.table_spec.specs.Frame.{apart, ordinate-of}
 use Rattle.table_spec.specs.Writing.{Outcome, declined, wrote, fitted, written, writeTable, laid}
 

@@ -6,7 +6,7 @@ use Prim.Native.Nat.{ℕ, zero, suc, _+_, _≤_, _<_}
 use lib.Dec.{ltb, eqb}
 use lib.IntN.{ℤ}
 use lib.ListN.{length, getD, drop}
-use Rattle.alphabet_spec.specs.Logic.{pick, both}
+use Rattle.terms.specs.Logic.{pick, both}
 use Rattle.table_spec.specs.Frame.{ordinate-of, apart}
 use Rattle.table_spec.specs.Values.{Form, isDif}
 use Rattle.table_spec.specs.Groups.{form, tokenText, alike, many, dupText, group}

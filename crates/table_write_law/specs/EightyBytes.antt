@@ -8,7 +8,7 @@ use native.Mathlib.Nat.{add-zero, zero-add, add-suc, suc-add, not-suc-le-zero, l
 use lib.Dec.{ltb, leb, eqb, lit≤}
 use lib.ListN.{length}
 use borrow.Author.Tests.{leb-true}
-use Rattle.alphabet_spec.specs.Logic.{pick, by-case, no-way}
+use Rattle.terms.specs.Logic.{pick, by-case, no-way}
 use Rattle.alphabet_spec.specs.Kinds.{Lead, sqz, dif, dup}
 use Rattle.table_spec.specs.Frame.{nearest, zero-ordinate, zero-abscissa}
 use Rattle.table_spec.specs.Values.{Form, Own, Gap, By, Dup, isDif}

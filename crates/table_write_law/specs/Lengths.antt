@@ -9,7 +9,7 @@ use native.Mathlib.Nat.{not-suc-le-zero, le-of-suc-le-suc}
 use lib.Dec.{ltb, leb, lit≤}
 use lib.ListN.{length, length-append}
 use borrow.Author.Tests.{leb-true, leb-false}
-use Rattle.alphabet_spec.specs.Logic.{pick, by-case}
+use Rattle.terms.specs.Logic.{pick, by-case}
 use Rattle.alphabet_spec.specs.Kinds.{Lead, sqz, dif, dup}
 use Rattle.table_spec.specs.Frame.{nearest, zero-ordinate, longest-body}
 use Rattle.table_spec.specs.Values.{Form, Own, Gap, By, Dup, isDif}

@@ -9,7 +9,7 @@ use native.Mathlib.Numerals.{add-one}
 use lib.Dec.{leb, lit<}
 use lib.ListN.{length, take, drop, take-append-drop}
 use lib.Seq.{length-take-le}
-use Rattle.alphabet_spec.specs.Logic.{pick, by-case, no-way}
+use Rattle.terms.specs.Logic.{pick, by-case, no-way}
 use Rattle.table_spec.specs.Frame.{Rules}
 use Rattle.table_spec.specs.Values.{Value, own, Form, Own, Gap, By, Dup, isDif, Spot, first, after, ordinate, copies, lastOr, index}
 use Rattle.table_spec.specs.Groups.{form, sqzText, tokenText, many, dupText, group}

@@ -10,7 +10,7 @@ use lib.ListN.{length, take, drop, length-map}
 use lib.Seq.{length-take-le}
 use lib.Signed.{mag}
 use borrow.Author.Tests.{ltb-false, leb-true}
-use Rattle.alphabet_spec.specs.Logic.{pick, both, by-case, no-way}
+use Rattle.terms.specs.Logic.{pick, both, by-case, no-way}
 use Rattle.table_spec.specs.Frame.{frame-legal, abscissa-legal, abscissa, apart, rules, longest-body, zero-ordinate, ordinate-of, entry-for}
 use Rattle.table_spec.specs.Writing.{Outcome, declined, wrote, fitted, written, writeTable}
 use Rattle.table_spec.specs.Reading.{Answer, accept, read, readTable, stored}

@@ -8,7 +8,7 @@ use native.Mathlib.Nat.{add-zero}
 use lib.Dec.{ltb, leb, eqb, lit≤}
 use lib.ListN.{length, take, length-append}
 use borrow.Author.Tests.{leb-true, leb-false, eqb-true, eqb-false}
-use Rattle.alphabet_spec.specs.Logic.{pick, both, by-case, no-way}
+use Rattle.terms.specs.Logic.{pick, both, by-case, no-way}
 use Rattle.alphabet_spec.specs.Kinds.{Lead, sqz, dif, dup}
 use Rattle.table_spec.specs.Frame.{Rules, zero-ordinate}
 use Rattle.table_spec.specs.Values.{Value, own, gap, by, times, Form, Own, Gap, By, Dup, isDif, Spot, first, after, ordinate, moved, next, copies, lastOr, index}

@@ -1,1 +1,3 @@
+pub mod Logic
+pub mod Places
 pub mod Refusals

@@ -4,7 +4,7 @@ use mathlib.Core.Path.{sym, _∙_}
 use native.Mathlib.Omega.{arith}
 use lib.Dec.{lit<}
 use Rattle.decimal.proofs.Reading.{no-exponent, exponent-plus, exponent-minus, no-sign}
-use Rattle.decimal_spec.specs.SpellingLaws.{inside}
+use Rattle.terms.specs.Places.{inside}
 use borrow.Author.Needs.{needs}
 use Rattle.decimal.proofs.exponent.Statement.{statement}
 use Rattle.decimal.proofs.exponent.Tie as tie

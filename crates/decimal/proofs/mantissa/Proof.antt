@@ -3,7 +3,7 @@ use mathlib.Core.Path.{sym, _∙_}
 use native.Mathlib.Omega.{arith}
 use lib.Dec.{lit<}
 use Rattle.decimal.proofs.Reading.{room, whole-long, no-point, behind-long, behind-run}
-use Rattle.decimal_spec.specs.SpellingLaws.{inside}
+use Rattle.terms.specs.Places.{inside}
 use borrow.Author.Needs.{needs}
 use Rattle.decimal.proofs.mantissa.Statement.{statement}
 use Rattle.decimal.proofs.mantissa.Tie as tie

@@ -16,8 +16,16 @@ pub by-case : (P : Bool → Type 0) (q : Bool) → (q ≡ true → P true) → (
 by-case P true f g = f refl
 by-case P false f g = g refl
 
+-- two constructors of one type are never equal: where a proof meets that, `cc` makes it 0 ≡ 1
+pub zero-one : {A : Type 0} → _≡_ {A = ℕ} 0 1 → A
+zero-one e = absurd (omega arith)
+
 pub no-way : {A : Type 0} → false ≡ true → A
-no-way e = let z : _≡_ {A = ℕ} 0 1 = cc in absurd (omega arith)
+no-way e = zero-one cc
+
+pub both-true : (a b : Bool) → both a b ≡ true → (a ≡ true) × (b ≡ true)
+both-true true b e = (refl, e)
+both-true false b e = no-way e
 
 -- what holds of each decimal digit
 pub ten : (P : ℕ → Type 0) → P 0 → P 1 → P 2 → P 3 → P 4 → P 5 → P 6 → P 7 → P 8 → P 9 → (d : ℕ) → d < 10 → P d
