@@ -1,19 +1,19 @@
 -- Runs of digits, place by place: what the code's one loop over digits needs. Assumes nothing.
-use mathlib.Core.Path.{_≡_, refl, sym, ap, _∙_, subst}
-use mathlib.Core.Bool.{Bool, true, false}
-use mathlib.Core.List.{List, [], _∷_}
-use Prim.Native.Nat.{ℕ, zero, suc, _+_, _-_, _*_, _^_, _≤_, _<_}
+use mathlib.Core.Path.{_≡_, refl, _∙_, subst}
+use mathlib.Core.Bool.{false}
+use mathlib.Core.List.{List}
+use Prim.Native.Nat.{ℕ, suc, _+_, _-_, _≤_, _<_}
 use native.Mathlib.Omega.{arith}
-use lib.Dec.{ltb, leb}
+use lib.Dec.{ltb}
 use lib.ListN.{length, getD, drop, drop-of-length-le}
 use lib.Seq.{drop-cons}
 use borrow.Author.Tests.{lt-ltb, ltb-true, ltb-false}
-use Rattle.terms.specs.Logic.{pick, by-case}
+use Rattle.terms.specs.Logic.{by-case}
 use Rattle.alphabet_spec.specs.Kinds.{tabs-too}
-use Rattle.alphabet_spec.specs.Digits.{within, Run, long, run, oneMore, digits}
+use Rattle.alphabet_spec.specs.Digits.{run, oneMore, digits}
 use Rattle.alphabet_spec.specs.Bytes.{Byte, digit, lead, sign, quest, blank, point, lf, cr, dollar, other, kind}
 use Rattle.alphabet_spec.specs.KindLaws.{Back, kind-back, isDigit, back-digit, digit-within}
-use Rattle.alphabet_spec.specs.Entries.{code, entry, entryAt, kindOf, at-kind, at-entry, past-end, entry-in}
+use Rattle.alphabet_spec.specs.Entries.{code, entry, entryAt, kindOf, at-kind, at-entry, entry-in}
 
 -- the entry of a digit is the digit
 pub digit-at : (s : List ℕ) (i : ℕ) → entryAt s i < 16 → (i < length s) × (getD s i 0 ≡ 48 + entryAt s i) × (entryAt s i < 10)

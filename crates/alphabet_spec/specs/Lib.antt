@@ -1,7 +1,9 @@
 pub mod Kinds
 pub mod Digits
 pub mod Bytes
+pub mod SpelledDigits
 pub mod KindLaws
+pub mod SpelledDigitLaws
 pub mod Every
 pub mod Entries
 pub mod DigitLaws

@@ -2,13 +2,9 @@
 -- `R x t s`: the text t is x, spelled, and then s. SpellingLaws has that these are the texts that `numberAt` reads.
 use mathlib.Core.Bool.{Bool, true, false}
 use mathlib.Core.List.{List, _∷_}
-use Prim.Native.Nat.{ℕ, suc, _+_, _-_, _*_, _≤_, _<_}
+use Prim.Native.Nat.{ℕ, _+_, _-_, _≤_, _<_}
+use Rattle.alphabet_spec.specs.SpelledDigits.{SpelledDigits}
 use Rattle.decimal_spec.specs.Number.{mostDigits, bound, origin}
-
--- n digits, which after the number v make the number w; leading zeros are digits like others
-pub data SpelledDigits : ℕ → ℕ → ℕ → List ℕ → List ℕ → Type 0 where
-  none : {v : ℕ} {s : List ℕ} → SpelledDigits 0 v v s s
-  more : {n v w d : ℕ} {t s : List ℕ} → d < 10 → SpelledDigits n (v * 10 + d) w t s → SpelledDigits (suc n) v w ((48 + d) ∷ t) s
 
 -- "digits with at most one point (1 to 12 digits, at most 9 from the first non-zero on)": the number v, with f of its digits behind the point
 pub data SpelledMantissa : ℕ → ℕ → List ℕ → List ℕ → Type 0 where

@@ -1,25 +1,26 @@
 -- What is spelled is read, and what is read is spelled: `numberAt` and `countAt` say of a text what Spelling says of it. Assumes nothing.
 use mathlib.Core.Path.{_≡_, refl, sym, ap, _∙_, subst}
 use mathlib.Core.Bool.{Bool, true, false}
-use mathlib.Core.List.{List, [], _∷_}
-use Prim.Native.Nat.{ℕ, zero, suc, _+_, _-_, _*_, _≤_, _<_}
+use mathlib.Core.List.{List, _∷_}
+use Prim.Native.Nat.{ℕ, _+_, _-_, _≤_, _<_}
 use native.Mathlib.Omega.{arith}
 use native.Mathlib.Numerals.{add-one}
-use native.Mathlib.Nat.{add-zero, zero-add, add-suc, suc-add}
-use lib.Dec.{ltb, leb, eqb}
-use lib.ListN.{length, getD, drop, List·getD-eq-default}
+use native.Mathlib.Nat.{add-zero}
+use lib.Dec.{ltb, eqb}
+use lib.ListN.{getD, drop}
 use lib.Seq.{drop-cons, getD-drop, drop-drop}
-use borrow.Author.Tests.{lt-ltb, eq-eqb, ne-eqb, ltb-true, ltb-false, leb-true, eqb-true}
-use Rattle.terms.specs.Logic.{pick, both, by-case, zero-one, both-true}
+use borrow.Author.Tests.{lt-ltb, eq-eqb, ne-eqb, ltb-true, eqb-true}
+use Rattle.terms.specs.Logic.{pick, both, by-case}
 use Rattle.terms.specs.Places.{inside}
-use Rattle.alphabet_spec.specs.Digits.{within, Run, long, run, oneMore, digits}
-use Rattle.alphabet_spec.specs.KindLaws.{digit-within}
+use Rattle.alphabet_spec.specs.Digits.{Run, long, run, digits}
+use Rattle.alphabet_spec.specs.SpelledDigits.{SpelledDigits, none, more}
+use Rattle.alphabet_spec.specs.SpelledDigitLaws.{NoDigit, spelled-drop, digits-run, run-spelled}
 use Rattle.decimal_spec.specs.declared.Mantissa.{Mantissa}
 use Rattle.decimal_spec.specs.declared.Exponent.{Exponent}
 use Rattle.decimal_spec.specs.declared.Number.{Number}
 use Rattle.decimal_spec.specs.declared.Count.{Count}
 use Rattle.decimal_spec.specs.Number.{bound, origin, mantissaOf, behindPoint, beforePoint, mantissaAt, powerOf, exponentAt, raised, unsigned, numberAt, countOf, countAt}
-use Rattle.decimal_spec.specs.Spelling.{SpelledDigits, none, more, SpelledMantissa, whole, pointed, SpelledExponent, absent, up, down, SpelledNumber, plain, plus, minus, SpelledCount, only}
+use Rattle.decimal_spec.specs.Spelling.{SpelledMantissa, whole, pointed, SpelledExponent, absent, up, down, SpelledNumber, plain, plus, minus, SpelledCount, only}
 
 -- ---- places: t stands at the place i of s
 
@@ -37,37 +38,15 @@ at-two s i b c e f h l = let p : i + 1 + 1 ≡ i + 2 = omega arith in at-byte s 
 
 -- ---- what is spelled is read
 
--- the first byte of s, if there is one, is no digit
-abbrev pub NoDigit : List ℕ → Type 0
-NoDigit s = within 48 10 (getD s 0 0) ≡ false
-
 -- what may stand after a number, so that no byte more belongs to it
 pub record Ends (s : List ℕ) : Type 0 where
   pub no-digit : NoDigit s
   pub no-point : getD s 0 0 ≡ 46 → ⊥
   pub no-exponent : getD s 0 0 ≡ 69 → ⊥
 
-spelled-drop : {n v w : ℕ} {t s : List ℕ} → SpelledDigits n v w t s → drop n t ≡ s
-spelled-drop none = refl
-spelled-drop (more l x) = spelled-drop x
-
-stopped : (s : List ℕ) (m v k : ℕ) → NoDigit s → digits s m v k ≡ run v k
-unfolding digits
-stopped [] m v k h = refl
-stopped (b ∷ s) m v k h = rw h refl
-
-counted : {n v w : ℕ} {t s : List ℕ} (m k : ℕ) → SpelledDigits n v w t s → NoDigit s → n ≤ m → digits t m v k ≡ run w (k + n)
-unfolding digits
-counted {v = v} {s = s} m k none h l = stopped s m v k h ∙ ap (run v) (sym (add-zero k))
-counted zero k (more a x) h l = absurd (omega arith)
-counted (suc m) k (more {n = n} {w = w} {d = d} a x) h l =
-    let e : 48 + d - 48 ≡ d = omega arith in
-    let y = counted m (suc k) x h (omega arith) in
-    rw (digit-within d a, e) (y ∙ ap (run w) (suc-add k n ∙ sym (add-suc k n)))
-
--- the same at a place
+-- digits at a place
 digits-read : {n v w : ℕ} {t u : List ℕ} (s : List ℕ) (i m : ℕ) → SpelledDigits n v w t u → drop i s ≡ t → NoDigit u → n ≤ m → digits (drop i s) m v 0 ≡ run w n
-digits-read {n} {v} {w} s i m x e h l = ap (λ (l : List ℕ). digits l m v 0) e ∙ counted m 0 x h l ∙ ap (run w) (zero-add n)
+digits-read {v = v} s i m x e h l = ap (λ (l : List ℕ). digits l m v 0) e ∙ digits-run m x h l
 
 mantissa-is : (v n f j : ℕ) → 0 < n → v < bound → mantissaOf v n f j ≡ Mantissa.Digits v f j
 unfolding mantissaOf
@@ -164,38 +143,10 @@ number-unique {t = t} x y h l =
 
 -- ---- what is read is spelled
 
-abbrev Spelt : List ℕ → ℕ → ℕ → ℕ → ℕ → ℕ → Type 0
-Spelt t m v k w j = (n : ℕ) × (j ≡ k + n) × (n ≤ m) × SpelledDigits n v w t (drop n t)
-
-ended : (t : List ℕ) (m v k w j : ℕ) → run v k ≡ run w j → Spelt t m v k w j
-ended t m v k w j e =
-    let a : v ≡ w = cc in
-    let b : j ≡ k = cc in
-    (0, b ∙ sym (add-zero k), omega arith, subst (λ (x : ℕ). SpelledDigits 0 v x t t) a none)
-
-further : (b : ℕ) (t : List ℕ) (ih : (m v k w j : ℕ) → digits t m v k ≡ run w j → Spelt t m v k w j) (m v k w j : ℕ)
-    → 48 ≤ b → b < 58 → oneMore (digits t) m v k (b - 48) ≡ run w j → Spelt (b ∷ t) m v k w j
-further b t ih zero v k w j l h e = zero-one cc
-further b t ih (suc m) v k w j l h e =
-    let x = ih m (v * 10 + (b - 48)) (suc k) w j e in
-    let n = x .0 in
-    let p : 48 + (b - 48) ≡ b = omega arith in
-    let q : b - 48 < 10 = omega arith in
-    (suc n, omega (arith, x .1), omega (arith, x .2), subst (λ (c : ℕ). SpelledDigits (suc n) v w (c ∷ t) (drop n t)) p (more q (x .3)))
-
-spelt : (t : List ℕ) (m v k w j : ℕ) → digits t m v k ≡ run w j → Spelt t m v k w j
-unfolding digits
-spelt [] m v k w j = ended [] m v k w j
-spelt (b ∷ t) m v k w j =
-    by-case (λ q. within 48 10 b ≡ q → pick q (oneMore (digits t) m v k (b - 48)) (run v k) ≡ run w j → Spelt (b ∷ t) m v k w j) (within 48 10 b)
-    (λ _ h e. let x = both-true (leb 48 b) (ltb b 58) h in further b t (spelt t) m v k w j (leb-true 48 b (x .0)) (ltb-true b 58 (x .1)) e)
-    (λ _ h e. ended (b ∷ t) m v k w j e) refl
-
 digits-spelled : (s : List ℕ) (i m v w n : ℕ) → digits (drop i s) m v 0 ≡ run w n → (n ≤ m) × SpelledDigits n v w (drop i s) (drop (i + n) s)
 digits-spelled s i m v w n e =
-    let x = spelt (drop i s) m v 0 w n e in
-    let p : x .0 ≡ n = omega (arith, x .1) in
-    (omega (arith, x .2), subst (λ (l : List ℕ). SpelledDigits n v w (drop i s) l) (drop-drop n i s) (subst (λ (k : ℕ). SpelledDigits k v w (drop i s) (drop k (drop i s))) p (x .3)))
+    let x = run-spelled (drop i s) m v w n e in
+    (x .0, subst (λ (l : List ℕ). SpelledDigits n v w (drop i s) l) (drop-drop n i s) (x .1))
 
 -- what is read at the place i, if it is not misspelled, is spelled there
 abbrev Mantissa-spelled : List ℕ → ℕ → Mantissa → Type 0

@@ -1,7 +1,7 @@
 // The frame of a table (01, "The frame of a table"): its limits, the constructor that refuses, and the check of a head.
 ghost use mathlib.Core.Path.{_≡_};
 ghost use Prim.Native.Nat.{ℕ, _<_, _≤_};
-ghost use Rattle.table_spec.specs.Frame.{passes};
+ghost use Rattle.table_spec.specs.Frame.{passes, apart};
 ghost use Rattle.frame.specs.Legal.{framed, lifted, Sound};
 
 // F and L, each plus 10,000,000,000 so that none is negative, and N.
@@ -31,9 +31,9 @@ pub fn lift(x: i64) -> u64
     y as u64
 }
 
-// How far apart two abscissas, or multiples of them, are.
-fn apart(a: u64, b: u64) -> u64
-    ensures { λ r. ⌜ r ≡ Rattle.table_spec.specs.Frame.apart a b ⌝ }
+// How far apart two numbers are.
+pub fn distance(a: u64, b: u64) -> u64
+    ensures { λ r. ⌜ r ≡ apart a b ⌝ }
 {
     if a < b {
         return b - a;
@@ -91,6 +91,6 @@ impl Frame {
         let index = i as u64;
         let given = h * steps + index * first;
         let asked = first * steps + index * last;
-        2 * apart(given, asked) < apart(last, first)
+        2 * distance(given, asked) < distance(last, first)
     }
 }

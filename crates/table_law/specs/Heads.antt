@@ -2,7 +2,8 @@
 use mathlib.Core.Path.{_≡_, refl, sym, ap, _∙_}
 use mathlib.Core.Bool.{Bool, true, false}
 use mathlib.Core.List.{List, [], _∷_}
-use Prim.Native.Nat.{ℕ, suc, _+_, _*_, _<_}
+use Prim.Native.Nat.{ℕ, suc, _+_, _-_, _*_, _^_, _≤_, _<_}
+use native.Mathlib.Omega.{arith}
 use native.Mathlib.Nat.{add-zero, add-suc}
 use lib.Dec.{eqb}
 use lib.ListN.{drop}
@@ -12,11 +13,12 @@ use Rattle.terms.specs.Logic.{pick, by-case, no-way}
 use Rattle.alphabet_spec.specs.Digits.{Run, long, run, digits, some}
 use Rattle.alphabet_spec.specs.Bytes.{Byte, digit, lead, sign, quest, blank, point, lf, cr, dollar, other, kind}
 use Rattle.alphabet_spec.specs.KindLaws.{digit-kind, Back, isDigit, kind-digit}
+use Rattle.alphabet_spec.specs.SpelledDigits.{SpelledDigits, none, more}
+use Rattle.alphabet_spec.specs.SpelledDigitLaws.{NoDigit, first-digit, digits-run, digits-some, Follows, follows, Begins, begins}
 use Rattle.table_spec.specs.Values.{headed-at}
 use Rattle.table_spec.specs.Reading.{Tokens, head, starts, scaled, pointed as after-whole, thousandths, Mode, fresh, inner, headed, opening, step, tokens}
-use Rattle.table_law.specs.Spelling.{Fraction, Magnitude, whole, pointed, Head, unsigned, positive, negative}
-use Rattle.table_law.specs.Runs.{digits-counted, counted-digits, fraction-counted, counted-fraction, Numeral, numeral, Past, here, byte, past-drop, past-past}
-use Rattle.table_law.specs.Runs.{counted-past, numeral-past, NoDigit, run-zero, some-of, Follows, follows, Begins, begins}
+use Rattle.table_law.specs.Spelling.{Magnitude, whole, pointed, Head, unsigned, positive, negative}
+use Rattle.table_law.specs.Runs.{Past, here, byte, past-drop, past-past, digits-past}
 
 -- ---- texts that do not make a head or a number before them longer: they begin with neither a digit nor a point
 
@@ -49,7 +51,7 @@ no-digit-kind dollar h = refl
 no-digit-kind other h = refl
 
 pub apart-digit : (tabs : Bool) (s : List ℕ) → Apart tabs s → NoDigit s
-apart-digit tabs [] h = tt
+apart-digit tabs [] h = refl
 apart-digit tabs (b ∷ s) h = kind-digit tabs b ∙ no-digit-kind (kind tabs b) h
 
 apart-point : (tabs : Bool) (s : List ℕ) → Apart tabs s → starts 46 s ≡ false
@@ -61,26 +63,25 @@ apart-point tabs (b ∷ s) h = by-case (λ t. t ≡ false) (eqb b 46) (λ e. no-
 
 pub data Following : ℕ → ℕ → List ℕ → List ℕ → Type 0 where
   no-point : {w : ℕ} {s : List ℕ} → Following w (w * 1000) s s
-  a-point : {w h : ℕ} {u s : List ℕ} → Fraction 3 w h u s → Following w h (46 ∷ u) s
+  a-point : {k w v : ℕ} {u s : List ℕ} → k ≤ 3 → SpelledDigits k w v u s → Following w (v * 10 ^ (3 - k)) (46 ∷ u) s
 
 pub record Parts (h : ℕ) (t s : List ℕ) : Type 0 where
   pub whole-number : ℕ
   pub count : ℕ
   pub between : List ℕ
-  pub before : Numeral 6 whole-number count t between
+  pub some-digit : 0 < count
+  pub few : count ≤ 7
+  pub before : SpelledDigits count 0 whole-number t between
   pub behind : Following whole-number h between s
 
 parts-of : {h : ℕ} {t s : List ℕ} → Magnitude h t s → Parts h t s
-parts-of (whole {w = w} {s = s} l r) =
-    let z = digits-counted r in
-    record { whole-number = w; count = suc (z .0); between = s; before = numeral l (z .1); behind = no-point }
-parts-of (pointed {w = w} {u = u} l r f) =
-    let z = digits-counted r in
-    record { whole-number = w; count = suc (z .0); between = 46 ∷ u; before = numeral l (z .1); behind = a-point f }
+parts-of (whole {n = n} {w = w} {s = s} a l r) = record { whole-number = w; count = n; between = s; some-digit = a; few = l; before = r; behind = no-point }
+parts-of (pointed {n = n} {w = w} {u = u} a l r k f) =
+    record { whole-number = w; count = n; between = 46 ∷ u; some-digit = a; few = l; before = r; behind = a-point k f }
 
-of-parts : {h w j : ℕ} {t u s : List ℕ} → Numeral 6 w j t u → Following w h u s → Magnitude h t s
-of-parts (numeral l r) no-point = whole l (counted-digits r)
-of-parts (numeral l r) (a-point f) = pointed l (counted-digits r) f
+of-parts : {n h w : ℕ} {t u s : List ℕ} → 0 < n → n ≤ 7 → SpelledDigits n 0 w t u → Following w h u s → Magnitude h t s
+of-parts a l r no-point = whole a l r
+of-parts a l r (a-point k f) = pointed a l r k f
 
 -- ---- a head that is spelled is read
 
@@ -93,34 +94,35 @@ skip tabs (byte r) a m = skip tabs r (suc a) m
 following-read : (tabs : Bool) {w h : ℕ} {u s : List ℕ} → Following w h u s → Apart tabs s → (n : ℕ) → (k : ℕ) × (after-whole u w n ≡ run h (n + k)) × Past k u s × NoDigit u
 unfolding after-whole scaled
 following-read tabs (no-point {s = s}) h n = (0, rw (apart-point tabs s h, add-zero n) refl, here, apart-digit tabs s h)
-following-read tabs (a-point {s = s} f) h n =
-    let z = fraction-counted f in
-    (suc (z .0), rw (run-zero (z .3) (apart-digit tabs s h), add-suc n (z .0)) (ap (λ x. run x (suc (n + z .0))) (sym (z .2))), byte (counted-past (z .3)), refl)
+following-read tabs (a-point {k = k} {s = s} l f) h n = (suc k, rw (digits-run 3 f (apart-digit tabs s h) l, add-suc n k) refl, byte (digits-past f), refl)
 
 -- a head at the place a, and what stands after it
 abbrev Headed : Bool → ℕ → ℕ → Tokens → List ℕ → Type 0
 Headed tabs a h x s = (c : ℕ) × (x ≡ head a h (tokens tabs s 0 c (inner false)))
 
-unsigned-read : (tabs : Bool) (a : ℕ) {w h j : ℕ} {t u s : List ℕ} → Numeral 6 w j t u → Following w h u s → Apart tabs s → Headed tabs a (headed-at false h) (tokens tabs t 0 a fresh) s
+unsigned-read : (tabs : Bool) (a : ℕ) {n w h : ℕ} {t u s : List ℕ} → 0 < n → n ≤ 7 → SpelledDigits n 0 w t u → Following w h u s → Apart tabs s
+    → Headed tabs a (headed-at false h) (tokens tabs t 0 a fresh) s
 unfolding tokens step opening thousandths
-unsigned-read tabs a (numeral {d = d} {j = j} l r) g h =
-    let z = following-read tabs g h j in
-    let y = skip tabs (past-past (counted-past r) (z .2)) (suc a) (inner false) in
-    (y .0, rw (digit-kind tabs d l, run-zero r (z .3), past-drop (counted-past r), z .1, y .1) refl)
+unsigned-read tabs a i l none g h = absurd (omega arith)
+unsigned-read tabs a i l (more {n = n} {d = d} b r) g h =
+    let z = following-read tabs g h n in
+    let y = skip tabs (past-past (digits-past r) (z .2)) (suc a) (inner false) in
+    let e : 0 * 10 + d ≡ d = omega arith in
+    (y .0, rw (digit-kind tabs d b, rw e at (digits-run 6 r (z .3) (omega arith)), past-drop (digits-past r), z .1, y .1) refl)
 
-signed-read : (tabs : Bool) (a : ℕ) (m : Bool) {w h j : ℕ} {t u s : List ℕ} → Numeral 6 w j t u → Following w h u s → Apart tabs s
+signed-read : (tabs : Bool) (a : ℕ) (m : Bool) {n w h : ℕ} {t u s : List ℕ} → 0 < n → n ≤ 7 → SpelledDigits n 0 w t u → Following w h u s → Apart tabs s
     → Headed tabs a (headed-at m h) (headed (λ n. tokens tabs t n (suc a)) a m (thousandths t (some (digits t 7 0 0)))) s
 unfolding thousandths
-signed-read tabs a m {j = j} r g h =
-    let z = following-read tabs g h j in
-    let y = skip tabs (past-past (numeral-past r) (z .2)) (suc a) (inner false) in
-    (y .0, rw (some-of r (z .3), past-drop (numeral-past r), z .1, y .1) refl)
+signed-read tabs a m {n = n} i l r g h =
+    let z = following-read tabs g h n in
+    let y = skip tabs (past-past (digits-past r) (z .2)) (suc a) (inner false) in
+    (y .0, rw (digits-some 7 r (z .3) i l, past-drop (digits-past r), z .1, y .1) refl)
 
 pub head-read : (tabs : Bool) (a : ℕ) {h : ℕ} {t s : List ℕ} → Head h t s → Apart tabs s → Headed tabs a h (tokens tabs t 0 a fresh) s
 unfolding tokens step opening kind
-head-read tabs a (unsigned m) h = let z = parts-of m in unsigned-read tabs a (z .before) (z .behind) h
-head-read tabs a (positive m) h = let z = parts-of m in signed-read tabs a false (z .before) (z .behind) h
-head-read tabs a (negative m) h = let z = parts-of m in signed-read tabs a true (z .before) (z .behind) h
+head-read tabs a (unsigned m) h = let z = parts-of m in unsigned-read tabs a (z .some-digit) (z .few) (z .before) (z .behind) h
+head-read tabs a (positive m) h = let z = parts-of m in signed-read tabs a false (z .some-digit) (z .few) (z .before) (z .behind) h
+head-read tabs a (negative m) h = let z = parts-of m in signed-read tabs a true (z .some-digit) (z .few) (z .before) (z .behind) h
 
 -- ---- a head that is read is spelled
 
@@ -132,7 +134,7 @@ FollowingIs w n u (run h k) = (j : ℕ) × (k ≡ n + j) × Following w h u (dro
 scaled-is : (w n : ℕ) (u : List ℕ) (x : Run) → Follows 3 w u x → FollowingIs w n (46 ∷ u) (scaled n x)
 unfolding scaled
 scaled-is w n u long r = tt
-scaled-is w n u (run f k) r = (suc k, sym (add-suc n k), a-point (counted-fraction r))
+scaled-is w n u (run f k) r = (suc k, sym (add-suc n k), a-point (r .0) (r .1))
 
 following-is : (u : List ℕ) (w n : ℕ) → FollowingIs w n u (after-whole u w n)
 unfolding after-whole
@@ -146,19 +148,20 @@ abbrev pub MagnitudeIs : List ℕ → List ℕ → Run → Type 0
 MagnitudeIs t s long = Unit {0}
 MagnitudeIs t s (run h k) = Magnitude h t (drop k s)
 
-joined : (t s : List ℕ) (w n j : ℕ) → Numeral 6 w j t (drop n s) → (x : Run) → FollowingIs w n (drop n s) x → MagnitudeIs t s x
-joined t s w n j m long r = tt
-joined t s w n j m (run h k) r = rw (r .1, ← drop-drop (r .0) n s) (of-parts m (r .2))
+joined : (t s : List ℕ) (w n j : ℕ) → 0 < j → j ≤ 7 → SpelledDigits j 0 w t (drop n s) → (x : Run) → FollowingIs w n (drop n s) x → MagnitudeIs t s x
+joined t s w n j a l m long r = tt
+joined t s w n j a l m (run h k) r = rw (r .1, ← drop-drop (r .0) n s) (of-parts a l m (r .2))
 
 unsigned-whole : (d : ℕ) (s : List ℕ) → d < 10 → (x : Run) → Follows 6 d s x → MagnitudeIs ((48 + d) ∷ s) s (thousandths s x)
 unfolding thousandths
 unsigned-whole d s l long r = tt
-unsigned-whole d s l (run w n) r = joined ((48 + d) ∷ s) s w n (suc n) (numeral l r) (after-whole (drop n s) w n) (following-is (drop n s) w n)
+unsigned-whole d s l (run w n) r =
+    joined ((48 + d) ∷ s) s w n (suc n) (omega arith) (omega (arith, r .0)) (first-digit l (r .1)) (after-whole (drop n s) w n) (following-is (drop n s) w n)
 
-signed-whole : (s : List ℕ) (x : Run) → Begins 6 s x → MagnitudeIs s s (thousandths s x)
+signed-whole : (s : List ℕ) (x : Run) → Begins 7 s x → MagnitudeIs s s (thousandths s x)
 unfolding thousandths
 signed-whole s long r = tt
-signed-whole s (run w n) r = joined s s w n n r (after-whole (drop n s) w n) (following-is (drop n s) w n)
+signed-whole s (run w n) r = joined s s w n n (r .0) (r .1) (r .2) (after-whole (drop n s) w n) (following-is (drop n s) w n)
 
 -- a head of the sign m, whose first byte is b
 abbrev pub HeadIs : Bool → ℕ → List ℕ → Run → Type 0
@@ -178,4 +181,4 @@ pub unsigned-is : (d b : ℕ) (s : List ℕ) → d < 10 → b ≡ 48 + d → Hea
 unsigned-is d b s l e = rw e (no-sign (48 + d) s (thousandths s (digits s 6 d 0)) (unsigned-whole d s l (digits s 6 d 0) (follows s 6 d)))
 
 pub signed-is : (tabs m : Bool) (b : ℕ) (s : List ℕ) → Back tabs b (sign m) → HeadIs m b s (thousandths s (some (digits s 7 0 0)))
-signed-is tabs m b s e = a-sign tabs m b s e (thousandths s (some (digits s 7 0 0))) (signed-whole s (some (digits s 7 0 0)) (begins s 6))
+signed-is tabs m b s e = a-sign tabs m b s e (thousandths s (some (digits s 7 0 0))) (signed-whole s (some (digits s 7 0 0)) (begins s 7))

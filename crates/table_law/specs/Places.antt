@@ -1,18 +1,17 @@
 -- The place of a refusal lies in the body, or at its end. Assumes nothing.
-use mathlib.Core.Path.{_≡_, refl, sym, ap, _∙_}
 use mathlib.Core.Bool.{Bool, true, false}
 use mathlib.Core.List.{List, [], _∷_}
-use Prim.Native.Nat.{ℕ, zero, suc, _+_, _≤_, _<_}
+use Prim.Native.Nat.{ℕ, zero, suc, _+_, _≤_}
 use native.Mathlib.Omega.{arith}
 use lib.Dec.{ltb, leb}
 use lib.IntN.{ℤ}
-use lib.ListN.{length, drop}
-use Rattle.terms.specs.Logic.{pick, both, by-case}
+use lib.ListN.{length}
+use Rattle.terms.specs.Logic.{pick, both}
 use Rattle.alphabet_spec.specs.Digits.{Run, long, run, digits, some}
 use Rattle.alphabet_spec.specs.Bytes.{Byte, digit, lead, sign, quest, blank, point, lf, cr, dollar, other, kind}
 use Rattle.table_spec.specs.Frame.{Rules, rules, abscissa, longest-body, frame-legal}
-use Rattle.table_spec.specs.Values.{Value, own, gap, Form, Spot, first, after, lastOr, room, valueOf, index}
-use Rattle.table_spec.specs.Reading.{Tokens, over, fault, head, value, line, Ending, ends, none, ending, Mode, fresh, inner, ended, headed, valued, thousandths, opening, inside, step, stop, tokens, Says, adds, not, says, Answer, refuse, accept, push, bare, difBefore, took, checked, finish, judge, read, readTable}
+use Rattle.table_spec.specs.Values.{Value, own, Form, Spot, first, after, lastOr, room, valueOf, index}
+use Rattle.table_spec.specs.Reading.{Tokens, over, fault, head, value, line, Ending, ends, none, ending, Mode, fresh, inner, ended, headed, valued, thousandths, opening, inside, step, stop, tokens, Says, adds, refuses, says, Answer, refuse, accept, push, bare, difBefore, took, checked, finish, judge, read, readTable}
 
 -- every place is at most z
 abbrev pub Low : ℕ → Tokens → Type 0
@@ -104,7 +103,7 @@ picked z false x y h k = k
 module _ (R : Rules) (z : ℕ) where
   took-low : (f : ℕ → ℕ → Form → Answer) (a i p : ℕ) (x : Says) → a ≤ z → ((j q : ℕ) (g : Form) → LowAnswer z (f j q g)) → LowAnswer z (took R f a i p x)
   unfolding took
-  took-low f a i p (not c) l h = l
+  took-low f a i p (refuses c) l h = l
   took-low f a i p (adds vs r) l h =
       picked z (leb (i + length vs) (R .points)) (push vs (f (i + length vs) (lastOr p vs) r)) (refuse 11 a) (push-low z vs (f (i + length vs) (lastOr p vs) r) (h (i + length vs) (lastOr p vs) r)) l
 

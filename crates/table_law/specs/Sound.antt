@@ -12,12 +12,13 @@ use Rattle.alphabet_spec.specs.Digits.{Run, long, run, digits, some}
 use Rattle.alphabet_spec.specs.Bytes.{Byte, digit, lead, sign, quest, blank, point, lf, cr, dollar, other, kind}
 use Rattle.alphabet_spec.specs.KindLaws.{Back, kind-back}
 use Rattle.table_spec.specs.Frame.{Rules}
-use Rattle.table_spec.specs.Values.{Value, own, gap, Form, Own, isDif, Spot, first, after, lastOr, room, valueOf, index, headed-at}
+use Rattle.table_spec.specs.Values.{Value, own, gap, Form, Own, Gap, By, Dup, isDif, Spot, first, after, lastOr, room, valueOf, index, headed-at}
 use Rattle.table_spec.specs.Reading.{Tokens, over, fault, value, line, Ending, ends as ends-in, none as no-end, ending, thousandths, Mode, fresh, inner, Rest, ended}
-use Rattle.table_spec.specs.Reading.{headed, valued, opening, inside, step, stop, tokens, Says, adds, not, says, Answer, refuse, accept, push, bare, difBefore, took}
+use Rattle.table_spec.specs.Reading.{headed, valued, opening, inside, step, stop, tokens, Says, adds, refuses, says, Answer, refuse, accept, push, bare, difBefore, took}
 use Rattle.table_spec.specs.Reading.{checked, finish, judge, read}
 use Rattle.table_spec.specs.ReadingLaws.{no-accept}
-use Rattle.table_law.specs.Spelling.{Spelled, missing, Stands, LineEnd, over as end-over, Line, done, blank as with-blank, value as with-value, Body, end, indent, passed, row, Spells}
+use Rattle.table_law.specs.Spelling.{Spelled, missing, Stands, LineEnd, over as end-over, Line, done, blank as with-blank, value as with-value}
+use Rattle.table_law.specs.Spelling.{EndsInDif, own-not, gap-not, dif-does, dup-as, Belongs, last-given, next-point, Body, end, indent, passed, row, Spells}
 use Rattle.table_law.specs.Heads.{HeadIs, unsigned-is, signed-is as signed-head}
 use Rattle.table_law.specs.Tokens.{EndIs, ending-is, ValueIs, packed-is, plain-is, signed-is}
 use Rattle.table_law.specs.Meaning.{Said, said}
@@ -29,6 +30,17 @@ push-accept : (us : List ℕ) (x : Answer) (ys : List ℕ) → push us x ≡ acc
 unfolding push
 push-accept us (refuse c a) ys e = no-accept e
 push-accept us (accept zs) ys e = (zs, refl, cc)
+
+-- every form ends a line in DIF form or not, and every head belongs to an index
+pub ends : (r : Form) → EndsInDif r (isDif r)
+ends Own = own-not
+ends Gap = gap-not
+ends (By m d) = dif-does
+ends (Dup b) = dup-as
+
+belongs : (c : Bool) (i : ℕ) → Belongs c i (index c i)
+belongs true i = last-given
+belongs false i = next-point
 
 module _ (R : Rules) where
   finish-accept : (a i : ℕ) (c : Bool) (ys : List ℕ) → i ≤ R .points → finish R a i c ≡ accept ys → (i ≡ R .points) × (c ≡ false) × (ys ≡ [])
@@ -52,7 +64,7 @@ module _ (R : Rules) where
   record Taken (f : ℕ → ℕ → Form → Answer) (i p : ℕ) (w : Spot) (x : Value) (ys : List ℕ) : Type 0 where
     pub us : List ℕ
     pub form : Form
-    pub stands : Stands w p x us form
+    pub stands : Stands w p x us form (lastOr p us)
     pub fits : i + length us ≤ R .points
     pub zs : List ℕ
     pub rest : f (i + length us) (lastOr p us) form ≡ accept zs
@@ -60,7 +72,7 @@ module _ (R : Rules) where
 
   took-accept : (f : ℕ → ℕ → Form → Answer) (a i p : ℕ) (w : Spot) (x : Value) (ys : List ℕ) (y : Says) → Said w p x y → took R f a i p y ≡ accept ys → Taken f i p w x ys
   unfolding took
-  took-accept f a i p w x ys (not c) h e = no-accept e
+  took-accept f a i p w x ys (refuses c) h e = no-accept e
   took-accept f a i p w x ys (adds us r) h e =
       by-case (λ t. leb (i + length us) (R .points) ≡ t → pick t (push us (f (i + length us) (lastOr p us) r)) (refuse 11 a) ≡ accept ys → Taken f i p w x ys) (leb (i + length us) (R .points))
       (λ _ l e. let z = push-accept us (f (i + length us) (lastOr p us) r) ys e in
@@ -144,7 +156,7 @@ module _ (R : Rules) where
     heads m (run v k) h i p w ys n e =
         let z = checked-accept (λ c. judge R (K k (inner false)) i p (first c)) a (headed-at m v) (bare (K k (inner false))) i (difBefore w) ys e in
         let y = ih k (inner false) i p (first (difBefore w)) ys n (z .1) (z .2) in
-        rw (y .whole) (row h (z .0) (y .values) (y .body))
+        rw (y .whole) (row h (belongs (difBefore w) i) (z .0) (y .values) (ends (y .form)) (y .body))
 
     opens : (c : Byte) → Back (R .tabs) b c → From fresh (opening K a s c) (b ∷ s)
     unfolding opening

@@ -1,69 +1,84 @@
 -- Which texts spell which ordinates, said from the ordinates to the bytes (01, "Spelling of a body"). Nothing here runs a reader or takes a text apart. Assumes nothing.
--- `R x t s`: the text t is x, spelled, and then s.
+-- `R x t s`: the text t is x, spelled, and then s. With reading this shares the names of values, forms and spots and the frame's rules (how many points, which heads pass, is a tab a blank);
+-- every other rule is said here once more, in its own words.
 use mathlib.Core.Path.{_≡_}
 use mathlib.Core.Bool.{Bool, true, false}
 use mathlib.Core.List.{List, [], _∷_, _++_}
 use Prim.Native.Nat.{ℕ, zero, suc, _+_, _-_, _*_, _^_, _≤_, _<_}
 use lib.ListN.{length}
-use Rattle.alphabet_spec.specs.Kinds.{Lead, Pseudo, Blank}
-use Rattle.table_spec.specs.Frame.{Rules}
-use Rattle.table_spec.specs.Values.{Value, own, gap, by, times, Form, Own, Gap, By, Dup, isDif, Spot, first, after, ordinate, moved, copies, lastOr, room, valueOf, index, headed-at}
-
--- ---- numerals
-
--- at most m digits, which after the number v make the number w; leading zeros are digits like others
-pub data Digits : ℕ → ℕ → ℕ → List ℕ → List ℕ → Type 0 where
-  none : {m v : ℕ} {s : List ℕ} → Digits m v v s s
-  more : {m v w d : ℕ} {t s : List ℕ} → d < 10 → Digits m (v * 10 + d) w t s → Digits (suc m) v w ((48 + d) ∷ t) s
-
--- at most m digits after the point: what they make of the whole number v, in units of the m-th place
-pub data Fraction : ℕ → ℕ → ℕ → List ℕ → List ℕ → Type 0 where
-  stop : {m v : ℕ} {s : List ℕ} → Fraction m v (v * 10 ^ m) s s
-  next : {m v h d : ℕ} {t s : List ℕ} → d < 10 → Fraction m (v * 10 + d) h t s → Fraction (suc m) v h ((48 + d) ∷ t) s
+use Rattle.alphabet_spec.specs.Kinds.{sqz, dif, dup, Pseudo, Blank}
+use Rattle.alphabet_spec.specs.SpelledDigits.{SpelledDigits}
+use Rattle.table_spec.specs.Frame.{Rules, zero-abscissa, zero-ordinate}
+use Rattle.table_spec.specs.Values.{Value, own, gap, by, times, Form, Own, Gap, By, Dup, Spot, first, after}
 
 -- ---- "Head. Optional sign, 1 to 7 digits, then optionally a point and 0 to 3 digits"
 
 -- whole thousandths, without a sign
 pub data Magnitude : ℕ → List ℕ → List ℕ → Type 0 where
-  whole : {w d : ℕ} {t s : List ℕ} → d < 10 → Digits 6 d w t s → Magnitude (w * 1000) ((48 + d) ∷ t) s
-  pointed : {h w d : ℕ} {t u s : List ℕ} → d < 10 → Digits 6 d w t (46 ∷ u) → Fraction 3 w h u s → Magnitude h ((48 + d) ∷ t) s
+  whole : {n w : ℕ} {t s : List ℕ} → 0 < n → n ≤ 7 → SpelledDigits n 0 w t s → Magnitude (w * 1000) t s
+  pointed : {n k w v : ℕ} {t u s : List ℕ} → 0 < n → n ≤ 7 → SpelledDigits n 0 w t (46 ∷ u) → k ≤ 3 → SpelledDigits k w v u s → Magnitude (v * 10 ^ (3 - k)) t s
 
+-- the abscissa x, as x + 10^10
 pub data Head : ℕ → List ℕ → List ℕ → Type 0 where
-  unsigned : {h : ℕ} {t s : List ℕ} → Magnitude h t s → Head (headed-at false h) t s
-  positive : {h : ℕ} {t s : List ℕ} → Magnitude h t s → Head (headed-at false h) (43 ∷ t) s
-  negative : {h : ℕ} {t s : List ℕ} → Magnitude h t s → Head (headed-at true h) (45 ∷ t) s
+  unsigned : {h : ℕ} {t s : List ℕ} → Magnitude h t s → Head (zero-abscissa + h) t s
+  positive : {h : ℕ} {t s : List ℕ} → Magnitude h t s → Head (zero-abscissa + h) (43 ∷ t) s
+  negative : {h : ℕ} {t s : List ℕ} → Magnitude h t s → Head (zero-abscissa - h) (45 ∷ t) s
 
 -- ---- "Values": the kinds and how they are spelled. True: directly after a blank
 
 pub data Spelled : Bool → Value → List ℕ → List ℕ → Type 0 where
-  plus : {q : Bool} {v d : ℕ} {t s : List ℕ} → d < 10 → Digits 9 d v t s → Spelled q (own false v) (43 ∷ (48 + d) ∷ t) s
-  minus : {q : Bool} {v d : ℕ} {t s : List ℕ} → d < 10 → Digits 9 d v t s → Spelled q (own true v) (45 ∷ (48 + d) ∷ t) s
-  plain : {v d : ℕ} {t s : List ℕ} → d < 10 → Digits 9 d v t s → Spelled true (own false v) ((48 + d) ∷ t) s
-  packed : {q : Bool} {k : Lead} {b d v : ℕ} {t s : List ℕ} → Pseudo k d b → Digits (room k d) d v t s → Spelled q (valueOf k v) (b ∷ t) s
+  -- AFFN and PAC: "sign and 1 to 10 digits, or 1 to 10 digits directly after a blank"
+  plus : {q : Bool} {n v : ℕ} {t s : List ℕ} → 0 < n → n ≤ 10 → SpelledDigits n 0 v t s → Spelled q (own false v) (43 ∷ t) s
+  minus : {q : Bool} {n v : ℕ} {t s : List ℕ} → 0 < n → n ≤ 10 → SpelledDigits n 0 v t s → Spelled q (own true v) (45 ∷ t) s
+  plain : {n v : ℕ} {t s : List ℕ} → 0 < n → n ≤ 10 → SpelledDigits n 0 v t s → Spelled true (own false v) t s
+  -- SQZ and DIF: a pseudo-digit and at most 9 digits, but none after `@` and `%`
+  sqz-zero : {q : Bool} {s : List ℕ} → Spelled q (own false 0) (64 ∷ s) s
+  sqz-more : {q m : Bool} {n d b v : ℕ} {t s : List ℕ} → Pseudo (sqz m) d b → 0 < d → n ≤ 9 → SpelledDigits n d v t s → Spelled q (own m v) (b ∷ t) s
+  dif-zero : {q : Bool} {s : List ℕ} → Spelled q (by false 0) (37 ∷ s) s
+  dif-more : {q m : Bool} {n d b v : ℕ} {t s : List ℕ} → Pseudo (dif m) d b → 0 < d → n ≤ 9 → SpelledDigits n d v t s → Spelled q (by m v) (b ∷ t) s
+  -- DUP: a pseudo-digit and at most 4 digits
+  dup-more : {q : Bool} {n d b v : ℕ} {t s : List ℕ} → Pseudo dup d b → n ≤ 4 → SpelledDigits n d v t s → Spelled q (times v) (b ∷ t) s
   missing : {q : Bool} {s : List ℕ} → Spelled q gap (63 ∷ s) s
 
--- ---- "Meaning": the points that a value adds at a spot, after the ordinate p, and its form there
+-- ---- "Meaning": the points that a value adds at a spot, after the ordinate p; its form there, and the ordinate after it. An ordinate y is y + 2^31, a missing one 0
 
--- -2,147,483,647 to 2,147,483,647, as y + 2^31
+-- -2,147,483,647 to 2,147,483,647
 pub record Ordinate (u : ℕ) : Type 0 where
   pub low : 0 < u
   pub high : u < 4294967296
 
-pub data Ordinates : List ℕ → Type 0 where
-  all-none : Ordinates []
-  all-more : {u : ℕ} {us : List ℕ} → Ordinate u → Ordinates us → Ordinates (u ∷ us)
+-- an ordinate of its own, by its sign (true: minus) and size
+pub data Sized : Bool → ℕ → ℕ → Type 0 where
+  size-up : {v : ℕ} → v ≤ 2147483647 → Sized false v (zero-ordinate + v)
+  size-down : {v : ℕ} → v ≤ 2147483647 → Sized true v (zero-ordinate - v)
 
--- "The first value of a line is AFFN, SQZ or missing. DIF does not follow a missing ordinate; DUP does not follow DUP." A check line's first value equals the last point and adds none
-pub data Stands : Spot → ℕ → Value → List ℕ → Form → Type 0 where
-  check : {m : Bool} {v : ℕ} → v ≤ 2147483647 → Stands (first true) (ordinate m v) (own m v) [] Own
-  own-first : {m : Bool} {p v : ℕ} → v ≤ 2147483647 → Stands (first false) p (own m v) (ordinate m v ∷ []) Own
-  own-after : {m : Bool} {p v : ℕ} {r : Form} → v ≤ 2147483647 → Stands (after r) p (own m v) (ordinate m v ∷ []) Own
-  gap-first : {p : ℕ} → Stands (first false) p gap (0 ∷ []) Gap
-  gap-after : {p : ℕ} {r : Form} → Stands (after r) p gap (0 ∷ []) Gap
-  dif-after : {m : Bool} {p d : ℕ} {r : Form} → 0 < p → Ordinate (moved m d p) → Stands (after r) p (by m d) (moved m d p ∷ []) (By m d)
-  dup-own : {p n : ℕ} → 2 ≤ n → Stands (after Own) p (times n) (copies (n - 1) Own p) (Dup false)
-  dup-gap : {p n : ℕ} → 2 ≤ n → Stands (after Gap) p (times n) (copies (n - 1) Gap p) (Dup false)
-  dup-dif : {m : Bool} {p d n : ℕ} → 2 ≤ n → Ordinates (copies (n - 1) (By m d) p) → Stands (after (By m d)) p (times n) (copies (n - 1) (By m d) p) (Dup true)
+-- "DIF adds to the ordinate before it": from p by a difference of this sign and size
+pub data Step : Bool → ℕ → ℕ → ℕ → Type 0 where
+  up : {d p : ℕ} → Step false d p (p + d)
+  down : {d p : ℕ} → Step true d p (p - d)
+
+-- n further copies of a difference after p, each of them a step from the one before, and the last ordinate
+pub data Steps (m : Bool) (d : ℕ) : ℕ → ℕ → List ℕ → ℕ → Type 0 where
+  no-step : {p : ℕ} → Steps m d 0 p [] p
+  one-step : {n p u e : ℕ} {us : List ℕ} → Step m d p u → Ordinate u → Steps m d n u us e → Steps m d (suc n) p (u ∷ us) e
+
+-- n further copies of an ordinate
+abbrev pub same : ℕ → ℕ → List ℕ
+same zero u = []
+same (suc n) u = u ∷ same n u
+
+-- "The first value of a line is AFFN, SQZ or missing. DIF does not follow a missing ordinate; DUP does not follow DUP." A check line's first value equals the last point and adds none.
+-- "DUP with count c stands for c-1 further copies of the value before it (of the difference, if that was DIF); c is at least 2"
+pub data Stands : Spot → ℕ → Value → List ℕ → Form → ℕ → Type 0 where
+  check : {m : Bool} {p v : ℕ} → Sized m v p → Stands (first true) p (own m v) [] Own p
+  own-first : {m : Bool} {p u v : ℕ} → Sized m v u → Stands (first false) p (own m v) (u ∷ []) Own u
+  own-after : {m : Bool} {p u v : ℕ} {r : Form} → Sized m v u → Stands (after r) p (own m v) (u ∷ []) Own u
+  gap-first : {p : ℕ} → Stands (first false) p gap (0 ∷ []) Gap 0
+  gap-after : {p : ℕ} {r : Form} → Stands (after r) p gap (0 ∷ []) Gap 0
+  dif-after : {m : Bool} {p d u : ℕ} {r : Form} → 0 < p → Step m d p u → Ordinate u → Stands (after r) p (by m d) (u ∷ []) (By m d) u
+  dup-own : {p n : ℕ} → 1 ≤ n → Stands (after Own) p (times (suc n)) (same n p) (Dup false) p
+  dup-gap : {p n : ℕ} → 1 ≤ n → Stands (after Gap) p (times (suc n)) (same n p) (Dup false) p
+  dup-dif : {m : Bool} {p d n e : ℕ} {us : List ℕ} → 1 ≤ n → Steps m d n p us e → Stands (after (By m d)) p (times (suc n)) us (Dup true) e
 
 -- ---- comments and ends of lines
 
@@ -86,18 +101,30 @@ pub data LineEnd : List ℕ → List ℕ → Type 0 where
 pub data Line (tabs : Bool) : Bool → Spot → ℕ → List ℕ → Form → ℕ → List ℕ → List ℕ → Type 0 where
   done : {q : Bool} {r : Form} {p : ℕ} {t s : List ℕ} → LineEnd t s → Line tabs q (after r) p [] r p t s
   blank : {q : Bool} {w : Spot} {p e b : ℕ} {vs t s : List ℕ} {r : Form} → Blank tabs b → Line tabs true w p vs r e t s → Line tabs q w p vs r e (b ∷ t) s
-  value : {q : Bool} {w : Spot} {p e : ℕ} {x : Value} {us vs t u s : List ℕ} {f r : Form}
-      → Spelled q x t u → Stands w p x us f → Line tabs false (after f) (lastOr p us) vs r e u s → Line tabs q w p (us ++ vs) r e t s
+  value : {q : Bool} {w : Spot} {p y e : ℕ} {x : Value} {us vs t u s : List ℕ} {f r : Form}
+      → Spelled q x t u → Stands w p x us f y → Line tabs false (after f) y vs r e u s → Line tabs q w p (us ++ vs) r e t s
+
+-- "A DUP has the form of what it repeats": does a line end in DIF form, if its last value has this one?
+pub data EndsInDif : Form → Bool → Type 0 where
+  own-not : EndsInDif Own false
+  gap-not : EndsInDif Gap false
+  dif-does : {m : Bool} {d : ℕ} → EndsInDif (By m d) true
+  dup-as : {b : Bool} → EndsInDif (Dup b) b
+
+-- "Checks": the index that a head belongs to after i points: on a check line (true) that of the last one given, else that of the next
+pub data Belongs : Bool → ℕ → ℕ → Type 0 where
+  last-given : {i : ℕ} → Belongs true i (i - 1)
+  next-point : {i : ℕ} → Belongs false i i
 
 -- the lines of a body after i points, the last of them p; true: the line before ended in DIF form, so the next one is a check line. It ends with N points and not in DIF form
 pub data Body (R : Rules) : ℕ → ℕ → Bool → List ℕ → List ℕ → Type 0 where
   end : {p : ℕ} → Body R (R .points) p false [] []
   indent : {i p b : ℕ} {c : Bool} {ys s : List ℕ} → Blank (R .tabs) b → Body R i p c ys s → Body R i p c ys (b ∷ s)
   passed : {i p : ℕ} {c : Bool} {ys t s : List ℕ} → LineEnd t s → Body R i p c ys s → Body R i p c ys t
-  row : {i p e h : ℕ} {c : Bool} {vs ys t u s : List ℕ} {r : Form}
-      → Head h t u → R .passing h (index c i) ≡ true
-      → Line (R .tabs) false (first c) p vs r e u s
-      → Body R (i + length vs) e (isDif r) ys s
+  row : {i j p e h : ℕ} {c d : Bool} {vs ys t u s : List ℕ} {r : Form}
+      → Head h t u → Belongs c i j → R .passing h j ≡ true
+      → Line (R .tabs) false (first c) p vs r e u s → EndsInDif r d
+      → Body R (i + length vs) e d ys s
       → Body R i p c (vs ++ ys) t
 
 -- these bytes are a spelling of these ordinates under these rules

@@ -2,19 +2,23 @@
 use mathlib.Core.Path.{_≡_, refl, ap}
 use mathlib.Core.Bool.{Bool, true, false}
 use mathlib.Core.List.{List, [], _∷_}
-use Prim.Native.Nat.{ℕ, suc, _+_, _<_}
+use Prim.Native.Nat.{ℕ, zero, suc, _+_, _*_, _≤_, _<_}
+use native.Mathlib.Omega.{arith}
 use lib.Dec.{eqb}
 use lib.ListN.{drop}
 use borrow.Author.Tests.{ne-eqb, eqb-true, eqb-false}
 use Rattle.terms.specs.Logic.{pick, by-case}
-use Rattle.alphabet_spec.specs.Kinds.{Lead, Pseudo}
+use Rattle.alphabet_spec.specs.Kinds.{Lead, sqz, dif, dup, Pseudo, sqz-up, sqz-down, dif-zero, dif-up, dif-down}
 use Rattle.alphabet_spec.specs.Digits.{Run, long, run, digits, some}
 use Rattle.alphabet_spec.specs.Bytes.{Byte, digit, lead, sign, quest, blank, point, lf, cr, dollar, other, kind}
 use Rattle.alphabet_spec.specs.KindLaws.{digit-kind, pseudo-kind, Back}
+use Rattle.alphabet_spec.specs.SpelledDigits.{SpelledDigits, none, more}
+use Rattle.alphabet_spec.specs.SpelledDigitLaws.{first-digit, digits-run, digits-some, Follows, follows, Begins, begins}
 use Rattle.table_spec.specs.Values.{Value, own, room, valueOf}
 use Rattle.table_spec.specs.Reading.{Tokens, value, line, comment, Ending, ends as ends-in, none as no-end, ending, fresh, inner, valued, opening, inside, step, stop, tokens}
-use Rattle.table_law.specs.Spelling.{Spelled, plus, minus, plain, packed, missing, Comment, cut, ends, any, LineEnd, over as end-over, lf as end-lf, cr-lf, comment as end-comment}
-use Rattle.table_law.specs.Runs.{digits-counted, counted-digits, Numeral, numeral, Past, here, byte, counted-past, numeral-past, run-zero, some-of, Follows, follows, Begins, begins}
+use Rattle.table_law.specs.Spelling.{Spelled, plus, minus, plain, sqz-zero, sqz-more, dif-zero as dif-none, dif-more, dup-more, missing, Comment, cut, ends, any}
+use Rattle.table_law.specs.Spelling.{LineEnd, over as end-over, lf as end-lf, cr-lf, comment as end-comment}
+use Rattle.table_law.specs.Runs.{Past, here, byte, digits-past}
 use Rattle.table_law.specs.Heads.{Apart, apart-digit, skip}
 
 -- ---- an end of a line that is spelled is read
@@ -46,22 +50,44 @@ end-inner tabs (end-comment r) a q = let z = skip tabs (comment-past r) (suc (su
 abbrev pub Token : Bool → ℕ → Value → Tokens → List ℕ → Type 0
 Token tabs a x y s = (c : ℕ) × (y ≡ value a x (tokens tabs s 0 c (inner false)))
 
-signed-read : (tabs : Bool) (a : ℕ) (m : Bool) {v j : ℕ} {t s : List ℕ} → Numeral 9 v j t s → Apart tabs s
+signed-read : (tabs : Bool) (a : ℕ) (m : Bool) {n v : ℕ} {t s : List ℕ} → 0 < n → n ≤ 10 → SpelledDigits n 0 v t s → Apart tabs s
     → Token tabs a (own m v) (valued (λ n. tokens tabs t n (suc a)) a (own m) (some (digits t 10 0 0))) s
-signed-read tabs a m {s = s} r h = let y = skip tabs (numeral-past r) (suc a) (inner false) in (y .0, rw (some-of r (apart-digit tabs s h), y .1) refl)
+signed-read tabs a m {s = s} i l r h = let y = skip tabs (digits-past r) (suc a) (inner false) in (y .0, rw (digits-some 10 r (apart-digit tabs s h) i l, y .1) refl)
+
+plain-read : (tabs : Bool) (a : ℕ) {n v : ℕ} {t s : List ℕ} → 0 < n → n ≤ 10 → SpelledDigits n 0 v t s → Apart tabs s → Token tabs a (own false v) (tokens tabs t 0 a (inner true)) s
+unfolding tokens step inside
+plain-read tabs a i l none h = absurd (omega arith)
+plain-read tabs a {s = s} i l (more {d = d} b r) h =
+    let y = skip tabs (digits-past r) (suc a) (inner false) in
+    let e : 0 * 10 + d ≡ d = omega arith in
+    (y .0, rw (digit-kind tabs d b, rw e at (digits-run 9 r (apart-digit tabs s h) (omega arith)), y .1) refl)
+
+-- a pseudo-digit and no more digits than there is room for
+packed-read : (tabs : Bool) (a : ℕ) (q : Bool) {k : Lead} {n d b v : ℕ} {t s : List ℕ} → Pseudo k d b → n ≤ room k d → SpelledDigits n d v t s → Apart tabs s
+    → Token tabs a (valueOf k v) (tokens tabs (b ∷ t) 0 a (inner q)) s
+unfolding tokens step inside
+packed-read tabs a q {k = k} {d = d} {s = s} g l r h =
+    let y = skip tabs (digits-past r) (suc a) (inner false) in
+    (y .0, rw (pseudo-kind tabs g, digits-run (room k d) r (apart-digit tabs s h) l, y .1) refl)
+
+sqz-room : (m : Bool) (d : ℕ) → 0 < d → room (sqz m) d ≡ 9
+sqz-room m zero h = absurd (omega arith)
+sqz-room m (suc d) h = refl
+
+dif-room : (m : Bool) (d : ℕ) → 0 < d → room (dif m) d ≡ 9
+dif-room m zero h = absurd (omega arith)
+dif-room m (suc d) h = refl
 
 pub value-read : (tabs : Bool) (a : ℕ) {q : Bool} {x : Value} {t s : List ℕ} → Spelled q x t s → Apart tabs s → Token tabs a x (tokens tabs t 0 a (inner q)) s
 unfolding tokens step inside kind
-value-read tabs a (plus l r) h = signed-read tabs a false (numeral l (digits-counted r .1)) h
-value-read tabs a (minus l r) h = signed-read tabs a true (numeral l (digits-counted r .1)) h
-value-read tabs a (plain {d = d} {s = s} l r) h =
-    let z = digits-counted r in
-    let y = skip tabs (counted-past (z .1)) (suc a) (inner false) in
-    (y .0, rw (digit-kind tabs d l, run-zero (z .1) (apart-digit tabs s h), y .1) refl)
-value-read tabs a (packed {s = s} g r) h =
-    let z = digits-counted r in
-    let y = skip tabs (counted-past (z .1)) (suc a) (inner false) in
-    (y .0, rw (pseudo-kind tabs g, run-zero (z .1) (apart-digit tabs s h), y .1) refl)
+value-read tabs a (plus i l r) h = signed-read tabs a false i l r h
+value-read tabs a (minus i l r) h = signed-read tabs a true i l r h
+value-read tabs a (plain i l r) h = plain-read tabs a i l r h
+value-read tabs a {q} sqz-zero h = packed-read tabs a q (sqz-up (omega arith)) (omega arith) none h
+value-read tabs a {q} (sqz-more {m = m} {d = d} g z l r) h = packed-read tabs a q g (rw (sqz-room m d z) l) r h
+value-read tabs a {q} dif-none h = packed-read tabs a q dif-zero (omega arith) none h
+value-read tabs a {q} (dif-more {m = m} {d = d} g z l r) h = packed-read tabs a q g (rw (dif-room m d z) l) r h
+value-read tabs a {q} (dup-more g l r) h = packed-read tabs a q g l r h
 value-read tabs a missing h = (suc a, refl)
 
 -- ---- an end of a line that is read is spelled
@@ -103,27 +129,42 @@ abbrev pub ValueIs : Bool → (ℕ → Value) → ℕ → List ℕ → Run → T
 ValueIs q f b s long = Unit {0}
 ValueIs q f b s (run v k) = Spelled q (f v) (b ∷ s) (drop k s)
 
+-- `@` and `%`
+sqz-at-zero : {m : Bool} {d b : ℕ} → Pseudo (sqz m) d b → d ≡ 0 → (m ≡ false) × (b ≡ 64)
+sqz-at-zero (sqz-up l) e = (refl, omega arith)
+sqz-at-zero (sqz-down z l) e = absurd (omega arith)
+
+dif-at-zero : {m : Bool} {d b : ℕ} → Pseudo (dif m) d b → d ≡ 0 → (m ≡ false) × (b ≡ 37)
+dif-at-zero dif-zero e = (refl, refl)
+dif-at-zero (dif-up z l) e = absurd (omega arith)
+dif-at-zero (dif-down z l) e = absurd (omega arith)
+
+no-digits : {n v w : ℕ} {t s : List ℕ} → SpelledDigits n v w t s → n ≤ 0 → (n ≡ 0) × (w ≡ v)
+no-digits none l = (refl, refl)
+no-digits (more b r) l = absurd (omega arith)
+
 packs : (q : Bool) (k : Lead) (d b : ℕ) (s : List ℕ) → Pseudo k d b → (x : Run) → Follows (room k d) d s x → ValueIs q (valueOf k) b s x
 packs q k d b s g long r = tt
-packs q k d b s g (run v j) r = packed g (counted-digits r)
+packs q (sqz m) zero b s g (run v j) r = let z = sqz-at-zero g refl in let y = no-digits (r .1) (r .0) in rw (y .0, y .1, z .0, z .1) sqz-zero
+packs q (sqz m) (suc d) b s g (run v j) r = sqz-more g (omega arith) (r .0) (r .1)
+packs q (dif m) zero b s g (run v j) r = let z = dif-at-zero g refl in let y = no-digits (r .1) (r .0) in rw (y .0, y .1, z .0, z .1) dif-none
+packs q (dif m) (suc d) b s g (run v j) r = dif-more g (omega arith) (r .0) (r .1)
+packs q dup d b s g (run v j) r = dup-more g (r .0) (r .1)
 
 pub packed-is : (q : Bool) (k : Lead) (d b : ℕ) (s : List ℕ) → Pseudo k d b → ValueIs q (valueOf k) b s (digits s (room k d) d 0)
 packed-is q k d b s g = packs q k d b s g (digits s (room k d) d 0) (follows s (room k d) d)
 
 plains : (d b : ℕ) (s : List ℕ) → d < 10 → b ≡ 48 + d → (x : Run) → Follows 9 d s x → ValueIs true (own false) b s x
 plains d b s l e long r = tt
-plains d b s l e (run v j) r = rw e (plain l (counted-digits r))
+plains d b s l e (run v j) r = rw e (plain {n = suc j} (omega arith) (omega (arith, r .0)) (first-digit l (r .1)))
 
 pub plain-is : (d b : ℕ) (s : List ℕ) → d < 10 → b ≡ 48 + d → ValueIs true (own false) b s (digits s 9 d 0)
 plain-is d b s l e = plains d b s l e (digits s 9 d 0) (follows s 9 d)
 
-with-sign : (tabs q m : Bool) (b : ℕ) → Back tabs b (sign m) → (v j : ℕ) (t s : List ℕ) → Numeral 9 v j t s → Spelled q (own m v) (b ∷ t) s
-with-sign tabs q true b e v j t s (numeral l r) = rw e (minus l (counted-digits r))
-with-sign tabs q false b e v j t s (numeral l r) = rw e (plus l (counted-digits r))
-
-signs : (tabs q m : Bool) (b : ℕ) (s : List ℕ) → Back tabs b (sign m) → (x : Run) → Begins 9 s x → ValueIs q (own m) b s x
+signs : (tabs q m : Bool) (b : ℕ) (s : List ℕ) → Back tabs b (sign m) → (x : Run) → Begins 10 s x → ValueIs q (own m) b s x
 signs tabs q m b s e long r = tt
-signs tabs q m b s e (run v j) r = with-sign tabs q m b e v j s (drop j s) r
+signs tabs q true b s e (run v j) r = rw e (minus (r .0) (r .1) (r .2))
+signs tabs q false b s e (run v j) r = rw e (plus (r .0) (r .1) (r .2))
 
 pub signed-is : (tabs q m : Bool) (b : ℕ) (s : List ℕ) → Back tabs b (sign m) → ValueIs q (own m) b s (some (digits s 10 0 0))
-signed-is tabs q m b s e = signs tabs q m b s e (some (digits s 10 0 0)) (begins s 9)
+signed-is tabs q m b s e = signs tabs q m b s e (some (digits s 10 0 0)) (begins s 10)

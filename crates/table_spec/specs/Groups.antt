@@ -4,9 +4,9 @@ use mathlib.Core.List.{List, [], _∷_, _++_}
 use Prim.Native.Nat.{ℕ, zero, suc, _+_, _-_}
 use lib.Dec.{leb, eqb}
 use Rattle.terms.specs.Logic.{pick, both}
-use Rattle.alphabet_spec.specs.Kinds.{Lead, sqz, dif, dup}
+use Rattle.alphabet_spec.specs.Kinds.{sqz, dif, dup}
 use Rattle.table_spec.specs.Frame.{zero-ordinate}
-use Rattle.table_spec.specs.Values.{Form, Own, Gap, By, Dup, isDif}
+use Rattle.table_spec.specs.Values.{Form, Own, Gap, By, Dup}
 use Rattle.table_spec.specs.Numerals.{numeral}
 
 -- the form of the ordinate y after p (0: none on this line, or missing): "A line's first value is SQZ (or `?`); a value after `?` is SQZ or `?`; all others are DIF"

@@ -6,11 +6,11 @@ use Prim.Native.Nat.{ℕ}
 use lib.IntN.{pos}
 use Rattle.alphabet_spec.specs.Digits.{digits}
 use Rattle.alphabet_spec.specs.Bytes.{kind}
-use Rattle.table_spec.specs.Frame.{frame-legal, passes, exact, nearest, ordinate-of, entry-for}
+use Rattle.table_spec.specs.Frame.{frame-legal, passes, exact, nearest, entry-for}
 use Rattle.table_spec.specs.Reading.{Answer, refuse, accept, readTable, read, judge, tokens, comment, ending, scaled, pointed, thousandths, opening, inside, step, stop, again, says, push, took, checked, finish}
 use Rattle.table_spec.specs.Numerals.{top, low, numeral, fraction, magnitude, headText}
 use Rattle.table_spec.specs.Groups.{form, sqzText, tokenText, many, dupText, group}
-use Rattle.table_spec.specs.Writing.{Outcome, declined, wrote, writeTable, written, lines-of, text, put, check, open-line, go-on, close}
+use Rattle.table_spec.specs.Writing.{wrote, writeTable, written, lines-of, text, put, check, open-line, go-on, close}
 use mathlib.Core.List.{map}
 
 -- a body and its answer; or ordinates and their text
@@ -50,6 +50,30 @@ samples =
     writes (2147483649 ∷ 0 ∷ 0 ∷ 2147483650 ∷ []) (48 ∷ 65 ∷ 63 ∷ 84 ∷ 66 ∷ 13 ∷ 10 ∷ []) ∷
     []
 
+-- ---- ours: what 01's proved samples leave out
+
+unfoldable pub ours : List Sample
+ours =
+    -- `0AJU/3D`: 1 2 3 4: the DUP repeats the difference, 1, not the ordinate
+    reads (48 ∷ 65 ∷ 74 ∷ 85 ∷ 10 ∷ 51 ∷ 68 ∷ []) (accept (2147483649 ∷ 2147483650 ∷ 2147483651 ∷ 2147483652 ∷ [])) ∷
+    -- `0%5`: 5 at 1: no digit after `%`
+    reads (48 ∷ 37 ∷ 53 ∷ []) (refuse 5 1) ∷
+    -- `0?UB`: missing missing missing 2
+    reads (48 ∷ 63 ∷ 85 ∷ 66 ∷ []) (accept (0 ∷ 0 ∷ 0 ∷ 2147483650 ∷ [])) ∷
+    -- `0?TJ`: 8 at 3: through the DUP the ordinate before is missing
+    reads (48 ∷ 63 ∷ 84 ∷ 74 ∷ []) (refuse 8 3) ∷
+    -- `0A0J/1A1U`: 10 11 11 11: a DUP after a check value repeats that ordinate
+    reads (48 ∷ 65 ∷ 48 ∷ 74 ∷ 10 ∷ 49 ∷ 65 ∷ 49 ∷ 85 ∷ []) (accept (2147483658 ∷ 2147483659 ∷ 2147483659 ∷ 2147483659 ∷ [])) ∷
+    -- `1..A`: 6 at 0: the head `1.` fails, and the second point stands later
+    reads (49 ∷ 46 ∷ 46 ∷ 65 ∷ []) (refuse 6 0) ∷
+    -- `0A$$` CR `B/1AAA`: 1 1 1 1: in a comment CR is a byte like others
+    reads (48 ∷ 65 ∷ 36 ∷ 36 ∷ 13 ∷ 66 ∷ 10 ∷ 49 ∷ 65 ∷ 65 ∷ 65 ∷ []) (accept (2147483649 ∷ 2147483649 ∷ 2147483649 ∷ 2147483649 ∷ [])) ∷
+    -- `0A` CR: 3 at 2: CR without LF
+    reads (48 ∷ 65 ∷ 13 ∷ []) (refuse 3 2) ∷
+    []
+
+-- ---- the theorem
+
 -- a sample holds, of the definitions of reading and writing, with room for 4 ordinates or 80 bytes
 abbrev pub Holds : Sample → Type 0
 Holds (reads s a) = readTable (pos 0) (pos 3000) 4 s 4 ≡ a
@@ -59,6 +83,11 @@ abbrev pub AllHold : List Sample → Type 0
 AllHold [] = Unit {0}
 AllHold (x ∷ xs) = Holds x × AllHold xs
 
-pub samples-hold : AllHold samples
-unfolding samples readTable read frame-legal passes exact nearest kind digits judge tokens comment ending scaled pointed thousandths opening inside step stop again says push took checked finish writeTable written lines-of text put check open-line go-on close group many form tokenText sqzText dupText numeral top low fraction magnitude headText
-samples-hold = (refl, (refl, (refl, (refl, (refl, (refl, (refl, (refl, (refl, (refl, (refl, (refl, (refl, (refl, tt))))))))))))))
+pub samples-hold : AllHold samples × AllHold ours
+unfolding samples ours readTable read frame-legal passes exact nearest kind digits judge tokens comment ending scaled pointed thousandths opening
+    inside step stop again says push took checked finish writeTable written lines-of text put check open-line go-on close group many form tokenText
+    sqzText dupText numeral top low fraction magnitude headText
+samples-hold = (
+  (refl, (refl, (refl, (refl, (refl, (refl, (refl, (refl, (refl, (refl, (refl, (refl, (refl, (refl, tt)))))))))))))),
+  (refl, (refl, (refl, (refl, (refl, (refl, (refl, (refl, tt)))))))),
+)

@@ -8,13 +8,13 @@ use lib.Dec.{ltb, leb, eqb}
 use borrow.Author.Tests.{le-leb, lt-leb, lt-ltb, le-ltb, eq-eqb, ne-eqb}
 use Rattle.terms.specs.Logic.{pick, by-case}
 use Rattle.table_spec.specs.Values.{Value, own, gap, by, times, Form, Own, Gap, By, Dup, Spot, first, after, ordinate, moved, copies, lastOr}
-use Rattle.table_spec.specs.Reading.{Says, adds, not, says, again, inRange, allIn}
+use Rattle.table_spec.specs.Reading.{Says, adds, refuses, says, again, inRange, allIn}
 use Rattle.table_values.specs.States.{shiftedTo, Reaches, Codes, own as codes-own, gap as codes-gap, dif, dup-not, dup-dif, Holds, opening, checking, going}
 use Rattle.table_values.proofs.Moves.{Shifts, shift-none, steps-in, steps-last, own-copies, gap-copies, same-last, copies-length}
 
 -- ---- a missing ordinate
 
-pub gap-asked : {q want d form p : ℕ} {w : Spot} → Holds q want d form p w → (want ≡ 0 → ⊥) → says w p gap ≡ not 10
+pub gap-asked : {q want d form p : ℕ} {w : Spot} → Holds q want d form p w → (want ≡ 0 → ⊥) → says w p gap ≡ refuses 10
 unfolding says
 gap-asked opening n = absurd (n refl)
 gap-asked (checking h) n = refl
@@ -28,7 +28,7 @@ gap-free (going h) n = refl
 
 -- ---- an ordinate of its own
 
-pub own-large : {q want d form p : ℕ} {w : Spot} (m : Bool) (v : ℕ) → Holds q want d form p w → 2147483647 < v → says w p (own m v) ≡ not 9
+pub own-large : {q want d form p : ℕ} {w : Spot} (m : Bool) (v : ℕ) → Holds q want d form p w → 2147483647 < v → says w p (own m v) ≡ refuses 9
 unfolding says
 own-large m v opening l = rw (lt-leb v 2147483647 l) refl
 own-large m v (checking h) l = rw (lt-leb v 2147483647 l) refl
@@ -40,7 +40,7 @@ own-free m v opening l n = rw (le-leb v 2147483647 l) refl
 own-free m v (checking h) l n = absurd (omega arith)
 own-free m v (going h) l n = rw (le-leb v 2147483647 l) refl
 
-pub own-unequal : {q want d form p : ℕ} {w : Spot} (m : Bool) (v : ℕ) → Holds q want d form p w → v ≤ 2147483647 → (want ≡ 0 → ⊥) → (ordinate m v ≡ want → ⊥) → says w p (own m v) ≡ not 10
+pub own-unequal : {q want d form p : ℕ} {w : Spot} (m : Bool) (v : ℕ) → Holds q want d form p w → v ≤ 2147483647 → (want ≡ 0 → ⊥) → (ordinate m v ≡ want → ⊥) → says w p (own m v) ≡ refuses 10
 unfolding says
 own-unequal m v opening l n e = absurd (n refl)
 own-unequal m v (checking {p = p} h) l n e = rw (le-leb v 2147483647 l, ne-eqb (ordinate m v) p e) refl
@@ -55,13 +55,13 @@ own-equal m v (going h) l n e = absurd (n refl)
 
 -- ---- a difference
 
-pub dif-none : {q want d form p : ℕ} {w : Spot} (m : Bool) (v : ℕ) → Holds q want d form p w → q ≡ 0 → says w p (by m v) ≡ not 8
+pub dif-none : {q want d form p : ℕ} {w : Spot} (m : Bool) (v : ℕ) → Holds q want d form p w → q ≡ 0 → says w p (by m v) ≡ refuses 8
 unfolding says
 dif-none m v opening z = refl
 dif-none m v (checking h) z = refl
 dif-none m v (going {q = q} h) z = rw (eq-eqb q 0 z) refl
 
-pub dif-out : {q want d form p : ℕ} {w : Spot} (m : Bool) (v : ℕ) → Holds q want d form p w → (q ≡ 0 → ⊥) → shiftedTo m v q ≡ 0 → says w p (by m v) ≡ not 9
+pub dif-out : {q want d form p : ℕ} {w : Spot} (m : Bool) (v : ℕ) → Holds q want d form p w → (q ≡ 0 → ⊥) → shiftedTo m v q ≡ 0 → says w p (by m v) ≡ refuses 9
 unfolding says
 dif-out m v opening z o = absurd (z refl)
 dif-out m v (checking h) z o = absurd (z refl)
@@ -76,11 +76,11 @@ dif-adds m v u (going {q = q} h) z g = rw (ne-eqb q 0 z, g .inside, g .is) refl
 -- ---- a DUP
 
 -- where none may stand, whatever its count
-again-not : (b : Bool) (n p : ℕ) → pick (ltb n 2) (not 8) (again (Dup b) (n - 1) p) ≡ not 8
+again-not : (b : Bool) (n p : ℕ) → pick (ltb n 2) (refuses 8) (again (Dup b) (n - 1) p) ≡ refuses 8
 unfolding again
-again-not b n p = by-case (λ t. pick t (not 8) (not 8) ≡ not 8) (ltb n 2) (λ _. refl) (λ _. refl)
+again-not b n p = by-case (λ t. pick t (refuses 8) (refuses 8) ≡ refuses 8) (ltb n 2) (λ _. refl) (λ _. refl)
 
-pub dup-nowhere : {q want d form p : ℕ} {w : Spot} (n : ℕ) → Holds q want d form p w → form < 2 → says w p (times n) ≡ not 8
+pub dup-nowhere : {q want d form p : ℕ} {w : Spot} (n : ℕ) → Holds q want d form p w → form < 2 → says w p (times n) ≡ refuses 8
 unfolding says
 dup-nowhere n opening l = refl
 dup-nowhere n (checking h) l = refl
@@ -90,7 +90,7 @@ dup-nowhere n (going (dif a b c)) l = absurd (omega arith)
 dup-nowhere n (going {q = q} dup-not) l = again-not false n q
 dup-nowhere n (going {q = q} (dup-dif c)) l = again-not true n q
 
-pub dup-few : {q want d form p : ℕ} {w : Spot} (n : ℕ) → Holds q want d form p w → n < 2 → says w p (times n) ≡ not 8
+pub dup-few : {q want d form p : ℕ} {w : Spot} (n : ℕ) → Holds q want d form p w → n < 2 → says w p (times n) ≡ refuses 8
 unfolding says
 dup-few n opening l = refl
 dup-few n (checking h) l = refl
@@ -126,7 +126,7 @@ module _ {m : Bool} {d q : ℕ} (n : ℕ) (l : 1 ≤ n) (h : q < 4294967296) {w 
   steps-range : allIn (copies n (By m d) q) ≡ inRange (moved m (d * n) q)
   steps-range = let z : n ≡ suc (n - 1) = omega arith in subst (λ (i : ℕ). allIn (copies i (By m d) q) ≡ inRange (moved m (d * i) q)) (sym z) (steps-in m d (n - 1) q (g .some) h)
 
-  pub dup-out : shiftedTo m (d * n) q ≡ 0 → says w p (times (n + 1)) ≡ not 9
+  pub dup-out : shiftedTo m (d * n) q ≡ 0 → says w p (times (n + 1)) ≡ refuses 9
   unfolding says again
   dup-out o = let z : n + 1 - 1 ≡ n = omega arith in rw (g .spot, g .before, le-ltb (n + 1) 2 (omega arith), z, steps-range, shift-none m (d * n) q o) refl
 

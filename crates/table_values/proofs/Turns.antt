@@ -15,7 +15,7 @@ use Rattle.terms.specs.Logic.{pick, by-case}
 use Rattle.alphabet_spec.specs.Entries.{entryAt}
 use Rattle.table_spec.specs.Frame.{entry-for}
 use Rattle.table_spec.specs.Values.{Value, Form, Spot, first, after, lastOr}
-use Rattle.table_spec.specs.Reading.{Tokens, fault, line, fresh, Says, adds, not, says, Answer, refuse, accept, push, took, judge}
+use Rattle.table_spec.specs.Reading.{Tokens, fault, line, fresh, Says, adds, refuses, says, Answer, refuse, accept, push, took, judge}
 use Rattle.table_lines.specs.Seen.{seen, behind, here}
 use Rattle.table_lines.specs.Ends.{Blanked, Ended}
 use Rattle.table_lines.specs.declared.Ending.the-variants.{Next, Bad}
@@ -34,7 +34,7 @@ stored-then (u ∷ us) vs out k = rw (add-suc k (length us), ← suc-add k (leng
 
 module _ (N : ℕ) (passing : ℕ → ℕ → Bool) (s : List ℕ) {at j f : ℕ} {x : Value} (t : Token s at x j f) (k p : ℕ) (w : Spot) where
   -- it is refused by what it says
-  pub value-not : (n : ℕ) → says w p x ≡ not n → judge (ruled N passing) (here s at) k p w ≡ refuse n at
+  pub value-not : (n : ℕ) → says w p x ≡ refuses n → judge (ruled N passing) (here s at) k p w ≡ refuse n at
   unfolding judge took
   value-not n e = rw (t .law, e) refl
 

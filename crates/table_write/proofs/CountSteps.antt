@@ -1,7 +1,7 @@
 -- What the counting of groups needs. No place of the code is named here. Assumes nothing.
 use mathlib.Core.Path.{_≡_, refl, sym, ap, _∙_}
 use mathlib.Core.Bool.{Bool, true, false}
-use mathlib.Core.List.{List, [], _++_}
+use mathlib.Core.List.{List, _++_}
 use Prim.Native.Nat.{ℕ, _+_, _-_, _≤_, _<_}
 use native.Mathlib.Omega.{arith}
 use lib.Dec.{ltb, eqb}
@@ -19,7 +19,8 @@ use Rattle.table_write.specs.Pieces.{Ahead, ahead-of, put-length, sets-p
 use Rattle.table_write.specs.Tokens.{run, TokenFor, Found, group-at, lone}
 use Rattle.table_write.specs.Lines.{from, next-state, after, Started, line-state, Wrote, NewLine, Counted, Full, difference-state}
 use Rattle.table_write.proofs.TokenSteps.{found, again-not, dif-up, dif-same, dif-down}
-use Rattle.table_write.proofs.TextSteps.{from-fits, group-slim}
+use Rattle.table_write.proofs.TextSteps.{from-fits}
+use Rattle.table_write_law.specs.Lengths.{group-slim}
 use Rattle.table_write.proofs.LineSteps.{left-break}
 
 -- ---- the width of a lone difference

@@ -6,56 +6,18 @@ use Prim.Native.Nat.{ℕ, zero, suc, _+_, _-_, _≤_, _<_}
 use native.Mathlib.Omega.{arith}
 use native.Mathlib.Nat.{add-zero, add-suc, suc-add, not-suc-le-zero, le-of-suc-le-suc}
 use native.Mathlib.Numerals.{add-one}
-use lib.Dec.{leb}
-use lib.ListN.{length, getD, take, drop, length-append, length-drop, drop-of-length-le}
+use lib.ListN.{length, getD, take, drop, length-drop, drop-of-length-le}
 use lib.Seq.{drop-cons, drop-drop}
 use borrow.Author.Tests.{le-leb, lt-leb}
-use Rattle.terms.specs.Logic.{pick, by-case}
-use Rattle.alphabet_spec.specs.Kinds.{Lead, sqz}
-use Rattle.table_spec.specs.Frame.{zero-ordinate}
-use Rattle.table_spec.specs.Values.{Form, Own, Gap, By, Dup, lastOr}
-use Rattle.table_spec.specs.Numerals.{numeral}
-use Rattle.table_spec.specs.Groups.{form, sqzText, tokenText, alike, many, dupText, group}
+use Rattle.terms.specs.Logic.{pick}
+use Rattle.table_spec.specs.Values.{lastOr}
+use Rattle.table_spec.specs.Groups.{form}
 use Rattle.table_spec.specs.Writing.{put, check, open-line, go-on, close, text, lines-of}
+use Rattle.table_write_law.specs.Tokens.{many-le}
+use Rattle.table_write_law.specs.Lengths.{group-slim}
 use Rattle.table_write.specs.declared.State.{State}
-use Rattle.table_write.specs.Digits.{length-low, further-le}
 use Rattle.table_write.specs.Tokens.{count-at, group-at, dif-at}
 use Rattle.table_write.specs.Lines.{from, after, opening, start}
-
--- ---- lengths
-
-numeral-slim : (k : Lead) (v : ℕ) → length (numeral k v) ≤ 10
-unfolding numeral
-numeral-slim k v = omega (arith, length-low 9 v, further-le 9 v)
-
-sqz-slim : (u : ℕ) → length (sqzText u) ≤ 10
-unfolding sqzText
-sqz-slim u =
-    by-case (λ t. length (pick t (numeral (sqz false) (u - zero-ordinate)) (numeral (sqz true) (zero-ordinate - u))) ≤ 10) (leb zero-ordinate u)
-    (λ _. numeral-slim (sqz false) (u - zero-ordinate)) (λ _. numeral-slim (sqz true) (zero-ordinate - u))
-
-token-slim : (r : Form) (y : ℕ) → length (tokenText r y) ≤ 10
-unfolding tokenText
-token-slim Own y = sqz-slim y
-token-slim Gap y = omega arith
-token-slim (By m d) y = numeral-slim _ d
-token-slim (Dup b) y = omega arith
-
-dup-slim : (n : ℕ) → length (dupText n) ≤ 10
-unfolding dupText
-dup-slim zero = omega arith
-dup-slim (suc n) = numeral-slim _ (suc (suc n))
-
-pub group-slim : (p y : ℕ) (ys : List ℕ) → length (group p y ys) ≤ 20
-unfolding group
-group-slim p y ys =
-    let a = tokenText (form p y) y in let b = dupText (many (form p y) y ys) in
-    omega (arith, length-append a b, token-slim (form p y) y, dup-slim (many (form p y) y ys))
-
-many-le : (r : Form) (p : ℕ) (ys : List ℕ) → many r p ys ≤ length ys
-unfolding many
-many-le r p [] = omega arith
-many-le r p (y ∷ ys) = by-case (λ t. pick t (suc (many r y ys)) 0 ≤ length (y ∷ ys)) (alike r (form p y)) (λ e. omega (arith, many-le r y ys)) (λ e. omega arith)
 
 -- ---- from a point on
 

@@ -1,26 +1,24 @@
 -- What the finding of tokens and groups needs. No place of the code is named here. Assumes nothing.
 use mathlib.Core.Path.{_≡_, refl, sym, ap, _∙_}
-use mathlib.Core.Bool.{Bool, true, false, not, Bool·beq}
+use mathlib.Core.Bool.{Bool, true, false, Bool·beq}
 use mathlib.Core.List.{List, [], _∷_, _++_}
-use Prim.Native.Nat.{ℕ, zero, suc, _+_, _-_, _/_, _≤_, _<_}
+use Prim.Native.Nat.{ℕ, suc, _+_, _-_, _≤_, _<_}
 use native.Mathlib.Omega.{arith}
-use native.Mathlib.Nat.{add-zero}
 use native.Mathlib.Numerals.{add-one}
 use lib.Dec.{ltb, leb, eqb, lit≤}
-use lib.ListN.{length, getD, drop, length-append, drop-of-length-le, length-drop}
+use lib.ListN.{length, getD, drop, length-append, drop-of-length-le}
 use lib.Seq.{drop-cons}
 use borrow.Author.Tests.{ltb-true, ltb-false, eqb-true, eqb-false, leb-true, leb-false, le-leb, lt-leb, lt-ltb, le-ltb, eq-eqb, ne-eqb}
-use Rattle.terms.specs.Logic.{pick, both, by-case, no-way}
+use Rattle.terms.specs.Logic.{pick, both, by-case, no-way, both-true}
+use Rattle.table_write_law.specs.Numbers.{top-some}
 use Rattle.alphabet_spec.specs.Kinds.{dif}
-use Rattle.table_spec.specs.Frame.{zero-ordinate}
-use Rattle.table_spec.specs.Values.{Form, Own, Gap, By, Dup, isDif}
+use Rattle.table_spec.specs.Values.{Own, Gap, By}
 use Rattle.table_spec.specs.Numerals.{top, low, leadByte, numeral}
 use Rattle.table_spec.specs.Groups.{form, sqzText, tokenText, alike, many, dupText, group}
 use Rattle.table_write.specs.declared.Token.{Token}
-use Rattle.table_write.specs.declared.Group.{Group}
 use Rattle.table_write.specs.Digits.{further, length-low, further-le}
 use Rattle.table_write.specs.Pieces.{number}
-use Rattle.table_write.specs.Tokens.{again, run, SmallToken, TokenFor, Found, count-at, group-at, dif-at}
+use Rattle.table_write.specs.Tokens.{again, run, TokenFor, Found, count-at, group-at}
 
 -- ---- forms
 
@@ -95,15 +93,6 @@ module _ (d q z : ℕ) (h : 0 < q) where
 
 -- ---- the tokens
 
-top-some : (f v : ℕ) → 0 < v → 0 < top f v
-unfolding top
-top-some zero v h = h
-top-some (suc f) v h = by-case (λ q. 0 < pick q v (top f (v / 10))) (ltb v 10) (λ _. h) (λ e. top-some f (v / 10) (omega (arith, ltb-false v 10 e)))
-
-both-true : (s t : Bool) → both s t ≡ true → t ≡ true
-both-true true t e = e
-both-true false t e = no-way e
-
 same-sides : (s t : Bool) → Bool·beq s t ≡ true → s ≡ t
 same-sides true true e = refl
 same-sides true false e = no-way e
@@ -111,7 +100,7 @@ same-sides false true e = no-way e
 same-sides false false e = refl
 
 sided : (a s t : Bool) → both a (Bool·beq s t) ≡ true → s ≡ t
-sided a s t e = same-sides s t (both-true a (Bool·beq s t) e)
+sided a s t e = same-sides s t (both-true a (Bool·beq s t) e .1)
 
 pub gap-token : (p y : ℕ) → y ≡ 0 → TokenFor p y (record { base = 63; size = 0; up = 0; down = 0; dif = false })
 unfolding tokenText number top low

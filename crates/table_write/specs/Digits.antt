@@ -1,15 +1,15 @@
 -- The digits of a number by their count, stored from right to left. Assumes nothing.
 use mathlib.Core.Path.{_≡_, refl, sym, ap, _∙_}
-use mathlib.Core.Bool.{Bool, true, false}
 use mathlib.Core.List.{List, [], _∷_, _++_, append-assoc}
 use Prim.Native.Nat.{ℕ, zero, suc, _+_, _-_, _*_, _/_, _%_, _^_, _≤_, _<_}
 use native.Mathlib.Omega.{arith}
-use native.Mathlib.Nat.{add-suc, suc-add, add-zero, pow-succ', not-suc-le-zero, le-of-suc-le-suc, lt-of-lt-of-le, lt-of-le-of-lt, pow-le-pow-right}
+use native.Mathlib.Nat.{add-suc, suc-add, add-zero, pow-succ', not-suc-le-zero, le-of-suc-le-suc, pow-le-pow-right}
 use native.Mathlib.Numerals.{add-one}
 use lib.Dec.{ltb, lit<}
 use lib.ListN.{length, set}
 use lib.Seq.{sets, set-comm}
 use borrow.Author.Tests.{lt-ltb, le-ltb, ltb-true, ltb-false}
+use Rattle.table_write_law.specs.Numbers.{tenth}
 use Rattle.terms.specs.Logic.{pick, by-case}
 use Rattle.table_spec.specs.Numerals.{top, low}
 
@@ -72,9 +72,6 @@ stored-at l at zero v h = absurd (omega arith)
 stored-at l at (suc n) v h = let e : suc n - 1 ≡ n = omega arith in rw e (stored l at n v)
 
 -- ---- counting by tens
-
-pub tenth : (f v : ℕ) → v < 10 ^ suc (suc f) → v / 10 < 10 ^ suc f
-tenth f v h = let e = pow-succ' 10 (suc f) in omega arith
 
 tenth-least : (n v : ℕ) → 10 ^ suc n ≤ v → 10 ^ n ≤ v / 10
 tenth-least n v h = let e = pow-succ' 10 n in omega arith

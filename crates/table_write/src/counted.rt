@@ -11,10 +11,10 @@ use crate::Group;
 use crate::LONGEST_LINE;
 use crate::State;
 use crate::digits::further_digits;
-use crate::distance;
 use crate::groups::find;
 use crate::lines::new_line;
 use frame::Frame;
+use frame::distance;
 use signed::ordinate_at;
 
 // The bytes of the DIF for y after p, if it stands alone before z; else more than a line has: y is missing, or z may have the same DIF.

@@ -18,6 +18,7 @@ use crate::lines::put_end;
 use crate::lines::turn;
 use frame::Frame;
 use frame::Framed;
+use frame::distance;
 use terms::Refusal;
 use terms::TableWritten;
 
@@ -114,16 +115,6 @@ fn measure(ys: &[i32], none: &mut [u8], fr: Frame) -> usize
         i = s.given;
     }
     finish(none, fr, s)
-}
-
-// How far apart two numbers are.
-fn distance(a: u64, b: u64) -> u64
-    ensures { λ r. ⌜ r ≡ apart a b ⌝ }
-{
-    if a < b {
-        return b - a;
-    }
-    a - b
 }
 
 // A refusal of the writer: its place is 0.

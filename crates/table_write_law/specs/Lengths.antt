@@ -3,12 +3,12 @@
 use mathlib.Core.Path.{_≡_, refl}
 use mathlib.Core.Bool.{Bool, true, false}
 use mathlib.Core.List.{List, [], _∷_, _++_}
-use Prim.Native.Nat.{ℕ, zero, suc, _+_, _-_, _*_, _/_, _%_, _^_, _≤_, _<_}
+use Prim.Native.Nat.{ℕ, zero, suc, _+_, _-_, _*_, _/_, _%_, _≤_, _<_}
 use native.Mathlib.Omega.{arith}
 use native.Mathlib.Nat.{not-suc-le-zero, le-of-suc-le-suc}
-use lib.Dec.{ltb, leb, lit≤}
+use lib.Dec.{ltb, leb}
 use lib.ListN.{length, length-append}
-use borrow.Author.Tests.{leb-true, leb-false}
+use borrow.Author.Tests.{leb-false}
 use Rattle.terms.specs.Logic.{pick, by-case}
 use Rattle.alphabet_spec.specs.Kinds.{Lead, sqz, dif, dup}
 use Rattle.table_spec.specs.Frame.{nearest, zero-ordinate, longest-body}
@@ -53,6 +53,11 @@ unfolding dupText
 dup-most zero h = (omega arith, omega arith)
 dup-most (suc n) h = let z = numeral-length dup (suc (suc n)) (omega arith) in (omega arith, omega arith)
 
+dup-slim : (n : ℕ) → length (dupText n) ≤ 10
+unfolding dupText
+dup-slim zero = omega arith
+dup-slim (suc n) = numeral-most dup (suc (suc n))
+
 pub group-most : (p y : ℕ) (ys : List ℕ) → length ys ≤ 65536 → (length (group p y ys) ≤ 10 + 5 * many (form p y) y ys) × (length (group p y ys) ≤ 15)
 unfolding group
 group-most p y ys h =
@@ -61,6 +66,13 @@ group-most p y ys h =
     let b = token-most r y in
     let c = dup-most (many r y ys) (omega (arith, many-le r y ys)) in
     (omega (arith, c .0), omega (arith, c .1))
+
+-- the same of any list
+pub group-slim : (p y : ℕ) (ys : List ℕ) → length (group p y ys) ≤ 20
+unfolding group
+group-slim p y ys =
+    let a = tokenText (form p y) y in let n = many (form p y) y ys in
+    omega (arith, length-append a (dupText n), token-most (form p y) y, dup-slim n)
 
 -- the first value of a text is not in DIF form
 never-dif : (y : ℕ) → isDif (form 0 y) ≡ false

@@ -11,8 +11,8 @@ use lib.ListN.{length, take, drop, take-append-drop}
 use lib.Seq.{length-take-le}
 use Rattle.terms.specs.Logic.{pick, by-case, no-way}
 use Rattle.table_spec.specs.Frame.{Rules}
-use Rattle.table_spec.specs.Values.{Value, own, Form, Own, Gap, By, Dup, isDif, Spot, first, after, ordinate, copies, lastOr, index}
-use Rattle.table_spec.specs.Groups.{form, sqzText, tokenText, many, dupText, group}
+use Rattle.table_spec.specs.Values.{Form, Own, Gap, By, Dup, isDif, first, after, copies, lastOr}
+use Rattle.table_spec.specs.Groups.{form, sqzText, many, dupText, group}
 use Rattle.table_spec.specs.Writing.{put, check, open-line, go-on, close, text, lines-of}
 use Rattle.table_law.specs.Spelling as sp
 use Rattle.table_law.specs.Small.{Small}
@@ -48,8 +48,7 @@ module _ (R : Rules) (few : R .points ≤ 65536) (hd : ℕ → List ℕ) (at : �
   check-line {ys = ys} {s = s} i p a b g l n =
       let k : i - 1 < R .points = omega arith in
       let m : Inside R (after Own) (i + 0) p ys s = rw (add-zero i) n in
-      rw append-assoc (headed (spelled (i - 1) (sqzText p ++ s) k) (passing (i - 1) k)
-      (sqz-value {us = []} p a b (λ x v l e. subst (λ (u : ℕ). sp.Stands (first true) u (own x v) [] Own) e (sp.check l)) m))
+      rw append-assoc (headed (spelled (i - 1) (sqzText p ++ s) k) sp.last-given (passing (i - 1) k) (sqz-value {us = []} p a b (λ m v z. sp.check z) m))
 
   closes : (b : Bool) (i p : ℕ) → (b ≡ true → 0 < p) → p < 4294967296 → 0 < i → i ≡ R .points → sp.Body R i p b [] (close hd b i p)
   unfolding close
@@ -91,7 +90,7 @@ module _ (R : Rules) (few : R .points ≤ 65536) (hd : ℕ → List ℕ) (at : �
     opens : (c : Bool) (i p : ℕ) → (c ≡ true → (0 < p) × (0 < i)) → p < 4294967296 → i + length (y ∷ ys) ≡ R .points → sp.Body R i p c (y ∷ ys) (open-line hd (text hd ys) c i p y ys)
     unfolding open-line
     opens true i p g h b = check-line i p (g refl .0) h (g refl .1) (omega arith) (put-next Own i p (length (check hd i p)) h b)
-    opens false i p g h b = let k : i < R .points = omega arith in headed (spelled i _ k) (passing i k) (put-first i p (length (hd i)) b)
+    opens false i p g h b = let k : i < R .points = omega arith in headed (spelled i _ k) sp.next-point (passing i k) (put-first i p (length (hd i)) b)
 
     goes-on : (r : Form) (i p col : ℕ) → Ok r p → 0 < i → i + length (y ∷ ys) ≡ R .points → Inside R (after r) i p (y ∷ ys) (go-on hd (text hd ys) (isDif r) col i p y ys)
     unfolding go-on

@@ -1,6 +1,6 @@
 -- Reading the written text in the same frame gives back exactly the ordinates (01, "The written text" and "What the contracts say"). Assumes nothing.
-use mathlib.Core.Path.{_≡_, refl, sym, ap, _∙_, subst}
-use mathlib.Core.Bool.{Bool, true, false}
+use mathlib.Core.Path.{_≡_, refl, _∙_}
+use mathlib.Core.Bool.{true}
 use mathlib.Core.List.{List, [], _∷_, _++_, map}
 use Prim.Native.Nat.{ℕ, zero, suc, _+_, _-_, _*_, _≤_, _<_}
 use native.Mathlib.Omega.{arith}
@@ -10,17 +10,16 @@ use lib.ListN.{length, take, drop, length-map}
 use lib.Seq.{length-take-le}
 use lib.Signed.{mag}
 use borrow.Author.Tests.{ltb-false, leb-true}
-use Rattle.terms.specs.Logic.{pick, both, by-case, no-way}
+use Rattle.terms.specs.Logic.{pick, by-case, both-true}
 use Rattle.table_spec.specs.Frame.{frame-legal, abscissa-legal, abscissa, apart, rules, longest-body, zero-ordinate, ordinate-of, entry-for}
-use Rattle.table_spec.specs.Writing.{Outcome, declined, wrote, fitted, written, writeTable}
-use Rattle.table_spec.specs.Reading.{Answer, accept, read, readTable, stored}
+use Rattle.table_spec.specs.Writing.{declined, wrote, fitted, written, writeTable}
+use Rattle.table_spec.specs.Reading.{accept, read, readTable, stored}
 use Rattle.signed.specs.Scale.{lift-small, lower-lift}
 use Rattle.frame.specs.FrameLaws.{legal-abscissa}
 use Rattle.table_law.specs.Spelling.{Spells}
 use Rattle.table_law.specs.Small.{Small}
 use Rattle.table_law.specs.Complete.{complete}
-use Rattle.table_law.specs.Outcome.{Allowed, spells-accepted, accepted-stored}
-use Rattle.table_write_law.specs.Tokens.{both-parts}
+use Rattle.table_law.specs.Outcome.{spells-accepted, accepted-stored}
 use Rattle.table_write_law.specs.Written.{Takes, written-spells}
 use Rattle.table_write_law.specs.Lengths.{written-is-a-body, written-ceiling}
 use Rattle.table_write_law.specs.EightyBytes.{Lined, written-lined}
@@ -84,8 +83,8 @@ module _ (f l : ℤ) (n : ℕ) (es : List ℤ) (space : ℕ) (t : List ℕ) wher
   takes : Taken → Takes (abscissa f) (abscissa l) n
   unfolding frame-legal
   takes k =
-      let a = both-parts (abscissa-legal f) _ (k .legal) in let b = both-parts (abscissa-legal l) _ (a .1) in
-      let c = both-parts (leb 1 n) _ (b .1) in let d = both-parts (leb n 65536) _ (c .1) in
+      let a = both-true (abscissa-legal f) _ (k .legal) in let b = both-true (abscissa-legal l) _ (a .1) in
+      let c = both-true (leb 1 n) _ (b .1) in let d = both-true (leb n 65536) _ (c .1) in
       let x = legal-abscissa f (a .0) in let y = legal-abscissa l (b .0) in
       record { low-first = x .0; low-last = y .0; high-first = x .1; high-last = y .1; some = leb-true 1 n (c .0); few = leb-true n 65536 (d .0); apart-enough = k .far }
 

@@ -11,7 +11,7 @@ use Rattle.table_write.proofs.write_framed.Lts as lts
 use Rattle.table_write.proofs.fits.Reads as fits-reads
 use Rattle.table_write.proofs.pass.Reads as pass-reads
 use Rattle.table_write.proofs.refused.Reads as refused-reads
-use Rattle.table_write.proofs.distance.Reads as distance-reads
+use Rattle.frame.proofs.distance.Reads as distance-reads
 
 refused-requires : tie.Need-refused-requires
 refused-requires c κs = search needs

@@ -6,7 +6,7 @@ use Rattle.frame.proofs.Frame.passes.Statement.{statement}
 use Rattle.frame.proofs.Frame.passes.Tie as tie
 use Rattle.frame.proofs.Frame.passes.Reads as reads
 use Rattle.frame.proofs.Frame.passes.Lts as lts
-use Rattle.frame.proofs.apart.Reads as apart-reads
+use Rattle.frame.proofs.distance.Reads as distance-reads
 
 returns : tie.Need-returns
 returns c = alone (c .before .args .self) _ _ (c .if1 .taken)
@@ -32,17 +32,17 @@ mul-asked-2 c = let z = products (c .before .pre .0) (c .before .pre .1) (c .bef
 add-asked : tie.Need-add-asked
 add-asked c = let z = products (c .before .pre .0) (c .before .pre .1) (c .before .pre .2) in omega arith
 
-apart-requires : tie.Need-apart-requires
-apart-requires c κs = search needs
+distance-requires : tie.Need-distance-requires
+distance-requires c κs = search needs
 
 mul-result : tie.Need-mul-result
-mul-result c = let z = products (c .before .before .pre .0) (c .before .before .pre .1) (c .before .before .pre .2) in omega (arith, c .apart .ensures)
+mul-result c = let z = products (c .before .before .pre .0) (c .before .before .pre .1) (c .before .before .pre .2) in omega (arith, c .distance .ensures)
 
-apart-requires-2 : tie.Need-apart-requires-2
-apart-requires-2 c κs = search needs
+distance-requires-2 : tie.Need-distance-requires-2
+distance-requires-2 c κs = search needs
 
 returns-2 : tie.Need-returns-2
-returns-2 c = rw (c .before .apart .ensures, c .apart2 .ensures) (spread (c .before .before .before .args .self) _ _ (c .before .before .if1 .left))
+returns-2 c = rw (c .before .distance .ensures, c .distance2 .ensures) (spread (c .before .before .before .args .self) _ _ (c .before .before .if1 .left))
 
 pub passes-spec : {M : Type 1} → statement M
 passes-spec =
@@ -56,7 +56,7 @@ passes-spec =
     mul-asked
     mul-asked-2
     add-asked
-    apart-requires
+    distance-requires
     mul-result
-    apart-requires-2
+    distance-requires-2
     returns-2)

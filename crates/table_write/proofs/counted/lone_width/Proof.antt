@@ -8,7 +8,7 @@ use Rattle.table_write.proofs.counted.lone_width.Statement.{statement}
 use Rattle.table_write.proofs.counted.lone_width.Tie as tie
 use Rattle.table_write.proofs.counted.lone_width.Reads as reads
 use Rattle.table_write.proofs.counted.lone_width.Lts as lts
-use Rattle.table_write.proofs.distance.Reads as distance-reads
+use Rattle.frame.proofs.distance.Reads as distance-reads
 use Rattle.table_write.proofs.digits.further_digits.Reads as further-digits-reads
 
 returns : tie.Need-returns
