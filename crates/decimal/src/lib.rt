@@ -1,7 +1,7 @@
 // The numbers of a file (01, The file, "Numbers"): how one is read, and the rounded quotient of two.
 ghost use mathlib.Core.Path.{_≡_};
 ghost use Prim.Native.Nat.{_+_, _-_, _*_, _<_, _≤_, _^_};
-ghost use lib.ListN.{length, getD};
+ghost use lib.ListN.{length};
 ghost use Rattle.alphabet_spec.specs.Entries.{table};
 ghost use Rattle.decimal_spec.specs.Number.{mantissaOf};
 ghost use Rattle.decimal_spec.specs.Quotient.{Nearest, IsRounded, roundedOf, quotientOf};
@@ -12,6 +12,7 @@ use decimal_spec::Mantissa;
 use decimal_spec::Number;
 use decimal_spec::Quotient;
 use decimal_spec::Rounded;
+use text::byte_at;
 
 // An entry of the byte table below this one is a digit's.
 const PAST_DIGITS: u64 = 16;
@@ -24,16 +25,6 @@ const BOUND: u64 = 1000000000;
 
 // Powers of ten are counted from -200 on, so that none is negative.
 const ORIGIN: u64 = 200;
-
-// The byte at a place, 0 past the end.
-fn byte_at(s: &[u8], i: usize) -> u8
-    ensures { λ r. ⌜ r ≡ getD (now (s .entry)) i 0 ⌝ }
-{
-    if i < s.len() {
-        return s[i];
-    }
-    0
-}
 
 // What the digits of a number make: n of them, f behind the point, and the place after them.
 fn mantissa_of(v: u64, n: usize, f: usize, end: usize) -> Mantissa

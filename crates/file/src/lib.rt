@@ -36,6 +36,7 @@ use label_spec::Found;
 use label_spec::Labelled;
 use table_read::Checked;
 use terms::Refusal;
+use text::byte_at;
 
 // ---- the texts of records
 
@@ -74,16 +75,6 @@ fn gather(file: &[u8], start: usize, stop: usize) -> Gathered
         firsty: Span { from: a5, to: b5 },
         xydata: Span { from: a6, to: b6 },
     })
-}
-
-// The byte at a place, 0 past the end.
-fn byte_at(s: &[u8], i: usize) -> u8
-    ensures { λ r. ⌜ r ≡ getD (now (s .entry)) i 0 ⌝ }
-{
-    if i < s.len() {
-        return s[i];
-    }
-    0
 }
 
 // A blank, LF, or CR before LF: b, with c after it.
