@@ -337,7 +337,9 @@ static void compare_record(void)
     uint8_t *file = take_bytes(length);
     uint32_t name_length = take_u32();
     uint8_t *name = take_bytes(name_length);
-    uint32_t kind = take_u32();
+    uint64_t number = take_u32();
+    if (number == UINT32_MAX)
+        number = LASTARUNC_ABSENT;
     uint64_t from = take_u64(), to = take_u64();
 #ifdef HAVE_FIND_RECORD
     uint8_t *lent = copy_of(file, length), *lent_name = copy_of(name, name_length);
@@ -345,22 +347,22 @@ static void compare_record(void)
     uint64_t answer = lastarunc_find_record(lent, length, lent_name, name_length, &answer_from, &answer_to);
 
     const char *difference = NULL;
-    if (answer != kind)
-        difference = "kind of answer";
+    if (answer != number)
+        difference = "number";
     else if (answer_from != from || answer_to != to)
-        difference = kind == 2 ? "number or place" : "from or to";
+        difference = number ? "place" : "from or to";
     else if (memcmp(lent, file, length) || memcmp(lent_name, name, name_length))
         difference = "the file or the name is altered";
-    if (counted('R', kind == 2 ? from : kind == 1 ? MOST_NUMBERS - 1 : 0, difference)) {
+    if (counted('R', number, difference)) {
         show_bytes("name", name, name_length);
         show_bytes("file", file, length);
-        printf("    second: %" PRIu32 " %" PRIu64 " %" PRIu64 "; here: %" PRIu64 " %" PRIu64 " %" PRIu64 "\n", kind,
+        printf("    second: %" PRIu64 " %" PRIu64 " %" PRIu64 "; here: %" PRIu64 " %" PRIu64 " %" PRIu64 "\n", number,
                from, to, answer, answer_from, answer_to);
     }
     free(lent);
     free(lent_name);
 #else
-    (void)kind, (void)from, (void)to;
+    (void)number, (void)from, (void)to;
     not_compared['R']++;
 #endif
     free(file);

@@ -11,7 +11,7 @@ int main(void)
     enum { POINTS = sizeof counts / sizeof *counts };
     const int64_t first = 500, last = 4000;
 
-    uint8_t text[34 * POINTS + 24];
+    uint8_t text[15 * POINTS + 44]; /* enough for every text, as the header says */
     uint64_t length;
     uint64_t refused = lastarunc_write_table(first, last, POINTS, counts, POINTS, text, sizeof text, &length);
     if (refused) {

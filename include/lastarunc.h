@@ -24,6 +24,9 @@ extern "C" {
 /* The ordinate of a point that was not measured: `?` in a table. It is never an ordinary ordinate. */
 #define LASTARUNC_MISSING INT32_MIN
 
+/* What lastarunc_find_record returns for a record that is absent. No refusal has this number. */
+#define LASTARUNC_ABSENT UINT64_MAX
+
 /* Most points of a table, most bytes of a body or file, largest magnitude of the first and last abscissa. */
 #define LASTARUNC_MOST_POINTS 65536
 #define LASTARUNC_MOST_BYTES 1048576
@@ -58,9 +61,9 @@ uint64_t lastarunc_read_file(const uint8_t *file, size_t file_len, int32_t *out,
 
 /*
  * Finds the record with this name; names are compared as labels are, in upper case without blanks, `-`, `/` and `_`.
- * Returns 0 if it is there: its text is the bytes *from up to, not with, *to of the file.
- * Returns 1 if it is absent: *from and *to are 0.
- * Returns 2 if the file's labels are refused: *from is the number (19 to 24) and *to its place.
+ * Found: returns 0, and its text is the bytes *from up to, not with, *to of the file.
+ * Absent: returns LASTARUNC_ABSENT, *from and *to are 0.
+ * The file's labels are refused: returns the number, 19 to 24, *from is its place in the file, and *to is 0.
  */
 uint64_t lastarunc_find_record(const uint8_t *file, size_t file_len, const uint8_t *name, size_t name_len,
                                uint64_t *from, uint64_t *to);

@@ -27,6 +27,7 @@ fn bench_rows() -> Vec<(&'static str, Answer)> {
         ("0E0V", Ok(vec![50, 50, 50, 50])),
         ("0E0%U/3E0", Ok(vec![50, 50, 50, 50])),
         ("0E0%%%/3E0", Ok(vec![50, 50, 50, 50])),
+        ("0E0%%", Err((12, 5))),
         ("0E0%U", Err((13, 5))),
         ("0E0W", Err((11, 3))),
         ("0A%?B", Ok(vec![1, 1, X, 2])),
@@ -48,7 +49,7 @@ fn bench_rows() -> Vec<(&'static str, Answer)> {
     ]
 }
 
-/// READINGS, the table of first faults.
+/// Open points of 01, as docs/DECISIONS.md reads them: which fault is first.
 fn reading_rows() -> Vec<(&'static str, Answer)> {
     vec![
         ("1..A", Err((6, 0))),

@@ -33,6 +33,9 @@ pub struct RecordCase {
     pub name: Vec<u8>,
 }
 
+/// The number for an absent record; no refusal has it.
+const ABSENT: u32 = u32::MAX;
+
 /// A 32-bit number, little endian.
 fn put_u32(out: &mut impl Write, number: u32) -> io::Result<()> {
     out.write_all(&number.to_le_bytes())
@@ -122,12 +125,12 @@ pub fn put_record_case(out: &mut impl Write, case: &RecordCase) -> io::Result<()
     out.write_all(b"R")?;
     put_bytes(out, &case.file)?;
     put_bytes(out, &case.name)?;
-    let (kind, from, to) = match record_text(&case.file, &case.name) {
+    let (number, from, to) = match record_text(&case.file, &case.name) {
         RecordText::Part(from, to) => (0, from, to),
-        RecordText::Absent => (1, 0, 0),
-        RecordText::Refused(fault) => (2, u64::from(fault.number), fault.place),
+        RecordText::Absent => (ABSENT, 0, 0),
+        RecordText::Refused(fault) => (fault.number, fault.place, 0),
     };
-    put_u32(out, kind)?;
+    put_u32(out, number)?;
     put_u64(out, from)?;
     put_u64(out, to)
 }
@@ -213,14 +216,13 @@ impl<R: Read> Stream<R> {
         Ok((number, length))
     }
 
-    /// The rest of a record case; its number is 0 for a part, 100 for absent, or that of the refusal.
+    /// The rest of a record case; its number is 0 for a part, `ABSENT`, or that of the refusal.
     fn record_case(&mut self) -> io::Result<(u32, usize)> {
         let length = self.counted()?;
         self.counted()?;
-        let kind = self.u32()?;
-        let from = self.u64()?;
-        self.u64()?;
-        Ok(([0, 100, from as u32][kind as usize], length))
+        let number = self.u32()?;
+        self.bytes(16)?;
+        Ok((number, length))
     }
 }
 
@@ -239,9 +241,9 @@ pub fn count(input: impl Read) -> io::Result<()> {
     for (kind, (cases, bytes)) in sizes {
         println!("{} {cases} cases, {bytes} bytes of body, text or file", char::from(kind));
         for ((_, number), times) in counts.range((kind, 0)..=(kind, u32::MAX)) {
-            let name = match number {
+            let name = match *number {
                 0 => "accepted".into(),
-                100 => "absent".into(),
+                ABSENT => "absent".into(),
                 n => format!("refused {n}"),
             };
             println!("  {name}: {times}");

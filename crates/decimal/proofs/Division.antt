@@ -10,6 +10,7 @@ use lib.Dec.{lit<}
 use borrow.Author.Tests.{lt-ltb}
 use Rattle.decimal_spec.specs.declared.Rounded.{Rounded}
 use Rattle.decimal_spec.specs.declared.Rounded.the-variants.{Whole, Beyond}
+use Rattle.decimal_spec.specs.Number.{bound}
 use Rattle.decimal_spec.specs.Quotient.{Reaches, Nearest, IsRounded, nearest, roundedOf}
 use Rattle.decimal_spec.specs.QuotientLaws.{reaches-le, nearest-is, rounded-is}
 
@@ -52,7 +53,7 @@ reaches-far false a b q h = omega arith
 reaches-far true a b q h = omega arith
 
 -- beyond a limit of ten digits, where the dividend has twenty and the divisor nine
-pub far : (limit : ℕ) (minus : Bool) (a b : ℕ) → limit < 10000000000 → 0 < b → b < 1000000000 → 10000000000000000000 ≤ a → IsRounded limit minus a b Beyond
+pub far : (limit : ℕ) (minus : Bool) (a b : ℕ) → limit < 10000000000 → 0 < b → b < bound → 10000000000000000000 ≤ a → IsRounded limit minus a b Beyond
 far limit minus a b k z h l =
     let m : b * (limit + 1) ≤ b * 10000000000 = mul-le-mul-left b (omega arith) in
     let r = reaches-far minus a b (limit + 1) (omega arith) in
@@ -92,7 +93,7 @@ module _ (limit : ℕ) (minus : Bool) (m1 e1 m2 e2 : ℕ) (h : 0 < m2) (r : Roun
       (rw (split e2 e1 l, ← mul-assoc m1 (10 ^ (e1 - e2)) (10 ^ e2)) (scaled limit minus (m1 * 10 ^ (e1 - e2)) m2 (10 ^ e2) r (tens e2) x))
 
 -- ---- by the difference k of the exponents
-pub tiny : (limit : ℕ) (minus : Bool) (m1 m2 k : ℕ) → m1 < 1000000000 → 0 < m2 → 9 < k → IsRounded limit minus m1 (m2 * 10 ^ k) (Whole false 0)
+pub tiny : (limit : ℕ) (minus : Bool) (m1 m2 k : ℕ) → m1 < bound → 0 < m2 → 9 < k → IsRounded limit minus m1 (m2 * 10 ^ k) (Whole false 0)
 tiny limit minus m1 m2 k a b c =
     let p : 10 ^ 10 ≤ 10 ^ k = pow-le-pow-right (lit< tt) c in
     let q : 1 * 10 ^ 10 ≤ m2 * 10 ^ k = mul-le-mul b p in
@@ -103,7 +104,7 @@ nil limit minus m1 m2 k e h =
     let z : m1 * 10 ^ k ≡ 0 = ap (λ (x : ℕ). x * 10 ^ k) e ∙ zero-mul (10 ^ k) in
     below-half limit minus (m1 * 10 ^ k) m2 (omega arith)
 
-pub huge : (limit : ℕ) (minus : Bool) (m1 m2 k : ℕ) → limit < 10000000000 → 0 < m2 → m2 < 1000000000 → (m1 ≡ 0 → ⊥) → 18 < k → IsRounded limit minus (m1 * 10 ^ k) m2 Beyond
+pub huge : (limit : ℕ) (minus : Bool) (m1 m2 k : ℕ) → limit < 10000000000 → 0 < m2 → m2 < bound → (m1 ≡ 0 → ⊥) → 18 < k → IsRounded limit minus (m1 * 10 ^ k) m2 Beyond
 huge limit minus m1 m2 k l z b a c =
     let p : 10 ^ 19 ≤ 10 ^ k = pow-le-pow-right (lit< tt) c in
     let n : 1 ≤ m1 = omega arith in
@@ -111,13 +112,13 @@ huge limit minus m1 m2 k l z b a c =
     far limit minus (m1 * 10 ^ k) m2 l z b (omega arith)
 
 -- ---- by the power p itself
-pub large : (limit : ℕ) (minus : Bool) (m1 m2 p : ℕ) → limit < 10000000000 → 0 < m2 → m2 < 1000000000 → 0 < p → 9999999999999999999 / p < m1 → IsRounded limit minus (m1 * p) m2 Beyond
+pub large : (limit : ℕ) (minus : Bool) (m1 m2 p : ℕ) → limit < 10000000000 → 0 < m2 → m2 < bound → 0 < p → 9999999999999999999 / p < m1 → IsRounded limit minus (m1 * p) m2 Beyond
 large limit minus m1 m2 p l z b a c = far limit minus (m1 * p) m2 l z b (div-lt-iff-lt-mul a .0 c)
 
 pub within : (m1 p : ℕ) → 0 < p → m1 ≤ 9999999999999999999 / p → m1 * p < 10000000000000000000
 within m1 p a c = omega (arith, le-div-iff-mul-le a .0 c)
 
-pub product : (m p k : ℕ) → m < 1000000000 → k ≤ 9 → p ≡ 10 ^ k → m * p ≤ 1000000000000000000
+pub product : (m p k : ℕ) → m < bound → k ≤ 9 → p ≡ 10 ^ k → m * p ≤ 1000000000000000000
 product m p k h l e =
     let q : 10 ^ k ≤ 10 ^ 9 = pow-le-pow-right (lit< tt) l in
-    rw e (mul-le-mul {n₂ = 1000000000} {m₂ = 10 ^ 9} (omega arith) q)
+    rw e (mul-le-mul {n₂ = bound} {m₂ = 10 ^ 9} (omega arith) q)

@@ -9,11 +9,11 @@ use Rattle.decimal_spec.specs.declared.Mantissa.{Mantissa}
 use Rattle.decimal_spec.specs.declared.Exponent.{Exponent}
 use Rattle.decimal_spec.specs.declared.Number.{Number}
 use Rattle.decimal_spec.specs.declared.Count.{Count}
-use Rattle.decimal_spec.specs.Number.{bound, mantissaAt, powerOf, exponentAt, unsigned, numberAt, countAt}
+use Rattle.decimal_spec.specs.Number.{mostDigits, bound, mantissaAt, powerOf, exponentAt, unsigned, numberAt, countAt}
 
 -- the bounds of each answer; len is the text's length, which no place passes
 abbrev pub mantissaIn : ℕ → Mantissa → Type 0
-mantissaIn len (Mantissa.Digits v f j) = (v < bound) × (f ≤ 12) × (j ≤ len)
+mantissaIn len (Mantissa.Digits v f j) = (v < bound) × (f ≤ mostDigits) × (j ≤ len)
 mantissaIn len Mantissa.Misspelled = Unit
 
 abbrev pub exponentIn : ℕ → Exponent → Type 0

@@ -1,9 +1,9 @@
 // The numbers of a file (01, The file, "Numbers"): how one is read, and the rounded quotient of two.
 ghost use mathlib.Core.Path.{_≡_};
 ghost use Prim.Native.Nat.{_+_, _-_, _*_, _<_, _≤_, _^_};
-ghost use lib.ListN.{length, getD};
+ghost use lib.ListN.{length};
 ghost use Rattle.alphabet_spec.specs.Entries.{table};
-ghost use Rattle.decimal_spec.specs.Number.{mantissaOf};
+ghost use Rattle.decimal_spec.specs.Number.{bound, mantissaOf};
 ghost use Rattle.decimal_spec.specs.Quotient.{Nearest, IsRounded, roundedOf, quotientOf};
 ghost use Rattle.decimal.specs.Found.{MantissaFound, ExponentFound, PowerFound, UnsignedFound, NumberFound, CountFound};
 use decimal_spec::Count;
@@ -12,6 +12,7 @@ use decimal_spec::Mantissa;
 use decimal_spec::Number;
 use decimal_spec::Quotient;
 use decimal_spec::Rounded;
+use text::byte_at;
 
 // An entry of the byte table below this one is a digit's.
 const PAST_DIGITS: u64 = 16;
@@ -24,16 +25,6 @@ const BOUND: u64 = 1000000000;
 
 // Powers of ten are counted from -200 on, so that none is negative.
 const ORIGIN: u64 = 200;
-
-// The byte at a place, 0 past the end.
-fn byte_at(s: &[u8], i: usize) -> u8
-    ensures { λ r. ⌜ r ≡ getD (now (s .entry)) i 0 ⌝ }
-{
-    if i < s.len() {
-        return s[i];
-    }
-    0
-}
 
 // What the digits of a number make: n of them, f behind the point, and the place after them.
 fn mantissa_of(v: u64, n: usize, f: usize, end: usize) -> Mantissa
@@ -264,7 +255,7 @@ fn limited(minus: bool, a: u64, b: u64, limit: u64) -> Rounded
 // The quotient of two decimals, m1 times ten to the e1 by m2 times ten to the e2. A product is formed only where it is below
 // ten to the 19; where it is not, the answer is zero or beyond without it.
 fn divided(minus: bool, m1: u64, e1: u64, m2: u64, e2: u64, limit: u64) -> Rounded
-    requires { ⌜ (m1 < 1000000000) × (0 < m2) × (m2 < 1000000000) × (limit < 10000000000) ⌝ }
+    requires { ⌜ (m1 < bound) × (0 < m2) × (m2 < bound) × (limit < 10000000000) ⌝ }
     ensures { λ r. ⌜ r ≡ roundedOf limit minus (m1 * 10 ^ e1) (m2 * 10 ^ e2) ⌝ }
 {
     if e1 < e2 {
@@ -302,7 +293,7 @@ fn divided(minus: bool, m1: u64, e1: u64, m2: u64, e2: u64, limit: u64) -> Round
 // origin below the least. An inner function: what it requires of the mantissas is what `number` ensures and, of the divisor,
 // that a factor exceeds zero (01, The file); the limit is the caller's.
 pub fn quotient(minus: bool, m1: u64, e1: u64, m2: u64, e2: u64, limit: u64) -> Quotient
-    requires { ⌜ (m1 < 1000000000) × (0 < m2) × (m2 < 1000000000) × (limit < 10000000000) ⌝ }
+    requires { ⌜ (m1 < bound) × (0 < m2) × (m2 < bound) × (limit < 10000000000) ⌝ }
     ensures { λ r. ⌜ r ≡ quotientOf limit minus (m1 * 10 ^ e1) (m2 * 10 ^ e2) ⌝ }
 {
     Quotient {

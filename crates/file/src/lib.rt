@@ -1,14 +1,13 @@
 // Reading a file (01, "The file"): labels, the seven records, their numbers, the table, and FIRSTY. The file is lent and never written to; a refusal leaves every lent ordinate as it was.
 ghost use mathlib.Core.Path.{_≡_};
-ghost use mathlib.Core.Bool.{Bool, true, false};
-ghost use mathlib.Core.List.{List, []};
-ghost use Prim.Native.Nat.{ℕ, suc, _+_, _-_, _<_, _≤_};
-ghost use lib.ListN.{length, take, drop, getD};
+ghost use mathlib.Core.Bool.{true, false};
+ghost use Prim.Native.Nat.{_+_, _-_, _<_, _≤_};
+ghost use lib.ListN.{length, drop};
 ghost use Rattle.alphabet_spec.specs.Entries.{table};
 ghost use lib.Dec.{eqb};
-ghost use Rattle.table_spec.specs.Frame.{zero-ordinate, ordinate-of};
+ghost use Rattle.table_spec.specs.Frame.{largest-abscissa, zero-ordinate, ordinate-of};
 ghost use Rattle.table_spec.specs.Values.{signed};
-ghost use Rattle.table_spec.specs.Reading.{Answer};
+ghost use Rattle.label_spec.specs.File.{longestFile};
 ghost use Rattle.file_spec.specs.Texts.{gatheredFrom, «spacing», firstMark, markOf, LIST, ended, listedAs, listedIn};
 ghost use Rattle.file_spec.specs.Figures.{decimalIn, exceeding, countIn, figuresOf, ratio, whole, agrees};
 ghost use Rattle.terms.specs.Refusals.{refusal};
@@ -30,12 +29,14 @@ use file_spec::Listed;
 use file_spec::Needed;
 use file_spec::Numbers;
 use file_spec::Span;
+use frame::Frame;
 use label::find_record;
 use label::past_space;
 use label_spec::Found;
 use label_spec::Labelled;
 use table_read::Checked;
 use terms::Refusal;
+use text::byte_at;
 
 // ---- the texts of records
 
@@ -74,16 +75,6 @@ fn gather(file: &[u8], start: usize, stop: usize) -> Gathered
         firsty: Span { from: a5, to: b5 },
         xydata: Span { from: a6, to: b6 },
     })
-}
-
-// The byte at a place, 0 past the end.
-fn byte_at(s: &[u8], i: usize) -> u8
-    ensures { λ r. ⌜ r ≡ getD (now (s .entry)) i 0 ⌝ }
-{
-    if i < s.len() {
-        return s[i];
-    }
-    0
 }
 
 // A blank, LF, or CR before LF: b, with c after it.
@@ -338,14 +329,14 @@ fn ratio_of(k: u64, d: Decimal, c: Decimal) -> Rounded
         d.power + k,
         c.mantissa,
         c.power,
-        9999999999,
+        Frame::LARGEST_ABSCISSA as u64,
     );
     q.rounded
 }
 
 // A size with its sign.
 fn whole_of(minus: bool, size: u64) -> i64
-    requires { ⌜ size ≤ 9999999999 ⌝ }
+    requires { ⌜ size ≤ largest-abscissa ⌝ }
     ensures { λ r. ⌜ r ≡ whole minus size ⌝ }
 {
     let x = size as i64;
@@ -372,16 +363,17 @@ fn agree(y: i32, r: Rounded) -> bool
 
 // Is an ordinate that is not missing equal to a size with its sign?
 fn equal_to(u: u64, minus: bool, size: u64) -> bool
-    requires { ⌜ (0 < u) × (size ≤ 9999999999) ⌝ }
+    requires { ⌜ (0 < u) × (size ≤ largest-abscissa) ⌝ }
     ensures { λ b. ⌜ b ≡ eqb u (signed zero-ordinate minus size) ⌝ }
 {
+    let zero = signed::ordinate_of(0);
     if minus {
-        if size >= 2147483648 {
+        if size >= zero {
             return false;
         }
-        return u == 2147483648 - size;
+        return u == zero - size;
     }
-    u == 2147483648 + size
+    u == zero + size
 }
 
 // ---- the file
@@ -395,7 +387,7 @@ fn refused(number: u64, place: usize) -> FileRead
 
 // A refusal of the body, with its place counted in the file; 1 and 2 stand at 0.
 fn refused_in(r: Refusal, start: usize) -> FileRead
-    requires { ⌜ start + r .place ≤ 10000000000 ⌝ }
+    requires { ⌜ start + r .place ≤ longestFile ⌝ }
     ensures { λ x. ⌜ x ≡ FileRead.Refused (refusal (r .number) (inFile start (r .number) (r .place))) ⌝ }
 {
     let number = r.number;
@@ -415,7 +407,7 @@ fn read_body(
     first: i64,
     last: i64,
 ) -> FileRead
-    requires { ⌜ AllWithin (length (now file)) x × AllSmall n × (start ≤ x .xydata .to) × (length (now file) ≤ 1048576) ⌝ }
+    requires { ⌜ AllWithin (length (now file)) x × AllSmall n × (start ≤ x .xydata .to) × (length (now file) ≤ longestFile) ⌝ }
     ensures { λ r. ⌜ StageSays (byTable (now (file .entry)) (length (now (out .entry))) x n start first last) (now (out .entry)) (now (out .exit)) r ⌝ }
 {
     let s = x.xydata;
@@ -443,7 +435,7 @@ fn read_body(
 
 // F and L (28), then the table.
 fn read_abscissas(file: &[u8], out: &mut [i32], x: Needed, n: Numbers, start: usize) -> FileRead
-    requires { ⌜ AllWithin (length (now file)) x × AllSmall n × (start ≤ x .xydata .to) × (length (now file) ≤ 1048576) ⌝ }
+    requires { ⌜ AllWithin (length (now file)) x × AllSmall n × (start ≤ x .xydata .to) × (length (now file) ≤ longestFile) ⌝ }
     ensures { λ r. ⌜ StageSays (byAbscissas (now (file .entry)) (length (now (out .entry))) x n start (ratio 3 (n .firstx) (n .xfactor))) (now (out .entry)) (now (out .exit)) r ⌝ }
 {
     let firstx = n.firstx;
@@ -470,7 +462,7 @@ fn read_abscissas(file: &[u8], out: &mut [i32], x: Needed, n: Numbers, start: us
 
 // The numbers (26), the list (27), then the rest.
 fn read_records(file: &[u8], out: &mut [i32], x: Needed) -> FileRead
-    requires { ⌜ AllWithin (length (now file)) x × (length (now file) ≤ 1048576) ⌝ }
+    requires { ⌜ AllWithin (length (now file)) x × (length (now file) ≤ longestFile) ⌝ }
     ensures { λ r. ⌜ StageSays (byFigures (now (file .entry)) (length (now (out .entry))) x (figuresOf (now (file .entry)) x)) (now (out .entry)) (now (out .exit)) r ⌝ }
 {
     let t = TABLE;

@@ -1,8 +1,7 @@
 -- From the answers of the library to what a C host is told. No place of the code is named here. Assumes nothing.
-use mathlib.Core.Path.{_≡_, refl, sym, ap, _∙_, subst}
+use mathlib.Core.Path.{_≡_, refl}
 use mathlib.Core.List.{List}
 use Prim.Native.Nat.{ℕ}
-use native.Mathlib.Omega.{arith}
 use lib.IntN.{ℤ, pos}
 use lib.ListN.{length}
 use Rattle.terms.specs.Logic.{zero-one}
@@ -10,11 +9,11 @@ use Rattle.terms.specs.Refusals.{refusal}
 use Rattle.terms.specs.declared.Refusal.{Refusal}
 use Rattle.terms.specs.declared.TableRead.the-variants as tables
 use Rattle.terms.specs.declared.TableWritten.the-variants as texts
-use Rattle.table_spec.specs.Reading.{Answer, refuse, accept, readTable, stored}
+use Rattle.table_spec.specs.Reading.{Answer, refuse, accept, readTable}
 use Rattle.table_spec.specs.Writing.{Outcome, declined, wrote, writeTable, laid}
 use Rattle.table_read.specs.Answers.{told, TableSays}
 use Rattle.table_write.specs.Answers as writing
-use Rattle.file_spec.specs.File.{FileAnswer, refuse-file, accept-file, readFile, toldFile, storedFile}
+use Rattle.file_spec.specs.File.{FileAnswer, refuse-file, accept-file, readFile, toldFile}
 use Rattle.file_spec.specs.declared.FileTable.{FileTable}
 use Rattle.file_spec.specs.declared.FileRead.the-variants as files
 use Rattle.file.specs.Answers.{FileSays}
@@ -51,16 +50,19 @@ module _ {f l : ℤ} {n : ℕ} {ys : List ℤ} {text text' : List ℕ} where
   pub told-wrote : {m : ℕ} → texts.Length m ≡ writing.told (writeTable f l n ys (length text)) → text' ≡ laid text (writeTable f l n ys (length text)) → TextTold f l n ys text text' m 0
   told-wrote e o = let z = text-wrote (writeTable f l n ys (length text)) e in record { number = z .0; second = z .1; leaves = o }
 
-  pub told-declined : {r : Refusal} → texts.Refused r ≡ writing.told (writeTable f l n ys (length text)) → text' ≡ laid text (writeTable f l n ys (length text)) → TextTold f l n ys text text' 0 (r .number)
+  pub told-declined : {r : Refusal} → texts.Refused r ≡ writing.told (writeTable f l n ys (length text)) → text' ≡ laid text (writeTable f l n ys (length text))
+      → TextTold f l n ys text text' 0 (r .number)
   told-declined e o = let z = text-declined (writeTable f l n ys (length text)) e in record { number = z .0; second = z .1; leaves = o }
 
 -- ---- a file read
 
-file-accepted : (x : FileAnswer) {t : FileTable} → files.Accepted t ≡ toldFile x → (0 ≡ fileNumber x) × (0 ≡ filePlace x) × (t .points ≡ filePoints x) × (t .first ≡ fileFirst x) × (t .last ≡ fileLast x)
+file-accepted : (x : FileAnswer) {t : FileTable} → files.Accepted t ≡ toldFile x
+    → (0 ≡ fileNumber x) × (0 ≡ filePlace x) × (t .points ≡ filePoints x) × (t .first ≡ fileFirst x) × (t .last ≡ fileLast x)
 file-accepted (refuse-file c a) e = zero-one cc
 file-accepted (accept-file n f l ys) {t} e = let z : t ≡ record { points = n; first = f; last = l } = cc in (refl, refl, rw z refl, rw z refl, rw z refl)
 
-file-refused : (x : FileAnswer) {r : Refusal} → files.Refused r ≡ toldFile x → (r .number ≡ fileNumber x) × (r .place ≡ filePlace x) × (0 ≡ filePoints x) × (pos 0 ≡ fileFirst x) × (pos 0 ≡ fileLast x)
+file-refused : (x : FileAnswer) {r : Refusal} → files.Refused r ≡ toldFile x
+    → (r .number ≡ fileNumber x) × (r .place ≡ filePlace x) × (0 ≡ filePoints x) × (pos 0 ≡ fileFirst x) × (pos 0 ≡ fileLast x)
 file-refused (refuse-file c a) {r} e = let z : r ≡ refusal c a = cc in (rw z refl, rw z refl, refl, refl, refl)
 file-refused (accept-file n f l ys) e = zero-one cc
 

@@ -68,21 +68,25 @@ pub record FileTold (file : List ℕ) (out out' : List ℤ) (place points : ℕ)
   pub fifth : last ≡ fileLast (readFile file (length out))
   pub leaves : out' ≡ storedFile out (readFile file (length out))
 
--- a record's text: 0 and its places; 1 absent; 2 the labels are refused, with number and place
+-- the number for a record that is absent, 2^64 - 1: no refusal has it (Numbers.refused-number)
+abbrev pub absent : ℕ
+absent = 18446744073709551615
+
+-- a record's text: 0 and its places; `absent`; or the refusal number of the labels and its place. What is not given is 0
 abbrev pub recordNumber : Record → ℕ
 recordNumber (Record.Text a b) = 0
-recordNumber Record.Absent = 1
-recordNumber (Record.Refused r) = 2
+recordNumber Record.Absent = absent
+recordNumber (Record.Refused r) = r .number
 
 abbrev pub recordFrom : Record → ℕ
 recordFrom (Record.Text a b) = a
 recordFrom Record.Absent = 0
-recordFrom (Record.Refused r) = r .number
+recordFrom (Record.Refused r) = r .place
 
 abbrev pub recordTo : Record → ℕ
 recordTo (Record.Text a b) = b
 recordTo Record.Absent = 0
-recordTo (Record.Refused r) = r .place
+recordTo (Record.Refused r) = 0
 
 pub record RecordTold (file name : List ℕ) (from to r : ℕ) : Type 0 where
   pub number : r ≡ recordNumber (recordFor file (norm name))

@@ -1,10 +1,12 @@
 // The functions that C calls (include/lastarunc.h). Each answers a number, 0 for acceptance, and the rest through pointers; every argument is answered.
-ghost use mathlib.Core.Path.{_≡_};
 ghost use Rattle.host.specs.Answers.{TableTold, TextTold, FileTold, RecordTold};
 use file_spec::FileRead;
 use label_spec::Record;
 use terms::TableRead;
 use terms::TableWritten;
+
+// What is answered for a record that is absent (LASTARUNC_ABSENT in the header): no refusal has this number.
+const ABSENT: u64 = 18446744073709551615;
 
 // Reads a table: 0 and N in `place`, or the refusal number and its place.
 #[no_mangle]
@@ -87,7 +89,7 @@ pub extern "C" fn lastarunc_read_file(
     }
 }
 
-// Finds the text of a record: 0 and its places; 1 if it is absent; 2 if the labels are refused, with number and place.
+// Finds the text of a record: 0 and its places; ABSENT; or the refusal number of the labels, and its place in `from`. What is not given is 0.
 #[no_mangle]
 pub extern "C" fn lastarunc_find_record(
     file: &[u8],
@@ -106,12 +108,12 @@ pub extern "C" fn lastarunc_find_record(
         Record::Absent => {
             *from = 0;
             *to = 0;
-            1
+            ABSENT
         }
         Record::Refused(r) => {
-            *from = r.number;
-            *to = r.place as u64;
-            2
+            *from = r.place as u64;
+            *to = 0;
+            r.number
         }
     }
 }

@@ -322,7 +322,7 @@ fn part_of<'a>(file: &'a [u8], from: usize, to: usize) -> &'a [u8]
     &file[from..to]
 }
 
-// The text of the record with a name, shown where it stands; an empty part where there is none, or the labels are refused.
+// The text of the record with a name, shown where it stands (01, The file). An empty part is answered for a record that is absent, for refused labels and for an empty text alike: `find` tells which.
 pub fn record_text<'a>(file: &'a [u8], name: &[u8]) -> &'a [u8]
     ensures { λ r. ⌜ now r ≡ textOf (now (file .entry)) (recordFor (now (file .entry)) (norm (now (name .entry)))) ⌝ }
 {

@@ -10,6 +10,7 @@ use borrow.Author.Tests.{lt-ltb, le-ltb}
 use Rattle.label_spec.specs.declared.Spot.{Spot}
 use Rattle.label_spec.specs.declared.Spot.the-variants.{Place, Nowhere}
 use Rattle.terms.specs.Logic.{pick}
+use Rattle.label_spec.specs.Shared.{picked}
 use Rattle.label_spec.specs.Names.{norm, blank}
 use Rattle.label_spec.specs.Labels.{Walk, over, bad, label, longestName, eqIn, headed, step, walk, from}
 use Rattle.label_spec.specs.File.{member, twice, judged}
@@ -90,21 +91,17 @@ looser a b over h r = tt
 looser a b (bad x rest) h r = tt
 looser a b (label x n e v rest) h r = (omega (arith, r .0), r .1)
 
-pick-rising : (t : Bool) (i : ℕ) (a b : Walk) → rising i a → rising i b → rising i (pick t a b)
-pick-rising true i a b x y = x
-pick-rising false i a b x y = y
-
 headed-rising : (s : List ℕ) (m n : ℕ) (k : Walk) (p : Spot) → rising (m + 1) k → rising m (headed s m n k p)
 unfolding headed
 headed-rising s m n k Nowhere r = tt
-headed-rising s m n k (Place e) r = pick-rising (leb (length (norm (take (e - n) s))) longestName) m _ _ (omega arith, r) tt
+headed-rising s m n k (Place e) r = picked (rising m) (leb (length (norm (take (e - n) s))) longestName) (omega arith, r) tt
 
 step-rising : (K : Bool → Walk) (s : List ℕ) (i : ℕ) (t : Bool) (b : ℕ) → ((u : Bool) → rising (i + 1) (K u)) → rising i (step K s i t b)
 unfolding step
 step-rising K s i false b h = looser i (i + 1) (K (eqb b 10)) (omega arith) (h (eqb b 10))
 step-rising K s i true b h =
-    pick-rising (blank b) i _ _ (looser i (i + 1) (K true) (omega arith) (h true))
-    (pick-rising (pick (eqb b 35) (eqb (getD s 0 0) 35) false) i _ _
+    picked (rising i) (blank b) (looser i (i + 1) (K true) (omega arith) (h true))
+    (picked (rising i) (pick (eqb b 35) (eqb (getD s 0 0) 35) false)
     (headed-rising (drop 1 s) i (i + 2) (K false) (eqIn (drop 1 s) (i + 2)) (h false))
     (looser i (i + 1) (K (eqb b 10)) (omega arith) (h (eqb b 10))))
 

@@ -1,20 +1,21 @@
 -- The walk from a place on, and what the code's steps need of it.
-use mathlib.Core.Path.{_≡_, refl}
+use mathlib.Core.Path.{_≡_, refl, sym, ap, _∙_}
 use mathlib.Core.Bool.{Bool, true, false}
 use mathlib.Core.List.{List}
 use Prim.Native.Nat.{ℕ, _+_, _≤_, _<_}
 use native.Mathlib.Numerals.{add-one}
 use native.Mathlib.Omega.{arith}
-use native.Mathlib.Nat.{add-zero, add-assoc}
+use native.Mathlib.Nat.{add-assoc}
 use lib.Dec.{eqb, ltb}
 use lib.ListN.{length, getD, drop, drop-of-length-le, List·getD-eq-default}
-use lib.Seq.{drop-cons, drop-drop, getD-drop}
+use lib.Seq.{drop-cons, drop-drop}
 use borrow.Author.Tests.{ltb-true, ltb-false, eqb-true, eq-eqb, ne-eqb, le-leb, lt-leb}
 use Rattle.label_spec.specs.declared.Spot.{Spot}
 use Rattle.label_spec.specs.declared.Spot.the-variants.{Place, Nowhere}
 use Rattle.label_spec.specs.declared.Label.{Label}
 use Rattle.label_spec.specs.declared.Label.the-variants.{At, Bad, None}
-use Rattle.terms.specs.Logic.{pick}
+use Rattle.terms.specs.Logic.{pick, no-way, both-true}
+use Rattle.label_spec.specs.Shared.{pick-same, first-byte}
 use Rattle.label_spec.specs.Names.{blank, nameIn}
 use Rattle.label_spec.specs.Labels.{Walk, over, bad, label, longestName, eqIn, headed, step, walk, from, hashed}
 
@@ -76,16 +77,13 @@ module _ (s : List ℕ) (i : ℕ) (h : i < length s) where
   unfolding step
   blank-on e = rw (from-step true, e) refl
 
-  head-is : eqb (getD (drop (i + 1) s) 0 0) 35 ≡ eqb (getD s (i + 1) 0) 35
-  head-is = rw (getD-drop (i + 1) s 0 0, add-zero (i + 1)) refl
-
   pub no-label : blank (getD s i 0) ≡ false → hashed s i ≡ false → from s i true ≡ from s i false
   unfolding step hashed
-  no-label b n = rw (from-step true, from-step false, b, head-is, n) refl
+  no-label b n = rw (from-step true, from-step false, b, first-byte s (i + 1), n) refl
 
   is-label : blank (getD s i 0) ≡ false → hashed s i ≡ true → from s i true ≡ headed (drop (i + 2) s) i (i + 2) (from s (i + 1) false) (eqAt s (i + 2))
   unfolding step hashed eqAt
-  is-label b y = rw (from-step true, b, head-is, y, drop-drop 1 (i + 1) s, add-assoc i 1 1) refl
+  is-label b y = rw (from-step true, b, first-byte s (i + 1), y, drop-drop 1 (i + 1) s, add-assoc i 1 1) refl
 
 -- Does `##` stand there?
 pub hash-no : (s : List ℕ) (i : ℕ) → (getD s i 0 ≡ 35 → ⊥) → false ≡ hashed s i
@@ -100,34 +98,25 @@ pub hash-next : (s : List ℕ) (i : ℕ) → getD s i 0 ≡ 35 → eqb (getD s (
 unfolding hashed
 hash-next s i e = rw (eq-eqb (getD s i 0) 35 e) refl
 
-pick-same : (t : Bool) → pick t false false ≡ false
-pick-same true = refl
-pick-same false = refl
-
 pub hash-out : (s : List ℕ) (i : ℕ) → length s ≤ i + 1 → hashed s i ≡ false
 unfolding hashed
-hash-out s i h = rw (List·getD-eq-default s 0 h) (pick-same (eqb (getD s i 0) 35))
+hash-out s i h = rw (List·getD-eq-default s 0 h) (pick-same (eqb (getD s i 0) 35) false)
 
 pub hash-in : (s : List ℕ) (i : ℕ) → hashed s i ≡ true → i + 1 < length s
 hash-in s i y = cases (ltb (i + 1) (length s)) refl
   where
     cases : (t : Bool) → ltb (i + 1) (length s) ≡ t → i + 1 < length s
     cases true e = ltb-true (i + 1) (length s) e
-    cases false e =
-        let f = hash-out s i (ltb-false (i + 1) (length s) e) in
-        let z : _≡_ {A = ℕ} 0 1 = cc in absurd (omega arith)
+    cases false e = no-way (sym (hash-out s i (ltb-false (i + 1) (length s) e)) ∙ y)
 
-both-right : (t u : Bool) → pick t u false ≡ true → u ≡ true
-both-right true u e = e
-both-right false u e = cc
+-- .. and its second byte is `#`
+pub hash-second : (s : List ℕ) (i : ℕ) → hashed s i ≡ true → getD s (i + 1) 0 ≡ 35
+unfolding hashed
+hash-second s i y = eqb-true (getD s (i + 1) 0) 35 (both-true (eqb (getD s i 0) 35) (eqb (getD s (i + 1) 0) 35) y .1)
 
 pub hash-blank : (s : List ℕ) (i : ℕ) → hashed s i ≡ true → blank (getD s i 0) ≡ false
 unfolding hashed
-hash-blank s i y = cases (eqb (getD s i 0) 35) refl y
-  where
-    cases : (t : Bool) → eqb (getD s i 0) 35 ≡ t → pick t (eqb (getD s (i + 1) 0) 35) false ≡ true → blank (getD s i 0) ≡ false
-    cases true e g = rw (eqb-true (getD s i 0) 35 e) (unfold blank in refl)
-    cases false e g = let z : _≡_ {A = ℕ} 0 1 = cc in absurd (omega arith)
+hash-blank s i y = rw (eqb-true (getD s i 0) 35 (both-true (eqb (getD s i 0) 35) (eqb (getD s (i + 1) 0) 35) y .0)) (unfold blank in refl)
 
 -- What an answer makes of the rest.
 unfoldable pub resume : List ℕ → Label → Walk
@@ -148,11 +137,12 @@ module _ (s : List ℕ) (i : ℕ) (y : hashed s i ≡ true) where
   unfolding headed resume nameIn
   label-long e q l = rw (label-is, q, lt-leb (length (nameIn s (i + 2) e)) longestName l) refl
 
-  second : getD s (i + 1) 0 ≡ 10 → ⊥
-  unfolding hashed
-  second e = omega (arith, eqb-true (getD s (i + 1) 0) 35 (both-right (eqb (getD s i 0) 35) (eqb (getD s (i + 1) 0) 35) y))
+  pub hash-skip : from s (i + 1) false ≡ from s (i + 2) false
+  hash-skip =
+      let n : getD s (i + 1) 0 ≡ 10 → ⊥ = λ e. omega (arith, hash-second s i y) in
+      skip-on s (i + 1) (hash-in s i y) n ∙ ap (λ (k : ℕ). from s k false) (add-assoc i 1 1)
 
   pub label-at : (e : ℕ) → eqAt s (i + 2) ≡ Place e → from s (i + 2) false ≡ from s (e + 1) false
       → length (nameIn s (i + 2) e) ≤ longestName → from s i true ≡ resume s (At i (i + 2) e)
   unfolding headed resume nameIn
-  label-at e q g l = rw (label-is, q, le-leb (length (nameIn s (i + 2) e)) longestName l, skip-on s (i + 1) (hash-in s i y) second, add-assoc i 1 1, g) refl
+  label-at e q g l = rw (label-is, q, le-leb (length (nameIn s (i + 2) e)) longestName l, hash-skip, g) refl

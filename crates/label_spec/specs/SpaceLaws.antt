@@ -5,12 +5,12 @@ use mathlib.Core.List.{List}
 use mathlib.Core.Logic.{_⊎_, inl, inr}
 use Prim.Native.Nat.{ℕ, _+_, _≤_, _<_}
 use native.Mathlib.Numerals.{add-one}
-use native.Mathlib.Nat.{add-zero}
 use lib.Dec.{eqb}
 use lib.ListN.{length, getD, drop, drop-of-length-le}
-use lib.Seq.{drop-cons, getD-drop}
+use lib.Seq.{drop-cons}
 use borrow.Author.Tests.{eq-eqb, ne-eqb}
 use Rattle.terms.specs.Logic.{pick}
+use Rattle.label_spec.specs.Shared.{first-byte}
 use Rattle.label_spec.specs.Names.{blank}
 use Rattle.label_spec.specs.Space.{space, opens, past, pastAt}
 
@@ -27,17 +27,14 @@ module _ (s : List ℕ) (i : ℕ) (h : i < length s) where
   unfolding pastAt past
   past-out = rw (drop-cons s i 0 h, add-one i) refl
 
-  next-is : getD (drop (i + 1) s) 0 0 ≡ getD s (i + 1) 0
-  next-is = rw (getD-drop (i + 1) s 0 0, add-zero (i + 1)) refl
-
   pub past-space : space (getD s i 0) ≡ true → pastAt s i false ≡ pastAt s (i + 1) false
   past-space e = rw (past-out, e) refl
 
   pub past-opens : space (getD s i 0) ≡ false → opens (getD s i 0) (getD s (i + 1) 0) ≡ true → pastAt s i false ≡ pastAt s (i + 1) true
-  past-opens e o = rw (past-out, e, next-is, o) refl
+  past-opens e o = rw (past-out, e, first-byte s (i + 1), o) refl
 
   pub past-stop : space (getD s i 0) ≡ false → opens (getD s i 0) (getD s (i + 1) 0) ≡ false → pastAt s i false ≡ i
-  past-stop e o = rw (past-out, e, next-is, o) refl
+  past-stop e o = rw (past-out, e, first-byte s (i + 1), o) refl
 
 -- From tests to facts.
 pub space-line : (b : ℕ) → b ≡ 10 → true ≡ space b

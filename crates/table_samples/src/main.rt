@@ -1,4 +1,4 @@
-// The samples of document 01 that are not marked P, and every row of READINGS' first table: read, and compared with answers written by hand from the documents (stdout).
+// The samples of document 01 that are not marked P, and bodies for its open points (docs/DECISIONS.md, 1 to 9): read, and compared with answers written by hand from the documents (stdout).
 use terms::TableRead;
 
 // The answer to a body in a frame, on a line.
@@ -33,7 +33,7 @@ fn bench(body: &[u8]) {
     show(0, 3000, 4, body);
 }
 
-// Samples of document 01 that are not marked P: limits, the empty body, and the 53 points of document 001 corrected, as printed, and uncompressed.
+// Samples of document 01 that are not marked P: limits, the empty body, `E0%%%` with its check line and `E0%%`, as document 001 prints it, and the 53 points of 001 corrected, as printed, and uncompressed.
 fn bench_samples() {
     bench(b"0b147483648");
     bench(b"0b147483647");
@@ -41,6 +41,8 @@ fn bench_samples() {
     bench(b"0");
     bench(b"0AS");
     bench(b"0?5");
+    bench(b"0E0%%%\n3E0");
+    bench(b"0E0%%");
     show(
         4000,
         56000,
@@ -61,7 +63,7 @@ fn bench_samples() {
     );
 }
 
-// READINGS, "Which fault is first": faults of spelling.
+// Which fault is first: faults of spelling.
 fn spelling_samples() {
     bench(b"1..A");
     bench(b"0.0.A");
@@ -81,7 +83,7 @@ fn spelling_samples() {
     bench(b"0$");
 }
 
-// READINGS, "Which fault is first": line ends, values, checks and counts.
+// Which fault is first: line ends, values, checks and counts.
 fn meaning_samples() {
     bench(b"0\r");
     bench(b"0AAAA\r");

@@ -1,11 +1,8 @@
-use mathlib.Core.Path.{_≡_, refl, sym, ap, _∙_, subst}
-use Rattle.host.specs.Answers.{RecordTold, recordNumber, recordFrom, recordTo}
+use mathlib.Core.Path.{sym, ap, _∙_}
+use Rattle.host.specs.Answers.{recordNumber, recordFrom, recordTo}
 use borrow.Author.Needs.{needs}
 use Rattle.host.proofs.lastarunc_find_record.Statement.{statement}
 use Rattle.host.proofs.lastarunc_find_record.Tie as tie
-use Rattle.host.proofs.lastarunc_find_record.Reads as reads
-use Rattle.host.proofs.lastarunc_find_record.Lts as lts
-use Rattle.label.proofs.find.Reads as find-reads
 
 find-requires : tie.Need-find-requires
 find-requires c κs = search needs
@@ -20,13 +17,19 @@ enum-known-r : tie.Need-enum-known-r
 enum-known-r c = search needs
 
 returns : tie.Need-returns
-returns c = let e = sym (c .before .a .given .1) ∙ c .before .before .before .find .ensures .0 in record { number = ap recordNumber e; second = ap recordFrom e; third = ap recordTo e }
+returns c =
+    let e = sym (c .before .a .given .1) ∙ c .before .before .before .find .ensures .0 in
+    record { number = ap recordNumber e; second = ap recordFrom e; third = ap recordTo e }
 
 returns-2 : tie.Need-returns-2
-returns-2 c = let e = sym (c .enum-told .given .1) ∙ c .before .before .find .ensures .0 in record { number = ap recordNumber e; second = ap recordFrom e; third = ap recordTo e }
+returns-2 c =
+    let e = sym (c .enum-told .given .1) ∙ c .before .before .find .ensures .0 in
+    record { number = ap recordNumber e; second = ap recordFrom e; third = ap recordTo e }
 
 returns-3 : tie.Need-returns-3
-returns-3 c = let e = sym (c .before .r .given .1) ∙ c .before .before .before .find .ensures .0 in record { number = ap recordNumber e; second = ap recordFrom e; third = ap recordTo e }
+returns-3 c =
+    let e = sym (c .before .r .given .1) ∙ c .before .before .before .find .ensures .0 in
+    record { number = ap recordNumber e; second = ap recordFrom e; third = ap recordTo e }
 
 pub lastarunc-find-record-spec : {M : Type 1} → statement M
 lastarunc-find-record-spec =

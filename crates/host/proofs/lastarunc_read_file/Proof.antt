@@ -1,4 +1,3 @@
-use mathlib.Core.Path.{_≡_, refl, sym, ap, _∙_, subst}
 use mir.Facts.{toZ-ofZ}
 use mir.Syntax.{w64}
 use borrow.Author.Needs.{sfits-of}
@@ -6,9 +5,6 @@ use Rattle.host.proofs.Tellings.{told-file, told-file-refused}
 use borrow.Author.Needs.{needs}
 use Rattle.host.proofs.lastarunc_read_file.Statement.{statement}
 use Rattle.host.proofs.lastarunc_read_file.Tie as tie
-use Rattle.host.proofs.lastarunc_read_file.Reads as reads
-use Rattle.host.proofs.lastarunc_read_file.Lts as lts
-use Rattle.file.proofs.read_file.Reads as read-file-reads
 
 read-file-requires : tie.Need-read-file-requires
 read-file-requires c κs = search needs
@@ -25,7 +21,8 @@ same-length c = search needs
 returns : tie.Need-returns
 returns c =
     let k = c .before .struct-told .given in
-    rw (toZ-ofZ (sfits-of {w = w64} (k .1 .0 .1)), toZ-ofZ (sfits-of {w = w64} (k .1 .1 .0 .1))) (told-file (rw (c .before .before .before .t .given .1) at (c .before .before .before .before .before .before .read-file .ensures)))
+    rw (toZ-ofZ (sfits-of {w = w64} (k .1 .0 .1)), toZ-ofZ (sfits-of {w = w64} (k .1 .1 .0 .1)))
+    (told-file (rw (c .before .before .before .t .given .1) at (c .before .before .before .before .before .before .read-file .ensures)))
 
 same-length-2 : tie.Need-same-length-2
 same-length-2 c = search needs

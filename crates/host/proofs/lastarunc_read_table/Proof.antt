@@ -1,12 +1,8 @@
-use mathlib.Core.Path.{_≡_, refl, sym, ap, _∙_, subst}
 use mir.Facts.{toZ-ofZ}
 use Rattle.host.proofs.Tellings.{told-accepted, told-refused}
 use borrow.Author.Needs.{needs}
 use Rattle.host.proofs.lastarunc_read_table.Statement.{statement}
 use Rattle.host.proofs.lastarunc_read_table.Tie as tie
-use Rattle.host.proofs.lastarunc_read_table.Reads as reads
-use Rattle.host.proofs.lastarunc_read_table.Lts as lts
-use Rattle.table_read.proofs.read_table.Reads as read-table-reads
 
 read-table-requires : tie.Need-read-table-requires
 read-table-requires c κs = search needs
@@ -21,13 +17,17 @@ same-length : tie.Need-same-length
 same-length c = search needs
 
 returns : tie.Need-returns
-returns c = let S = c .before .before .before .before .before .before .before in told-accepted (rw (toZ-ofZ (S .fits .first), toZ-ofZ (S .fits .last), c .before .n .given .1) at (c .before .before .before .before .read-table .ensures))
+returns c =
+    let S = c .before .before .before .before .before .before .before in
+    told-accepted (rw (toZ-ofZ (S .fits .first), toZ-ofZ (S .fits .last), c .before .n .given .1) at (c .before .before .before .before .read-table .ensures))
 
 same-length-2 : tie.Need-same-length-2
 same-length-2 c = search needs
 
 returns-2 : tie.Need-returns-2
-returns-2 c = let S = c .before .before .before .before .before .before .before in told-refused (rw (toZ-ofZ (S .fits .first), toZ-ofZ (S .fits .last), c .before .r .given .1) at (c .before .before .before .before .read-table .ensures))
+returns-2 c =
+    let S = c .before .before .before .before .before .before .before in
+    told-refused (rw (toZ-ofZ (S .fits .first), toZ-ofZ (S .fits .last), c .before .r .given .1) at (c .before .before .before .before .read-table .ensures))
 
 pub lastarunc-read-table-spec : {M : Type 1} → statement M
 lastarunc-read-table-spec =

@@ -1,12 +1,8 @@
-use mathlib.Core.Path.{_≡_, refl, sym, ap, _∙_, subst}
 use mir.Facts.{toZ-ofZ}
 use Rattle.host.proofs.Tellings.{told-wrote, told-declined}
 use borrow.Author.Needs.{needs}
 use Rattle.host.proofs.lastarunc_write_table.Statement.{statement}
 use Rattle.host.proofs.lastarunc_write_table.Tie as tie
-use Rattle.host.proofs.lastarunc_write_table.Reads as reads
-use Rattle.host.proofs.lastarunc_write_table.Lts as lts
-use Rattle.table_write.proofs.write_table.Reads as write-table-reads
 
 write-table-requires : tie.Need-write-table-requires
 write-table-requires c κs = search needs
@@ -21,13 +17,19 @@ same-length : tie.Need-same-length
 same-length c = search needs
 
 returns : tie.Need-returns
-returns c = let S = c .before .before .before .before .before .before .before .before in let g = rw (toZ-ofZ (S .fits .first), toZ-ofZ (S .fits .last), c .before .n .given .1) at (c .before .before .before .before .before .write-table .ensures) in told-wrote (g .answer) (g .bytes)
+returns c =
+    let S = c .before .before .before .before .before .before .before .before in
+    let g = rw (toZ-ofZ (S .fits .first), toZ-ofZ (S .fits .last), c .before .n .given .1) at (c .before .before .before .before .before .write-table .ensures) in
+    told-wrote (g .answer) (g .bytes)
 
 same-length-2 : tie.Need-same-length-2
 same-length-2 c = search needs
 
 returns-2 : tie.Need-returns-2
-returns-2 c = let S = c .before .before .before .before .before .before .before .before in let g = rw (toZ-ofZ (S .fits .first), toZ-ofZ (S .fits .last), c .before .r .given .1) at (c .before .before .before .before .before .write-table .ensures) in told-declined (g .answer) (g .bytes)
+returns-2 c =
+    let S = c .before .before .before .before .before .before .before .before in
+    let g = rw (toZ-ofZ (S .fits .first), toZ-ofZ (S .fits .last), c .before .r .given .1) at (c .before .before .before .before .before .write-table .ensures) in
+    told-declined (g .answer) (g .bytes)
 
 pub lastarunc-write-table-spec : {M : Type 1} → statement M
 lastarunc-write-table-spec =
