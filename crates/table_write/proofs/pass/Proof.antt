@@ -4,17 +4,16 @@ use native.Mathlib.Omega.{arith}
 use borrow.Author.Needs.{needs}
 use lib.ListN.{length, length-map}
 use Rattle.table_spec.specs.Frame.{ordinate-of}
-use Rattle.table_write.specs.Tokens.{ordinates}
-use Rattle.table_write.specs.Pieces.{headOf}
-use Rattle.table_write.specs.Lines.{Going}
-use Rattle.table_write.proofs.LineSteps.{starts, goes, going-near, finish}
+use Rattle.table_text.specs.Pieces.{headOf, ordinates}
+use Rattle.text_lines.specs.Lines.{Going}
+use Rattle.text_lines.proofs.LineSteps.{starts, goes, going-near, finish}
 use Rattle.table_write.proofs.pass.Statement.{statement}
 use Rattle.table_write.proofs.pass.Tie as tie
 use Rattle.table_write.proofs.pass.Reads as reads
 use Rattle.table_write.proofs.pass.Lts as lts
-use Rattle.table_write.proofs.begin.Reads as begin-reads
-use Rattle.table_write.proofs.lines.turn.Reads as turn-reads
-use Rattle.table_write.proofs.finish.Reads as finish-reads
+use Rattle.text_lines.proofs.begin.Reads as begin-reads
+use Rattle.text_lines.proofs.turn.Reads as turn-reads
+use Rattle.text_lines.proofs.finish.Reads as finish-reads
 
 abbrev Inv-loop : tie.InvT-loop
 Inv-loop ys text₀ fr n s₀ i₀ text s i = Going (headOf fr) (ordinates ys) text₀ s₀ text s i

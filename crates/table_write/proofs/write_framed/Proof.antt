@@ -2,15 +2,15 @@ use mathlib.Core.Path.{refl, sym, _∙_}
 use native.Mathlib.Omega.{arith}
 use lib.Seq.{length-take-le}
 use borrow.Author.Tests.{leb-true, leb-false}
-use Rattle.table_write.proofs.AnswerSteps.{too-few, too-near, too-long, in-room}
+use Rattle.table_text.proofs.AnswerSteps.{too-few, too-near, too-long, in-room}
 use borrow.Author.Needs.{needs}
 use Rattle.table_write.proofs.write_framed.Statement.{statement}
 use Rattle.table_write.proofs.write_framed.Tie as tie
 use Rattle.table_write.proofs.write_framed.Reads as reads
 use Rattle.table_write.proofs.write_framed.Lts as lts
-use Rattle.table_write.proofs.fits.Reads as fits-reads
+use Rattle.text_length.proofs.fits.Reads as fits-reads
 use Rattle.table_write.proofs.pass.Reads as pass-reads
-use Rattle.table_write.proofs.refused.Reads as refused-reads
+use Rattle.table_text.proofs.refused.Reads as refused-reads
 use Rattle.frame.proofs.distance.Reads as distance-reads
 
 refused-requires : tie.Need-refused-requires

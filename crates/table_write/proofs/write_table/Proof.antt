@@ -1,14 +1,14 @@
 use mathlib.Core.Path.{refl, sym, _∙_}
 use mir.Facts.{toZ-ofZ}
 use Rattle.frame.specs.FrameLaws.{framed-legal}
-use Rattle.table_write.proofs.AnswerSteps.{outside, inside}
+use Rattle.table_text.proofs.AnswerSteps.{outside, inside}
 use borrow.Author.Needs.{needs}
 use Rattle.table_write.proofs.write_table.Statement.{statement}
 use Rattle.table_write.proofs.write_table.Tie as tie
 use Rattle.table_write.proofs.write_table.Reads as reads
 use Rattle.table_write.proofs.write_table.Lts as lts
 use Rattle.frame.proofs.Frame.new.Reads as new-reads
-use Rattle.table_write.proofs.refused.Reads as refused-reads
+use Rattle.table_text.proofs.refused.Reads as refused-reads
 use Rattle.table_write.proofs.write_framed.Reads as write-framed-reads
 
 new-requires : tie.Need-new-requires

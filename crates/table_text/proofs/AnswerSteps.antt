@@ -1,0 +1,75 @@
+-- From the tests of the writer to its outcomes. No place of the code is named here. Assumes nothing.
+use mathlib.Core.Path.{_≡_, refl, sym, ap, _∙_}
+use mathlib.Core.Bool.{Bool, true, false}
+use mathlib.Core.List.{List, [], _∷_, _++_, map}
+use Prim.Native.Nat.{ℕ, zero, suc, _+_, _-_, _*_, _≤_, _<_}
+use native.Mathlib.Omega.{arith}
+use lib.Dec.{ltb, leb}
+use lib.IntN.{ℤ}
+use lib.ListN.{length, take, length-map}
+use borrow.Author.Tests.{lt-ltb, le-ltb, le-leb}
+use Rattle.terms.specs.declared.TableWritten.{TableWritten}
+use Rattle.terms.specs.declared.TableWritten.the-variants.{Length}
+use Rattle.terms.specs.Logic.{pick}
+use Rattle.frame.specs.declared.Frame.{Frame}
+use Rattle.frame.specs.declared.Framed.the-variants.{Legal, Outside}
+use Rattle.frame.specs.Legal.{framed, Sound}
+use Rattle.frame.specs.FrameLaws.{framed-outside, framed-legal}
+use Rattle.table_spec.specs.Frame.{apart, ordinate-of}
+use Rattle.table_spec.specs.Writing.{lines-of, written, writeTable, laid}
+use Rattle.table_write_law.specs.Written.{Takes}
+use Rattle.table_write_law.specs.Lengths.{written-most}
+use Rattle.table_text.specs.Pieces.{Put, headOf, ordinates}
+use Rattle.table_text.specs.Answers.{refused, Answered, FramedAnswer}
+
+-- ---- in a legal frame
+
+-- the text
+abbrev body : Frame → List ℤ → List ℕ
+body fr ys = lines-of (headOf fr) (ordinates (take (fr .points) ys))
+
+is-body : (fr : Frame) (ys : List ℤ) → written (fr .first) (fr .last) (fr .points) (map ordinate-of (take (fr .points) ys)) ≡ body fr ys
+unfolding written headOf
+is-body fr ys = refl
+
+module _ (fr : Frame) (ys : List ℤ) (o : List ℕ) {o' : List ℕ} {r : TableWritten} where
+  pub too-few : length ys < fr .points → r ≡ refused 2 → o' ≡ o → FramedAnswer fr ys o o' r
+  unfolding laid
+  too-few h e f = rw (lt-ltb (length ys) (fr .points) h) (record { answer = e; bytes = f })
+
+  module _ (h : fr .points ≤ length ys) where
+    pub too-near : apart (fr .last) (fr .first) < fr .points - 1 → r ≡ refused 14 → o' ≡ o → FramedAnswer fr ys o o' r
+    unfolding laid
+    too-near l e f = rw (le-ltb (length ys) (fr .points) h, lt-ltb (apart (fr .last) (fr .first)) (fr .points - 1) l) (record { answer = e; bytes = f })
+
+    pub too-long : fr .points - 1 ≤ apart (fr .last) (fr .first) → length o < length (body fr ys) → r ≡ refused 15 → o' ≡ o → FramedAnswer fr ys o o' r
+    unfolding laid
+    too-long l k e f =
+        rw (le-ltb (length ys) (fr .points) h, le-ltb (apart (fr .last) (fr .first)) (fr .points - 1) l, is-body fr ys, lt-ltb (length o) (length (body fr ys)) k)
+        (record { answer = e; bytes = f })
+
+    pub in-room : {m : ℕ} → fr .points - 1 ≤ apart (fr .last) (fr .first) → length (body fr ys) ≤ length o → Put o 0 o' m (body fr ys) → r ≡ Length m → FramedAnswer fr ys o o' r
+    unfolding laid
+    in-room l k p e =
+        rw (le-ltb (length ys) (fr .points) h, le-ltb (apart (fr .last) (fr .first)) (fr .points - 1) l, is-body fr ys, le-ltb (length o) (length (body fr ys)) k)
+        (record { answer = e ∙ ap Length (p .next ∙ omega arith); bytes = p .stored })
+
+-- so many bytes a point, and 44 more, are enough
+pub always-room : (fr : Frame) (ys : List ℤ) {room : ℕ} → Sound fr → length ys ≡ fr .points → fr .points - 1 ≤ apart (fr .last) (fr .first)
+    → 15 * fr .points + 44 ≤ room → leb (length (lines-of (headOf fr) (ordinates ys))) room ≡ true
+unfolding written headOf
+always-room fr ys {room} s e far enough =
+    let t : Takes (fr .first) (fr .last) (fr .points) = record { low-first = s .low-first; low-last = s .low-last; high-first = s .first; high-last = s .last; some = s .some; few = s .few; apart-enough = far } in
+    let m = written-most (fr .first) (fr .last) (fr .points) (ordinates ys) t (length-map ys ordinate-of ∙ e) in
+    le-leb (length (lines-of (headOf fr) (ordinates ys))) room (omega (arith, m, enough))
+
+-- ---- the frame
+
+module _ (f l : ℤ) (n : ℕ) {o o' : List ℕ} {r : TableWritten} (ys : List ℤ) where
+  pub outside : framed f l n ≡ Outside → r ≡ refused 1 → o' ≡ o → Answered f l n ys o o' r
+  unfolding writeTable laid
+  outside e a b = rw (framed-outside f l n e) (record { answer = a; bytes = b })
+
+  pub inside : (fr : Frame) → framed f l n ≡ Legal fr → FramedAnswer fr ys o o' r → Answered f l n ys o o' r
+  unfolding writeTable
+  inside fr e a = let z = framed-legal f l n e in rw (z .legal) (rw (z .is) at a)

@@ -1,0 +1,3 @@
+pub mod NumberSteps
+pub mod HeadSteps
+pub mod AnswerSteps

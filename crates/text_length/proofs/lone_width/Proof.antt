@@ -1,0 +1,52 @@
+use mathlib.Core.Path.{ap, _∙_}
+use Prim.Native.Nat.{ℕ, _+_}
+use native.Mathlib.Omega.{arith}
+use borrow.Author.Needs.{needs}
+use Rattle.table_text.specs.Digits.{further}
+use Rattle.text_length.proofs.CountSteps.{lone-gap, lone-again, lone-alone}
+use Rattle.text_length.proofs.lone_width.Statement.{statement}
+use Rattle.text_length.proofs.lone_width.Tie as tie
+use Rattle.text_length.proofs.lone_width.Reads as reads
+use Rattle.text_length.proofs.lone_width.Lts as lts
+use Rattle.frame.proofs.distance.Reads as distance-reads
+use Rattle.table_text.proofs.digits.further_digits.Reads as further-digits-reads
+
+returns : tie.Need-returns
+returns c = (lone-gap _ _ _ (c .if1 .taken), omega arith)
+
+add-if2 : tie.Need-add-if2
+add-if2 c = search needs
+
+add-if2-2 : tie.Need-add-if2-2
+add-if2-2 c = search needs
+
+returns-2 : tie.Need-returns-2
+returns-2 c = (lone-again _ _ _ (c .before .if1 .left) (c .if2 .taken), omega arith)
+
+distance-requires : tie.Need-distance-requires
+distance-requires c κs = search needs
+
+further-digits-requires : tie.Need-further-digits-requires
+further-digits-requires c κs = omega (arith, c .distance .ensures, c .before .before .before .pre .0, c .before .before .before .pre .1)
+
+add-result : tie.Need-add-result
+add-result c = search needs
+
+returns-3 : tie.Need-returns-3
+returns-3 c =
+    let d = c .before .distance .ensures in
+    let n = c .further-digits .ensures in
+    (ap (λ (x : ℕ). 1 + x) (n .0 ∙ ap (further 9) d) ∙ lone-alone _ _ _ (c .before .before .before .if1 .left) (c .before .before .if2 .left), omega (arith, n .1))
+
+pub lone-width-spec : {M : Type 1} → statement M
+lone-width-spec =
+    tie.close
+    (tie.spec
+    returns
+    add-if2
+    add-if2-2
+    returns-2
+    distance-requires
+    further-digits-requires
+    add-result
+    returns-3)

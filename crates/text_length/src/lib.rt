@@ -1,0 +1,180 @@
+// The length of a written text, without writing it: groups that are only counted. Inner functions: the frame is a sound one, and the ordinates are its points.
+ghost use mathlib.Core.Path.{_≡_};
+ghost use mathlib.Core.Bool.{true};
+ghost use Prim.Native.Nat.{_+_, _-_, _^_, _≤_, _<_};
+ghost use lib.Dec.{leb};
+ghost use lib.ListN.{length};
+ghost use Rattle.table_spec.specs.Frame.{apart};
+ghost use Rattle.table_spec.specs.Writing.{lines-of};
+ghost use Rattle.text_groups.specs.Tokens.{Found, lone};
+ghost use Rattle.frame.specs.Legal.{Sound};
+ghost use Rattle.table_text.specs.Pieces.{headOf, ordinates};
+ghost use Rattle.text_lines.specs.Lines.{from, Started, Wrote, Counted, Full, difference-state};
+use frame::Frame;
+use frame::distance;
+use signed::ordinate_at;
+use table_text::digits::further_digits;
+use text_groups::Group;
+use text_groups::find;
+use text_lines::LONGEST_LINE;
+use text_lines::State;
+use text_lines::begin;
+use text_lines::finish;
+use text_lines::new_line;
+
+// The bytes of the DIF for y after p, if it stands alone before z; else more than a line has: y is missing, or z may have the same DIF.
+fn lone_width(p: u64, y: u64, z: u64) -> usize
+    requires { ⌜ (p < 4294967296) × (y < 4294967296) × (z < 4294967296) ⌝ }
+    ensures { λ r. ⌜ (r ≡ lone p y z) × (r ≤ 81) ⌝ }
+{
+    if y == 0 {
+        return 81;
+    }
+    if p + z == y + y {
+        return 81;
+    }
+    let further = further_digits(distance(p, y));
+    1 + further
+}
+
+// The state after differences on one line: i points given, the last of them p, the line's bytes so far.
+fn state_after(s: State, i: usize, p: u64, column: usize) -> State
+    requires { ⌜ (s .column ≤ column) × (column ≤ 2 ^ 59) × (s .at < 2 ^ 59) ⌝ }
+    ensures { λ r. ⌜ r ≡ difference-state s i p column ⌝ }
+{
+    let start = s.column;
+    let before = s.at;
+    let at = before + (column - start);
+    State {
+        given: i,
+        at,
+        column,
+        last: p,
+        dif: true,
+    }
+}
+
+// Points in DIF form without DUP, after one in DIF form, as long as they fit on the line: most points of most tables.
+fn lone_differences(ys: &[i32], s: State) -> State
+    requires { ⌜ Started s × (s .dif ≡ true) × (0 < s .last) × (s .given < length (now ys)) × (length (now ys) ≤ 65536) × (s .column ≤ s .at) × (s .at < 2 ^ 58) ⌝ }
+    ensures { λ r. ⌜ Counted (ordinates (now (ys .entry))) s r × (r .given < length (now (ys .entry))) ⌝ }
+{
+    let n = ys.len();
+    let mut i = s.given;
+    let mut p = s.last;
+    let mut column = s.column;
+    let mut y = ordinate_at(ys, i);
+    let mut next = i + 1;
+    while next < n {
+        let z = ordinate_at(ys, next);
+        let all = column + lone_width(p, y, z);
+        if all > LONGEST_LINE {
+            return state_after(s, i, p, column);
+        }
+        i = next;
+        p = y;
+        column = all;
+        y = z;
+        next = i + 1;
+    }
+    state_after(s, i, p, column)
+}
+
+// The same from any state.
+fn count_differences(ys: &[i32], s: State) -> State
+    requires { ⌜ Started s × (s .given < length (now ys)) × (length (now ys) ≤ 65536) × (s .column ≤ s .at) × (s .at < 2 ^ 58) ⌝ }
+    ensures { λ r. ⌜ Counted (ordinates (now (ys .entry))) s r × (r .given < length (now (ys .entry))) ⌝ }
+{
+    if s.last == 0 {
+        return s;
+    }
+    if s.dif {
+        return lone_differences(ys, s);
+    }
+    s
+}
+
+// The state after the group g.
+fn count_group(ys: &[i32], s: State, g: Group) -> State
+    requires { ⌜ Found (ordinates (now ys)) (s .given) (s .last) g × (s .column + g .width ≤ 80) × (length (now ys) ≤ 65536) × (s .column ≤ s .at) × (s .at < 2 ^ 59) ⌝ }
+    ensures { λ r. ⌜ Counted (ordinates (now (ys .entry))) s r × (s .given < r .given) ⌝ }
+{
+    let i = s.given;
+    let at = s.at;
+    let column = s.column;
+    let more = g.more;
+    let width = g.width;
+    let dif = g.dif;
+    let index = i + more;
+    let last = ordinate_at(ys, index);
+    State {
+        given: index + 1,
+        at: at + width,
+        column: column + width,
+        last,
+        dif,
+    }
+}
+
+// The groups that fit on the line.
+fn count_line(ys: &[i32], s: State) -> State
+    requires { ⌜ Started s × (s .given ≤ length (now ys)) × (length (now ys) ≤ 65536) × (s .column ≤ s .at) × (s .at < 2 ^ 57) ⌝ }
+    ensures { λ r. ⌜ Counted (ordinates (now (ys .entry))) s r × Full (ordinates (now (ys .entry))) s r ⌝ }
+{
+    let n = ys.len();
+    let mut r = s;
+    let mut i = s.given;
+    while i < n {
+        let t = count_differences(ys, r);
+        let g = find(ys, t.given, t.last);
+        let column = t.column;
+        let width = g.width;
+        if column + width > LONGEST_LINE {
+            return t;
+        }
+        r = count_group(ys, t, g);
+        i = r.given;
+    }
+    r
+}
+
+// The groups that fit on the line, and the start of a new line if points are left.
+fn count_turn(ys: &[i32], none: &mut [u8], fr: Frame, s: State) -> State
+    requires { ⌜ Sound fr × (length (now ys) ≡ fr .points) × Started s × (s .given < length (now ys)) × (s .column ≤ s .at) × (s .at < 2 ^ 56) × (s .column ≤ 60) × (length (now none) ≡ 0) ⌝ }
+    ensures { λ r. ⌜ Wrote (headOf fr) (ordinates (now (ys .entry))) (s .given) (s .at) (from (headOf fr) (ordinates (now (ys .entry))) s) (now (none .entry)) (now (none .exit)) r × (r .given < length (now (ys .entry)) → r .column ≤ 60) ⌝ }
+{
+    let t = count_line(ys, s);
+    if t.given >= ys.len() {
+        return t;
+    }
+    new_line(none, fr, t)
+}
+
+// The text's length: line by line with no byte lent, the groups of a line only counted.
+fn measure(ys: &[i32], none: &mut [u8], fr: Frame) -> usize
+    requires { ⌜ Sound fr × (length (now ys) ≡ fr .points) × (length (now none) ≡ 0) ⌝ }
+    ensures { λ r. ⌜ r ≡ length (lines-of (headOf fr) (ordinates (now (ys .entry)))) ⌝ }
+{
+    let n = ys.len();
+    let mut s = begin(none, fr);
+    let mut i = 0;
+    while i < n {
+        s = count_turn(ys, none, fr, s);
+        i = s.given;
+    }
+    finish(none, fr, s)
+}
+
+// Whether the text fits into so many bytes: 15 a point and 44 more are always enough (table_write_law, `written-most`); if there are fewer, it is measured.
+pub fn fits(ys: &[i32], fr: Frame, room: usize) -> bool
+    requires { ⌜ Sound fr × (length (now ys) ≡ fr .points) × (fr .points - 1 ≤ apart (fr .last) (fr .first)) ⌝ }
+    ensures { λ r. ⌜ r ≡ leb (length (lines-of (headOf fr) (ordinates (now (ys .entry))))) room ⌝ }
+{
+    let n = fr.points;
+    if 15 * n + 44 <= room {
+        return true;
+    }
+    let mut none = [0u8; 1];
+    let needed = measure(ys, &mut none[..0], fr);
+    needed <= room
+}

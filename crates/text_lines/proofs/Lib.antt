@@ -1,0 +1,2 @@
+pub mod LineSteps
+pub mod TextSteps
