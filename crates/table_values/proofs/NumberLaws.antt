@@ -1,7 +1,7 @@
 -- From the run of digits that was read to the token of a value. No place of the code is named here. Assumes nothing.
-use mathlib.Core.Path.{_≡_, refl, sym, ap, _∙_, subst}
+use mathlib.Core.Path.{_≡_, refl, sym, ap, _∙_}
 use mathlib.Core.Bool.{Bool, true, false}
-use mathlib.Core.List.{List, [], _∷_}
+use mathlib.Core.List.{List}
 use Prim.Native.Nat.{ℕ, zero, suc, _+_, _-_, _*_, _^_, _/_, _%_, _≤_, _<_}
 use native.Mathlib.Omega.{arith}
 use native.Mathlib.Numerals.{add-one}
@@ -12,16 +12,16 @@ use borrow.Author.Tests.{eq-eqb, ne-eqb, lt-ltb, le-ltb, lt-leb, le-leb, ltb-tru
 use mathlib.Core.Logic.{_⊎_, inl, inr}
 use Rattle.terms.specs.Logic.{pick, by-case}
 use Rattle.alphabet_spec.specs.Kinds.{Lead, sqz, dif, dup, tabs-too, Pseudo, sqz-up, sqz-down, dif-zero, dif-up, dif-down, dup-low, dup-nine}
-use Rattle.alphabet_spec.specs.Digits.{Run, long, run, digits, some}
+use Rattle.alphabet_spec.specs.Digits.{long, run}
 use Rattle.alphabet_spec.specs.Bytes.{Byte, digit, lead, sign, quest, blank, point, lf, cr, dollar, other, kind}
 use Rattle.alphabet_spec.specs.KindLaws.{Back, kind-back}
 use Rattle.alphabet_spec.specs.Entries.{code, entry, entryAt, kindOf, entry-in, at-entry}
 use Rattle.alphabet_spec.specs.DigitLaws.{digit-at}
-use Rattle.alphabet.specs.Ran.{Ran, ran-is, ran-below}
+use Rattle.alphabet.specs.Ran.{Ran, ran-below}
 use Rattle.table_spec.specs.Values.{Value, own, gap, by, times, valueOf, room}
 use Rattle.table_spec.specs.Reading.{Tokens, value, fault, Mode, inner, valued, inside, step}
-use Rattle.table_lines.specs.Seen.{seen, later, behind, here, later-seen, later-none, seen-kind, byte-back, not-behind}
-use Rattle.table_lines.proofs.HeadLaws.{clear-after, digit-kind, sign-kind}
+use Rattle.table_lines.specs.Seen.{behind, here, later-seen, later-none, seen-kind, byte-back, not-behind}
+use Rattle.table_lines.proofs.HeadLaws.{clear-after, digit-kind, sign-kind, some-more, some-none, run-there}
 use Rattle.table_values.specs.Numbers.{leadOf, valueAt, below, Token, Numbered}
 use Rattle.table_values.specs.declared.NumberRead.the-variants.{Read, Misspelled}
 
@@ -104,10 +104,6 @@ module _ (s : List ℕ) (i : ℕ) {v most w j f : ℕ} (c : Byte) (x : ℕ → V
             ∙ rw (le-ltb f 16 l, z, clear-after r (not-behind s i nb)) (ap (value i (x w)) (later-seen s (suc i) j (inner false) (omega arith) (r .high)));
       }
 
-module _ (s : List ℕ) (i : ℕ) {v most w j f : ℕ} (r : Ran s (i + 1) v most w j f) where
-  run-there : digits (drop (suc i) s) most v 0 ≡ pick (ltb f 16) long (run w (j - (i + 1)))
-  run-there = subst (λ (k : ℕ). digits (drop k s) most v 0 ≡ pick (ltb f 16) long (run w (j - (i + 1)))) (add-one i) (ran-is r)
-
 -- ---- a pseudo-digit
 
 module _ (s : List ℕ) (i e : ℕ) (g : e ≡ entryAt s i) (l : 16 ≤ e) (h : e < 96) where
@@ -146,15 +142,6 @@ module _ (s : List ℕ) (i e : ℕ) (g : e ≡ entryAt s i) (l : 16 ≤ e) (h : 
         (lt-of-lt-of-le y b, rw (valued-at w) x)
 
 -- ---- a sign
-
-some-more : (t : Bool) (w n : ℕ) → 0 < n → some (pick t long (run w n)) ≡ pick t long (run w n)
-some-more true w n h = refl
-some-more false w zero h = absurd (omega arith)
-some-more false w (suc n) h = refl
-
-some-none : (t : Bool) (w : ℕ) → some (pick t long (run w 0)) ≡ long
-some-none true w = refl
-some-none false w = refl
 
 module _ (s : List ℕ) (i e : ℕ) (g : e ≡ entryAt s i) (l : 128 ≤ e) (h : e < 160) {w j f : ℕ} (r : Ran s (i + 1) 0 10 w j f) where
   sign-in : i < length s

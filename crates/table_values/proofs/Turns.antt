@@ -1,27 +1,26 @@
 -- From a token to what it does to the state of reading. No place of the code is named here. Assumes nothing.
-use mathlib.Core.Path.{_≡_, refl, sym, ap, _∙_, subst}
-use mathlib.Core.Bool.{Bool, true, false}
-use mathlib.Core.List.{List, [], _∷_, _++_, append-assoc, map}
-use Prim.Native.Nat.{ℕ, zero, suc, _+_, _-_, _*_, _≤_, _<_}
+use mathlib.Core.Path.{_≡_, refl, sym, ap, _∙_}
+use mathlib.Core.Bool.{Bool}
+use mathlib.Core.List.{List, [], _∷_, _++_, map}
+use Prim.Native.Nat.{ℕ, suc, _+_, _-_, _≤_, _<_}
 use native.Mathlib.Omega.{arith}
-use native.Mathlib.Numerals.{add-one}
 use native.Mathlib.Nat.{add-zero, add-suc, suc-add}
-use lib.Dec.{ltb, leb, eqb}
+use lib.Dec.{ltb}
 use lib.IntN.{ℤ}
 use lib.ListN.{length, length-append, set}
 use lib.Seq.{sets}
 use borrow.Author.Tests.{le-leb, lt-leb, ltb-true, ltb-false}
-use Rattle.terms.specs.Logic.{pick, by-case}
+use Rattle.terms.specs.Logic.{by-case}
 use Rattle.alphabet_spec.specs.Entries.{entryAt}
 use Rattle.table_spec.specs.Frame.{entry-for}
-use Rattle.table_spec.specs.Values.{Value, Form, Spot, first, after, lastOr}
-use Rattle.table_spec.specs.Reading.{Tokens, fault, line, fresh, Says, adds, not, says, Answer, refuse, accept, push, took, judge}
+use Rattle.table_spec.specs.Values.{Value, Form, Spot, after, lastOr}
+use Rattle.table_spec.specs.Reading.{fault, fresh, adds, not, says, refuse, push, took, judge}
 use Rattle.table_lines.specs.Seen.{seen, behind, here}
 use Rattle.table_lines.specs.Ends.{Blanked, Ended}
-use Rattle.table_lines.specs.declared.Ending.the-variants.{Next, Bad}
+use Rattle.table_lines.specs.declared.Ending.the-variants.{Next}
 use Rattle.table_spec.specs.ReadingLaws.{push-none, push-push}
 use Rattle.table_values.specs.Numbers.{Token}
-use Rattle.table_values.specs.States.{ruled, Holds, Sits, Reads, Gone, Went, Row}
+use Rattle.table_values.specs.States.{ruled, Holds, Gone, Row}
 use Rattle.table_values.specs.declared.Cur.{Cur}
 
 -- ---- points, one part after the other

@@ -1,25 +1,23 @@
 -- States of the code, one after the other: within a run of differences, and along a line. No place of the code is named here. Assumes nothing.
-use mathlib.Core.Path.{_≡_, refl, sym, ap, _∙_, subst}
-use mathlib.Core.Bool.{Bool, true, false}
+use mathlib.Core.Path.{_≡_, refl, _∙_, subst}
+use mathlib.Core.Bool.{Bool}
 use mathlib.Core.List.{List, [], _∷_, map}
-use Prim.Native.Nat.{ℕ, zero, suc, _+_, _-_, _*_, _≤_, _<_}
+use Prim.Native.Nat.{ℕ, suc, _+_, _-_, _*_, _≤_, _<_}
 use native.Mathlib.Omega.{arith}
 use native.Mathlib.Numerals.{add-one}
 use native.Mathlib.Nat.{mul-one}
-use lib.Dec.{ltb, leb, eqb}
+use lib.Dec.{leb}
 use lib.IntN.{ℤ}
 use lib.ListN.{length, set, length-set}
 use lib.Seq.{sets}
 use Rattle.table_spec.specs.Frame.{entry-for}
-use Rattle.table_spec.specs.Values.{Value, by, Form, By, Spot, after, moved, copies}
-use Rattle.table_spec.specs.Reading.{fresh, refuse, judge}
-use Rattle.table_lines.specs.Seen.{seen, here}
+use Rattle.table_spec.specs.Values.{Value, by, By, Spot, moved, copies}
 use Rattle.table_values.specs.Numbers.{Token}
-use Rattle.table_values.specs.States.{ruled, shiftedTo, Reaches, Codes, dif, Holds, opening, checking, going, Sits, Reads, Gone, Went, Stepped, Row, Lined}
+use Rattle.table_values.specs.States.{shiftedTo, Reaches, dif, Holds, opening, checking, going, Sits, Went, Stepped, Lined}
 use Rattle.table_values.specs.declared.Cur.{Cur}
 use Rattle.table_values.specs.declared.Step.the-variants as step
 use Rattle.table_values.specs.declared.Valued.the-variants as valued
-use Rattle.table_values.proofs.Moves.{Shifts, shift-some, reach-next, reach-small}
+use Rattle.table_values.proofs.Moves.{shift-some, reach-next, reach-small}
 use Rattle.table_values.proofs.Turns.{value-adds, gone-same, gone-gone, gone-row, gone-refuse}
 use Rattle.table_values.proofs.Meanings.{dif-adds}
 

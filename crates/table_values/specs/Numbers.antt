@@ -1,16 +1,16 @@
 -- What reading a number of a value ensures (01, "Values"). Assumes nothing.
 use mathlib.Core.Path.{_≡_}
-use mathlib.Core.Bool.{Bool, true, false}
+use mathlib.Core.Bool.{true, false}
 use mathlib.Core.List.{List}
-use Prim.Native.Nat.{ℕ, _+_, _-_, _<_, _≤_}
+use Prim.Native.Nat.{ℕ, _<_, _≤_}
 use lib.Dec.{ltb, leb}
 use lib.ListN.{length}
 use Rattle.terms.specs.Logic.{pick}
 use Rattle.alphabet_spec.specs.Kinds.{Lead, sqz, dif, dup}
 use Rattle.alphabet_spec.specs.Entries.{entryAt}
-use Rattle.table_spec.specs.Values.{Value, own, by, times, valueOf}
+use Rattle.table_spec.specs.Values.{Value, own, valueOf}
 use Rattle.table_spec.specs.Reading.{value, fault}
-use Rattle.table_lines.specs.Seen.{behind, here}
+use Rattle.table_lines.specs.Seen.{here}
 use Rattle.table_values.specs.declared.NumberRead.{NumberRead}
 use Rattle.table_values.specs.declared.NumberRead.the-variants.{Read, Misspelled}
 

@@ -12,7 +12,7 @@ use Rattle.alphabet_spec.specs.Kinds.{tabs-too}
 use Rattle.alphabet_spec.specs.Entries.{entryAt}
 use Rattle.table_spec.specs.Frame.{Rules, entry-for}
 use Rattle.table_spec.specs.Values.{Form, Own, Gap, By, Dup, Spot, first, after, moved}
-use Rattle.table_spec.specs.Reading.{fresh, inRange, Answer, refuse, push, judge}
+use Rattle.table_spec.specs.Reading.{fresh, inRange, refuse, push, judge}
 use Rattle.table_lines.specs.Seen.{seen, here}
 use Rattle.table_values.specs.declared.Cur.{Cur}
 use Rattle.table_values.specs.declared.Step.{Step}

@@ -1,15 +1,15 @@
 // The values of a line (01, "Values", "Meaning"). Inner functions: the byte table is lent to them, and the state goes in and comes back by value.
 ghost use mathlib.Core.Path.{_≡_};
-ghost use mathlib.Core.Bool.{Bool, true, false};
+ghost use mathlib.Core.Bool.{false};
 ghost use mathlib.Core.List.{map};
 ghost use mathlib.Core.Logic.{_⊎_};
-ghost use Prim.Native.Nat.{ℕ, _+_, _-_, _*_, _/_, _%_, _<_, _≤_};
+ghost use Prim.Native.Nat.{_+_, _-_, _*_, _/_, _%_, _<_, _≤_};
 ghost use lib.Dec.{leb};
-ghost use lib.ListN.{length, set};
+ghost use lib.ListN.{set};
 ghost use lib.Seq.{sets};
 ghost use Rattle.alphabet_spec.specs.Entries.{entryAt, table};
 ghost use Rattle.table_spec.specs.Frame.{entry-for};
-ghost use Rattle.table_spec.specs.Values.{own, gap, by, times, By, copies, moved, room};
+ghost use Rattle.table_spec.specs.Values.{own, by, times, By, copies, moved, room};
 ghost use Rattle.table_values.specs.Numbers.{leadOf, valueAt, below, Token, Numbered};
 ghost use Rattle.table_values.specs.States.{shiftedTo, Reaches, Sits, Went, Stepped, Lined};
 use alphabet::digits;
@@ -191,7 +191,7 @@ fn repeat(out: &mut [i32], k: usize, q: u64, minus: bool, d: u64, n: usize)
 // ---- one value
 
 // THE HOT LOOP. As many differences as stand here one after the other and are right. It stops before anything else.
-pub fn differences(t: &[u8; 256], s: &[u8], points: usize, out: &mut [i32], c: Cur) -> Cur
+fn differences(t: &[u8; 256], s: &[u8], points: usize, out: &mut [i32], c: Cur) -> Cur
     requires { ⌜ (now t ≡ table) × Sits points (now s) c ⌝ }
     ensures { λ r. ⌜ Went points (now (s .entry)) c r (now (out .entry)) (now (out .exit)) ⌝ }
 {

@@ -1,5 +1,5 @@
 use native.Mathlib.Omega.{arith}
-use Rattle.table_values.proofs.NumberLaws.{lead-in, lead-digit, lead-fits, below-ten, packed-long, packed-token}
+use Rattle.table_values.proofs.NumberLaws.{lead-in, lead-fits, below-ten, packed-long, packed-token}
 use borrow.Author.Needs.{needs}
 use Rattle.table_values.proofs.packed.Statement.{statement}
 use Rattle.table_values.proofs.packed.Tie as tie

@@ -1,4 +1,4 @@
-use mathlib.Core.Path.{_≡_, refl, sym, ap, _∙_}
+use mathlib.Core.Path.{sym, _∙_}
 use native.Mathlib.Omega.{arith}
 use Rattle.table_values.proofs.NumberLaws.{digit-here, digit-late, plain-long, plain-token}
 use borrow.Author.Needs.{needs}

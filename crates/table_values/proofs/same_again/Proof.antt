@@ -1,15 +1,10 @@
 use mathlib.Core.Bool.{false}
-use mathlib.Core.Path.{_≡_, refl, sym, ap, _∙_, subst}
-use mathlib.Core.Logic.{_⊎_, inl, inr, ⊎-elim}
-use mathlib.Core.List.{[], _∷_}
-use Prim.Native.Nat.{ℕ, _+_, _-_, _*_, _/_, _%_, _<_, _≤_}
+use mathlib.Core.Path.{refl}
+use Prim.Native.Nat.{_-_}
 use native.Mathlib.Omega.{arith}
-use lib.Dec.{leb, eqb}
-use lib.ListN.{length, length-set}
-use Rattle.table_spec.specs.Values.{Own, Gap, By, Dup, own, by, times, copies, moved}
-use Rattle.table_values.specs.Numbers.{Token, below, valueAt}
-use Rattle.table_values.specs.States.{Sits, Went, Stepped, going, own as codes-own, gap as codes-gap, dif, dup-not, dup-dif}
-use Rattle.table_values.proofs.Turns.{value-not, value-full, value-adds, line-token, fault-token, gone-same, blank-moves}
+use Rattle.table_spec.specs.Values.{By}
+use Rattle.table_values.specs.States.{going, dup-not}
+use Rattle.table_values.proofs.Turns.{value-full, value-adds}
 use Rattle.table_values.proofs.Moves.{copies-length, same-last}
 use Rattle.table_values.proofs.Meanings.{dup-same}
 use Rattle.table_values.proofs.Walks.{sits-next}

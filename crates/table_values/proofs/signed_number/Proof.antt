@@ -1,4 +1,3 @@
-use mathlib.Core.Path.{_≡_, refl, sym, ap, _∙_}
 use native.Mathlib.Omega.{arith}
 use Rattle.alphabet_spec.specs.Entries.{entry-in}
 use Rattle.table_values.proofs.NumberLaws.{sign-alone, signed-long, signed-token}
