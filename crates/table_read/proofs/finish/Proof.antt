@@ -1,4 +1,4 @@
-use mathlib.Core.Path.{_≡_, refl, sym, ap, _∙_}
+use mathlib.Core.Path.{refl}
 use borrow.Author.Tests.{lt-ltb, le-ltb}
 use Rattle.table_read.proofs.finish.Statement.{statement}
 use Rattle.table_read.proofs.finish.Tie as tie

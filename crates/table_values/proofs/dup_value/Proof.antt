@@ -1,4 +1,4 @@
-use mathlib.Core.Path.{_≡_}
+use mathlib.Core.Path.{_≡_, refl}
 use Prim.Native.Nat.{_+_, _-_}
 use native.Mathlib.Omega.{arith}
 use Rattle.table_values.proofs.Turns.{value-not}
@@ -12,17 +12,18 @@ use Rattle.table_values.proofs.same_again.Reads as same-again-reads
 use Rattle.table_values.proofs.steps_again.Reads as steps-again-reads
 
 returns : tie.Need-returns
-returns c = let p = c .before .before .pre in λ passing y w h. value-not _ passing _ (p .3) _ y w 8 (dup-nowhere _ h (c .if1 .taken))
+returns c = let p = c .before .before .pre in (refl, λ y w h. value-not _ _ (p .3) _ y w 8 (dup-nowhere _ h (c .if1 .taken)))
 
 returns-2 : tie.Need-returns-2
-returns-2 c = let p = c .before .before .before .pre in λ passing y w h. value-not _ passing _ (p .3) _ y w 8 (dup-few _ h (c .if2 .taken))
+returns-2 c = let p = c .before .before .before .pre in (refl, λ y w h. value-not _ _ (p .3) _ y w 8 (dup-few _ h (c .if2 .taken)))
 
 sub-n : tie.Need-sub-n
 sub-n c = search needs
 
 same-again-requires : tie.Need-same-again-requires
 same-again-requires c κs =
-    let p = c .before .before .before .before .before .pre in let a = c .before .before .before .before .before .args in let l = c .before .before .if2 .left in let e : a .v ≡ a .v - 1 + 1 = omega arith in
+    let p = c .before .before .before .before .before .pre in let a = c .before .before .before .before .before .args in let l = c .before .before .if2 .left in
+    let e : a .v ≡ a .v - 1 + 1 = omega arith in
     (p .0, p .1, c .before .before .before .if1 .left, c .before .if3 .taken, omega arith, omega arith, rw (← e) (p .3))
 
 same-length : tie.Need-same-length
@@ -33,7 +34,8 @@ returns-3 c = search needs
 
 steps-again-requires : tie.Need-steps-again-requires
 steps-again-requires c κs =
-    let p = c .before .before .before .before .before .pre in let a = c .before .before .before .before .before .args in let l = c .before .before .if2 .left in let e : a .v ≡ a .v - 1 + 1 = omega arith in
+    let p = c .before .before .before .before .before .pre in let a = c .before .before .before .before .before .args in let l = c .before .before .if2 .left in
+    let e : a .v ≡ a .v - 1 + 1 = omega arith in
     (p .0, p .1, c .before .if3 .left, omega arith, omega arith, rw (← e) (p .3))
 
 same-length-2 : tie.Need-same-length-2

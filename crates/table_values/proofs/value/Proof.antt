@@ -23,7 +23,8 @@ returns c = search needs
 
 difference-requires : tie.Need-difference-requires
 difference-requires c κs =
-    let p = c .before .before .before .before .pre in let a = c .before .before .before .before .args in let d = c .before .if2 .taken in let l : 32 ≤ a .c .e = omega arith in let h : a .c .e < 64 = omega arith in
+    let p = c .before .before .before .before .pre in let a = c .before .before .before .before .args in let d = c .before .if2 .taken in let l : 32 ≤ a .c .e = omega arith in
+    let h : a .c .e < 64 = omega arith in
     (p .0, (let b = below-ten (a .c .e) in let x = p .4 in omega arith), l, h, rw (dif-at (a .c .e) (a .v) l h) at (p .5))
 
 same-length-2 : tie.Need-same-length-2
