@@ -4,10 +4,8 @@ use mathlib.Core.Bool.{Bool, false}
 use mathlib.Core.List.{List}
 use Prim.Native.Nat.{ℕ, suc, _-_, _<_}
 use native.Mathlib.Omega.{arith}
-use lib.Dec.{ltb}
 use lib.ListN.{getD, drop}
-use borrow.Author.Tests.{ltb-true, ltb-false}
-use Rattle.terms.specs.Logic.{by-case, zero-one}
+use Rattle.terms.specs.Logic.{zero-one}
 use Rattle.alphabet_spec.specs.Kinds.{tabs-too}
 use Rattle.alphabet_spec.specs.Digits.{Run, long, run, digits, some}
 use Rattle.alphabet_spec.specs.Bytes.{Byte, digit, lead, sign, quest, blank, point, lf, cr, dollar, other, kind}
@@ -29,10 +27,7 @@ no-further : {s : List ℕ} {i r q : ℕ} → Blanked s i r → Blanked s i q �
 no-further {r = r} x y l = x .stops (y .all r (x .low) l)
 
 pub blanks-unique : {s : List ℕ} {i r q : ℕ} → Blanked s i r → Blanked s i q → r ≡ q
-blanks-unique {r = r} {q} x y =
-    by-case (λ t. ltb r q ≡ t → r ≡ q) (ltb r q) (λ _ e. absurd (no-further x y (ltb-true r q e)))
-    (λ _ e. by-case (λ t. ltb q r ≡ t → r ≡ q) (ltb q r) (λ _ f. absurd (no-further y x (ltb-true q r f)))
-    (λ _ f. let a = ltb-false r q e in let b = ltb-false q r f in omega arith) refl) refl
+blanks-unique {r = r} {q} x y = let f : r < q → ⊥ = no-further x y in let g : q < r → ⊥ = no-further y x in omega (arith, f, g)
 
 -- ---- line_end
 

@@ -3,10 +3,8 @@ use mathlib.Core.Path.{_≡_, refl, sym, ap, _∙_}
 use mathlib.Core.List.{List}
 use Prim.Native.Nat.{ℕ, zero, suc, _<_}
 use native.Mathlib.Omega.{arith}
-use lib.Dec.{ltb}
 use lib.IntN.{ℤ}
-use borrow.Author.Tests.{ltb-true, ltb-false}
-use Rattle.terms.specs.Logic.{by-case, zero-one}
+use Rattle.terms.specs.Logic.{zero-one}
 use Rattle.table_spec.specs.Values.{Spot}
 use Rattle.table_lines.specs.Ends.{endAt}
 use Rattle.table_values.specs.States.{Holds, opening, checking, LineEnds, LineDone, LineBroken, Lined}
@@ -26,10 +24,8 @@ no-sooner x y l = let a = y .clear (x .stop) (x .low) l in let b = x .ends in om
 
 next-same : {s : List ℕ} {i j k : ℕ} → LineEnds s i j → LineEnds s i k → j ≡ k
 next-same {s} {j = j} {k} x y =
-    let z : x .stop ≡ y .stop =
-    by-case (λ t. ltb (x .stop) (y .stop) ≡ t → x .stop ≡ y .stop) (ltb (x .stop) (y .stop)) (λ _ e. absurd (no-sooner x y (ltb-true (x .stop) (y .stop) e)))
-    (λ _ e. by-case (λ t. ltb (y .stop) (x .stop) ≡ t → x .stop ≡ y .stop) (ltb (y .stop) (x .stop)) (λ _ f. absurd (no-sooner y x (ltb-true (y .stop) (x .stop) f)))
-    (λ _ f. let a = ltb-false (x .stop) (y .stop) e in let b = ltb-false (y .stop) (x .stop) f in omega arith) refl) refl in
+    let f : x .stop < y .stop → ⊥ = no-sooner x y in let g : y .stop < x .stop → ⊥ = no-sooner y x in
+    let z : x .stop ≡ y .stop = omega (arith, f, g) in
     let a = sym (x .next) ∙ ap (endAt s) z ∙ y .next in
     cc
 
