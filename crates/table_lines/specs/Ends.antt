@@ -25,16 +25,18 @@ pub record Blanked (s : List ℕ) (i r : ℕ) : Type 0 where
   pub within : here s i ≡ here s r
   pub stops : entryAt s r ≡ 112 → ⊥
 
+-- 01, "`$$` starts a comment that runs to the line's end": after its `$$`, at i, it runs up to r, its LF counted in
 pub record Commented (s : List ℕ) (i r : ℕ) : Type 0 where
   pub low : i ≤ r
   pub high : r ≤ length s
   pub is : comment (drop i s) ≡ r - i
 
--- 01, "Lines end with LF or CR LF; the end of the body also ends one": what stands at the place i, by the definition of reading: the next line's place, or that no line's end stands there
+-- a line's end whose first byte stands at i, as the code answers it: the place after all its bytes
 abbrev pub endOf : ℕ → EndRead → Ending
 endOf i (ends n) = Next (suc i + n)
 endOf i none = Bad
 
+-- 01, "Lines end with LF or CR LF; the end of the body also ends one": what stands at the place i, by the definition of reading, is the one answer there
 unfoldable pub endAt : List ℕ → ℕ → Ending
 endAt s i = pick (ltb i (length s)) (endOf i (ending (kind tabs-too (getD s i 0)) (drop (suc i) s))) (Next i)
 

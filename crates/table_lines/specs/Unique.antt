@@ -39,7 +39,7 @@ line-end-unique s i Bad Bad a b = refl
 
 -- ---- row_start: the first token that is left shows its place
 
--- the end of the body, what cannot stand there, a head or what is none
+-- what the first token is: 0 the end of the body, 3 a byte that cannot stand there, 4 a head or what is none
 abbrev sort : Tokens → ℕ
 sort (over a) = 0
 sort (fault c a) = c
@@ -47,6 +47,7 @@ sort (head a h r) = 4
 sort (value a v r) = 0
 sort (line r) = 0
 
+-- the place of the first token
 abbrev place : Tokens → ℕ
 place (over a) = a
 place (fault c a) = a
@@ -54,6 +55,7 @@ place (head a h r) = a
 place (value a v r) = a
 place (line r) = 0
 
+-- a head, or what is none, at the place a
 abbrev Shows : ℕ → Tokens → Type 0
 Shows a t = (sort t ≡ 4) × (place t ≡ a)
 

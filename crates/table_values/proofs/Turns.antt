@@ -19,7 +19,7 @@ use Rattle.table_lines.specs.Seen.{seen, here}
 use Rattle.table_lines.specs.Ends.{Blanked}
 use Rattle.table_values.specs.Numbers.{Clear, Token}
 use Rattle.table_values.specs.LineValues.{broken, given, taken, line-says, given-none, given-given}
-use Rattle.table_values.specs.States.{Codes, own, gap, dif, dup-not, dup-dif, difForm, Holds, opening, checking, going, Sits, Reads, Gone, Stepped, lastAt, LineDone, LineBroken}
+use Rattle.table_values.specs.States.{Codes, own, gap, dif, dup-not, dup-dif, difForm, Holds, opening, checking, going, Sits, Reads, Gone, Stepped, rowAfter, lastAt, LineDone, LineBroken}
 use Rattle.table_values.specs.declared.Cur.{Cur}
 use Rattle.table_values.specs.declared.Step.the-variants as step
 
@@ -119,7 +119,7 @@ module _ (N : ℕ) (s : List ℕ) (at k p : ℕ) (w : Spot) (out mid : List ℤ)
         law = g .law ∙ ap (given (g .points)) (z .law) ∙ given-given (g .points) (z .points) _;
       }
 
-  pub gone-done : (j : ℕ) → here s (b .at) ≡ line (seen s j fresh) → LineDone N s at k p w out mid (record { at = j; k = b .k; q = b .q; dif = difForm (b .form) })
+  pub gone-done : (j : ℕ) → here s (b .at) ≡ line (seen s j fresh) → LineDone N s at k p w out mid (rowAfter b j)
   unfolding line-says given
   gone-done j e =
       let z = spot-end (g .holds) in

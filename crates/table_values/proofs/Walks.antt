@@ -13,7 +13,7 @@ use lib.Seq.{sets}
 use Rattle.table_spec.specs.Frame.{entry-for}
 use Rattle.table_spec.specs.Values.{Value, by, By, Spot, moved, copies}
 use Rattle.table_values.specs.Numbers.{Token}
-use Rattle.table_values.specs.States.{shiftedTo, Reaches, dif, difForm, Holds, opening, checking, going, Sits, Went, Stepped, Lined}
+use Rattle.table_values.specs.States.{shiftedTo, Reaches, dif, Holds, opening, checking, going, Sits, Went, Stepped, rowAfter, Lined}
 use Rattle.table_values.specs.declared.Cur.{Cur}
 use Rattle.table_values.specs.declared.Step.the-variants as step
 use Rattle.table_values.specs.declared.LineRead.the-variants as linewise
@@ -67,15 +67,15 @@ abbrev pub line-start : ℕ → ℕ → ℕ → ℕ → Cur
 line-start at e k want = record { at = at; e = e; k = k; q = 0; want = want; step = 0; form = 0 }
 
 module _ {N : ℕ} {s : List ℕ} {at e k want : ℕ} {b : Cur} {out mid : List ℤ} (out' : List ℤ) (g : Went N s (line-start at e k want) b out mid) where
-  pub went-line : {j : ℕ} {d : Bool} → Stepped N s b mid out' (step.Line j) → d ≡ difForm (b .form) → Lined N s at k want out out' (linewise.Next (record { at = j; k = b .k; q = b .q; dif = d }))
-  went-line {j} h f =
+  pub went-line : {j : ℕ} → Stepped N s b mid out' (step.Line j) → Lined N s at k want out out' (linewise.Next (rowAfter b j))
+  went-line {j} h =
       let x = g .low in let y = h .0 in let z = g .sits in let l = h .3 in let q = z .stands in (
         omega arith,
         h .1,
         z .small,
         z .few,
         record { stop = b .at; low = x; clear = g .clear; ends = omega arith; next = h .4 },
-        λ p w v. rw (h .2, f) (gone-done N s at k p w out mid b (g .law p w v) j (h .5)),
+        λ p w v. rw (h .2) (gone-done N s at k p w out mid b (g .law p w v) j (h .5)),
       )
 
   pub went-refused : {n : ℕ} → Stepped N s b mid out' (step.Refused n) → Lined N s at k want out out' (linewise.Refused n (b .at))

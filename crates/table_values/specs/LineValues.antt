@@ -29,6 +29,7 @@ unfoldable pub taken : ℕ → (ℕ → ℕ → Form → LineValues) → ℕ →
 taken N f a i p (not c) = broken [] c a
 taken N f a i p (adds vs r) = pick (leb (i + length vs) N) (given vs (f (i + length vs) (lastOr p vs) r)) (broken [] 11 a)
 
+-- the values at the front of the tokens, with i points given of N, the last of them p, at the spot w
 unfoldable pub line-says : ℕ → Tokens → ℕ → ℕ → Spot → LineValues
 line-says N (over a) i p w = whole [] p w (over a)
 line-says N (fault c a) i p w = broken [] c a
@@ -51,6 +52,7 @@ given-given us vs (broken xs c a) = rw (append-assoc us vs xs) refl
 -- ---- and what reading makes of it
 
 module _ (R : Rules) where
+  -- reading on after the values of a line, with i points given before them
   abbrev pub judged : ℕ → LineValues → Answer
   judged i (whole us q w r) = push us (judge R r (i + length us) q w)
   judged i (broken us c a) = refuse c a

@@ -100,6 +100,10 @@ pub record LineEnds (s : List ℕ) (i j : ℕ) : Type 0 where
   pub ends : 160 ≤ entryAt s stop
   pub next : endAt s stop ≡ ending.Next j
 
+-- the state after a line, from the last one within it
+abbrev pub rowAfter : Cur → ℕ → Row
+rowAfter c j = record { at = j; k = c .k; q = c .q; dif = difForm (c .form) }
+
 -- the ordinate that the code keeps between lines: that of the last value, 0 for a missing one, or if there was none
 abbrev pub lastAt : Spot → ℕ → ℕ
 lastAt (first c) p = 0

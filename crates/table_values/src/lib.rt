@@ -11,7 +11,7 @@ ghost use Rattle.alphabet_spec.specs.Entries.{entryAt, table};
 ghost use Rattle.table_spec.specs.Frame.{entry-for};
 ghost use Rattle.table_spec.specs.Values.{own, by, times, By, copies, moved, room};
 ghost use Rattle.table_values.specs.Numbers.{leadOf, valueAt, below, Token, Numbered};
-ghost use Rattle.table_values.specs.States.{shiftedTo, difForm, Reaches, Sits, Went, Stepped, Lined};
+ghost use Rattle.table_values.specs.States.{shiftedTo, difForm, rowAfter, Reaches, Sits, Went, Stepped, Lined};
 use alphabet::digits;
 use alphabet::entry_at;
 use signed::entry_for;
@@ -50,7 +50,7 @@ enum Step {
     Refused(u64),
 }
 
-// Between lines: the place, how many points, the last ordinate (0: missing), and whether the line before ended in DIF form.
+// Between lines: the place, how many points, the last ordinate (0: missing, or none on that line), and whether the line before ended in DIF form.
 pub struct Row {
     pub at: usize,
     pub k: usize,
@@ -487,6 +487,19 @@ fn in_dif(form: u64) -> bool
     form >= 32
 }
 
+// The state after a line, from the last one within it; the next line stands at the place.
+fn row_after(c: Cur, at: usize) -> Row
+    ensures { λ r. ⌜ r ≡ rowAfter c at ⌝ }
+{
+    let dif = in_dif(c.form);
+    Row {
+        at,
+        k: c.k,
+        q: c.q,
+        dif,
+    }
+}
+
 // The values of a line, from a place with the entry e on, with k points given; the first must equal `want`, if that is not 0.
 pub fn values(
     t: &[u8; 256],
@@ -517,12 +530,7 @@ pub fn values(
                 c = d;
             }
             Step::Line(j) => {
-                return LineRead::Next(Row {
-                    at: j,
-                    k: b.k,
-                    q: b.q,
-                    dif: in_dif(b.form),
-                });
+                return LineRead::Next(row_after(b, j));
             }
             Step::Refused(n) => {
                 return LineRead::Refused(n, b.at);

@@ -10,7 +10,7 @@ use Rattle.table_values.proofs.values.Tie as tie
 use Rattle.table_values.proofs.values.Reads as reads
 use Rattle.table_values.proofs.values.Lts as lts
 use Rattle.table_values.proofs.differences.Reads as differences-reads
-use Rattle.table_values.proofs.in_dif.Reads as in-dif-reads
+use Rattle.table_values.proofs.row_after.Reads as row-after-reads
 use Rattle.table_values.proofs.token.Reads as token-reads
 
 abbrev Inv-loop : tie.InvT-loop
@@ -50,8 +50,8 @@ loop-again c =
 enum-known-j : tie.Need-enum-known-j Inv-loop μ-loop
 enum-known-j c = search needs
 
-in-dif-requires : tie.Need-in-dif-requires Inv-loop μ-loop
-in-dif-requires c κs = search needs
+row-after-requires : tie.Need-row-after-requires Inv-loop μ-loop
+row-after-requires c κs = search needs
 
 same-length : tie.Need-same-length Inv-loop μ-loop
 same-length c = search needs
@@ -60,7 +60,7 @@ returns : tie.Need-returns Inv-loop μ-loop
 returns c =
     let x = rw (c .before .before .j .given .1) at (c .before .before .before .before .before .token .ensures) in
     let g = c .before .before .before .before .before .before .before .before .before .before .loop .inv .0 in
-    went-line _ (went-went g (c .before .before .before .before .before .before .before .before .differences .ensures)) x (c .in-dif .ensures)
+    rw (c .row-after .ensures) (went-line _ (went-went g (c .before .before .before .before .before .before .before .before .differences .ensures)) x)
 
 enum-known-n : tie.Need-enum-known-n Inv-loop μ-loop
 enum-known-n c = search needs
@@ -87,7 +87,7 @@ values-spec =
     loop-less
     loop-again
     enum-known-j
-    in-dif-requires
+    row-after-requires
     same-length
     returns
     enum-known-n
