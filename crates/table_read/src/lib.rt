@@ -1,8 +1,7 @@
 // Reading a table (01, "Spelling of a body", "Refusal numbers"). The body is gone over twice by one pass: first to answer, with room for the first ordinate only, then to store. So a
 // refusal leaves every lent ordinate as it was.
 ghost use mathlib.Core.Path.{_≡_};
-ghost use mathlib.Core.Bool.{false};
-ghost use Prim.Native.Nat.{_-_, _<_};
+ghost use Prim.Native.Nat.{_<_};
 ghost use lib.ListN.{length};
 ghost use Rattle.alphabet_spec.specs.Entries.{entryAt, table};
 ghost use Rattle.frame.specs.Legal.{Sound};
