@@ -2,13 +2,12 @@
 use mathlib.Core.Path.{_≡_, refl, sym, ap, _∙_}
 use mathlib.Core.Bool.{Bool, true, false}
 use mathlib.Core.List.{List}
-use Prim.Native.Nat.{ℕ, suc, _<_}
+use Prim.Native.Nat.{ℕ, _<_}
 use native.Mathlib.Omega.{arith}
-use lib.ListN.{length, getD, drop}
+use lib.ListN.{getD}
 use Rattle.alphabet_spec.specs.Kinds.{tabs-too}
 use Rattle.alphabet_spec.specs.Digits.{Run, long, run, digits, some}
 use Rattle.alphabet_spec.specs.Bytes.{Byte, digit, lead, sign, quest, blank, point, lf, cr, dollar, other, kind}
-use Rattle.alphabet_spec.specs.KindLaws.{Back, kind-back}
 use Rattle.alphabet_spec.specs.Entries.{code, entryAt, entry, entry-in, at-entry}
 use Rattle.table_spec.specs.Values.{Value, own, valueOf, room}
 use Rattle.table_spec.specs.Reading.{Tokens, Mode, inner, valued, inside, step, bare}

@@ -1,30 +1,30 @@
 -- Heads: from the runs that were read to the head that they make. No place of the code is named here. Assumes nothing.
 use mathlib.Core.Path.{_≡_, refl, sym, ap, _∙_, subst}
 use mathlib.Core.Bool.{Bool, true, false}
-use mathlib.Core.List.{List, [], _∷_}
+use mathlib.Core.List.{List}
 use Prim.Native.Nat.{ℕ, zero, suc, _+_, _-_, _*_, _^_, _≤_, _<_}
 use native.Mathlib.Omega.{arith}
 use native.Mathlib.Numerals.{add-one}
-use native.Mathlib.Nat.{zero-add, mul-lt-mul-of-pos-right, mul-assoc}
-use lib.Dec.{ltb, leb, eqb, lit<}
+use native.Mathlib.Nat.{mul-lt-mul-of-pos-right, mul-assoc}
+use lib.Dec.{ltb, leb, lit<}
 use lib.ListN.{length, getD, drop}
 use lib.Seq.{drop-drop}
-use borrow.Author.Tests.{eq-eqb, ne-eqb, lt-ltb, le-ltb, lt-leb, le-leb, ltb-true, ltb-false}
+use borrow.Author.Tests.{ne-eqb, lt-ltb, le-ltb, lt-leb, le-leb, ltb-true, ltb-false}
 use Rattle.terms.specs.Logic.{pick, by-case}
-use Rattle.alphabet_spec.specs.Digits.{Run, long, run, digits, some}
+use Rattle.alphabet_spec.specs.Digits.{long, run, digits, some}
 use Rattle.alphabet_spec.specs.Bytes.{Byte, digit, lead, sign, quest, blank, point, lf, cr, dollar, other, kind}
-use Rattle.alphabet_spec.specs.Entries.{code, entryAt, entry, kindOf, at-entry}
+use Rattle.alphabet_spec.specs.Entries.{code, entryAt, entry, kindOf, at-entry, at-kind}
 use Rattle.alphabet_spec.specs.Kinds.{tabs-too}
 use Rattle.alphabet_spec.specs.KindLaws.{Back, kind-back}
 use Rattle.alphabet_spec.specs.DigitLaws.{digit-at}
 use Rattle.alphabet.specs.Ran.{Ran, ran-is, ran-below}
 use Rattle.table_spec.specs.Values.{headed-at}
-use Rattle.table_spec.specs.Reading.{Tokens, head, fault, Mode, fresh, inner, starts, scaled, pointed, thousandths, headed, opening, step}
-use Rattle.table_lines.specs.Seen.{seen, later, behind, later-seen, seen-kind, seen-step, not-behind}
+use Rattle.table_spec.specs.Reading.{Tokens, head, fault, Mode, fresh, inner, Rest, starts, scaled, pointed, thousandths, headed, opening, step}
+use Rattle.table_lines.specs.Seen.{behind, later-seen, seen-kind, seen-step, not-behind}
 use Rattle.table_lines.specs.Heads.{Scaled, Pointed, Topped, Headed}
 use Rattle.table_lines.specs.declared.HeadRead.{HeadRead}
 use Rattle.table_lines.specs.declared.HeadRead.the-variants.{Abscissa, NoHead}
-use Rattle.table_lines.proofs.LineEnds.{starts-not, starts-kind, inside-text}
+use Rattle.table_lines.proofs.LineEnds.{starts-not, starts-kind}
 
 -- the place after a run, with no blank behind it
 pub clear-after : {s : List ℕ} {i v most w j e : ℕ} → Ran s i v most w j e → behind s i ≡ false → behind s j ≡ false
@@ -118,18 +118,25 @@ module _ {s : List ℕ} (i : ℕ) {v most w j e : ℕ} (minus : Bool) (c : Byte)
   unfolding step
   no-fraction l p = seen-kind s i fresh c h k ∙ f _ ∙ rw (thousandths-at l, p (j - (i + 1))) refl
 
+  -- its bytes, whatever follows them
+  head-bytes : {x n d : ℕ} → 16 ≤ e → Scaled s j w minus x n d → (K : Rest) → opening K i (drop (suc i) s) (kind tabs-too (getD s i 0)) ≡ head i x (K (n - suc i) (inner false))
+  head-bytes {x} {n} {d} l p K =
+      let low = r .low in let a = p .low in
+      let z : j - (i + 1) + (n - j) ≡ n - suc i = omega arith in
+      rw (at-kind s i h ∙ k) (f K ∙ rw (thousandths-at l, p .law (j - (i + 1)), z, ← p .is) refl)
+
   pub topped : {x n d : ℕ} → 16 ≤ e → Scaled s j w minus x n d → Topped s i x n d
   unfolding step
   topped {x} {n} {d} l p =
       let low = r .low in let a = p .low in let b = p .small in
-      let z : j - (i + 1) + (n - j) ≡ n - suc i = omega arith in
       record {
         low = omega arith;
         high = p .high;
         stands = p .stands;
         clear = p .clear (clear-after r (not-behind s i nb));
         small = small-head minus (p .size) x (p .is) b;
-        law = seen-kind s i fresh c h k ∙ f _ ∙ rw (thousandths-at l, p .law (j - (i + 1)), z, ← p .is) (ap (head i x) (later-seen s (suc i) n (inner false) (omega arith) (p .high)));
+        bytes = head-bytes l p;
+        law = seen-step s i fresh h ∙ head-bytes l p _ ∙ ap (head i x) (later-seen s (suc i) n (inner false) (omega arith) (p .high));
       }
 
   -- whatever follows the whole number
@@ -159,34 +166,36 @@ sign-kind e l h =
       lt-ltb e 160 h,
     ) (rw (lt-ltb e 160 h) at z)
 
-some-more : (t : Bool) (w n : ℕ) → 0 < n → some (pick t long (run w n)) ≡ pick t long (run w n)
+-- digits after a sign: at least one
+pub some-more : (t : Bool) (w n : ℕ) → 0 < n → some (pick t long (run w n)) ≡ pick t long (run w n)
 some-more true w n h = refl
 some-more false w zero h = absurd (omega arith)
 some-more false w (suc n) h = refl
 
-some-none : (t : Bool) (w : ℕ) → some (pick t long (run w 0)) ≡ long
+pub some-none : (t : Bool) (w : ℕ) → some (pick t long (run w 0)) ≡ long
 some-none true w = refl
 some-none false w = refl
 
-module _ (s : List ℕ) (i : ℕ) {w j x : ℕ} where
-  run-there : {v most : ℕ} → Ran s (i + 1) v most w j x → digits (drop (suc i) s) most v 0 ≡ pick (ltb x 16) long (run w (j - (i + 1)))
-  run-there {v} {most} r = subst (λ (k : ℕ). digits (drop k s) most v 0 ≡ pick (ltb x 16) long (run w (j - (i + 1)))) (add-one i) (ran-is r)
+-- the run that was read after the byte at the place i
+pub run-there : (s : List ℕ) (i : ℕ) {v most w j e : ℕ} → Ran s (i + 1) v most w j e → digits (drop (suc i) s) most v 0 ≡ pick (ltb e 16) long (run w (j - (i + 1)))
+run-there s i {v} {most} {w} {j} {e} r = subst (λ (k : ℕ). digits (drop k s) most v 0 ≡ pick (ltb e 16) long (run w (j - (i + 1)))) (add-one i) (ran-is r)
 
+module _ (s : List ℕ) (i : ℕ) {w j x : ℕ} where
   pub digit-opens : (e : ℕ) → Ran s (i + 1) e 6 w j x
       → (K : ℕ → Mode → Tokens) → opening K i (drop (suc i) s) (digit e) ≡ headed K i false (thousandths (drop (suc i) s) (pick (ltb x 16) long (run w (j - (i + 1)))))
   unfolding opening
-  digit-opens e r K = rw (run-there r) refl
+  digit-opens e r K = rw (run-there s i r) refl
 
   pub sign-opens : (m : Bool) → Ran s (i + 1) 0 7 w j x → (j ≡ i + 1 → ⊥)
       → (K : ℕ → Mode → Tokens) → opening K i (drop (suc i) s) (sign m) ≡ headed K i m (thousandths (drop (suc i) s) (pick (ltb x 16) long (run w (j - (i + 1)))))
   unfolding opening
-  sign-opens m r n K = let low = r .low in let l : 0 < j - (i + 1) = omega (arith, n) in rw (run-there r, some-more (ltb x 16) w (j - (i + 1)) l) refl
+  sign-opens m r n K = let low = r .low in let l : 0 < j - (i + 1) = omega (arith, n) in rw (run-there s i r, some-more (ltb x 16) w (j - (i + 1)) l) refl
 
   pub sign-alone : (e : ℕ) → i < length s → e ≡ entryAt s i → 128 ≤ e → e < 160 → Ran s (i + 1) 0 7 w j x → j ≡ i + 1 → Headed s i NoHead
   unfolding opening step thousandths
   sign-alone e h g l k r n =
       let z : j - (i + 1) ≡ 0 = omega arith in
-      seen-kind s i fresh (sign (leb 144 e)) h (ap kindOf (sym g) ∙ sign-kind e l k) ∙ rw (run-there r, z, some-none (ltb x 16) w) refl
+      seen-kind s i fresh (sign (leb 144 e)) h (ap kindOf (sym g) ∙ sign-kind e l k) ∙ rw (run-there s i r, z, some-none (ltb x 16) w) refl
 
 -- a byte that begins a value and no head
 opens-not : (K : ℕ → Mode → Tokens) (a : ℕ) (t : List ℕ) (b : ℕ) (c : Byte) → Back tabs-too b c → 16 ≤ code c → code c < 128 → (code c ≡ 112 → ⊥) → opening K a t c ≡ fault 4 a

@@ -1,22 +1,28 @@
 -- Blanks, comments and ends of lines: from the entries at a place to what is left to read. No place of the code is named here. Assumes nothing.
-use mathlib.Core.Path.{_≡_, refl, sym, ap, _∙_, subst}
+use mathlib.Core.Path.{_≡_, refl, sym, ap, _∙_}
 use mathlib.Core.Bool.{Bool, true, false}
-use mathlib.Core.List.{List, [], _∷_}
-use Prim.Native.Nat.{ℕ, zero, suc, _+_, _-_, _≤_, _<_}
+use mathlib.Core.List.{List}
+use Prim.Native.Nat.{ℕ, suc, _+_, _-_, _≤_, _<_}
 use native.Mathlib.Omega.{arith}
 use native.Mathlib.Numerals.{add-one}
-use lib.Dec.{ltb, leb, eqb}
-use lib.ListN.{length, getD, drop, drop-of-length-le, length-drop}
+use lib.Dec.{ltb, eqb}
+use lib.ListN.{length, getD, drop, drop-of-length-le}
 use lib.Seq.{drop-cons, drop-drop}
 use borrow.Author.Tests.{eq-eqb, ne-eqb, lt-ltb, le-ltb, ltb-true, ltb-false}
 use Rattle.terms.specs.Logic.{pick, by-case}
-use Rattle.alphabet_spec.specs.Bytes.{Byte, digit, lead, sign, quest, blank, point, lf, cr, dollar, other, kind}
+use Rattle.alphabet_spec.specs.Kinds.{tabs-too}
+use Rattle.alphabet_spec.specs.Bytes.{Byte, blank, point, lf, cr, dollar, other, kind}
 use Rattle.alphabet_spec.specs.KindLaws.{Back}
-use Rattle.alphabet_spec.specs.Entries.{entryAt, entry, kindOf, entry-in, entry-end, past-end, at-entry}
-use Rattle.table_spec.specs.Reading.{Tokens, over, fault, line, comment, starts, ends, none, ending, Mode, fresh, inner, ended, opening, inside, step, stop}
+use Rattle.alphabet_spec.specs.Entries.{entryAt, entry, kindOf, entry-in, entry-end, at-entry, at-kind}
+use Rattle.table_spec.specs.Reading.{Tokens, over, fault, line, comment, starts, Ending as EndRead, ends, none, ending, Mode, fresh, inner, ended, opening, inside, step, stop}
 use Rattle.table_lines.specs.Seen.{seen, later, behind, here, seen-end, later-seen, later-none, seen-kind, byte-back}
-use Rattle.table_lines.specs.Ends.{Blanked, Commented, Ended}
+use Rattle.table_lines.specs.Ends.{Commented, endOf, endAt, Ended}
 use Rattle.table_lines.specs.declared.Ending.the-variants.{Next, Bad}
+
+-- what holds at each place from i up to r, and at r
+pub place-more : (P : ℕ → Type 0) {i r : ℕ} → ((k : ℕ) → i ≤ k → k < r → P k) → P r → (k : ℕ) → i ≤ k → k < r + 1 → P k
+place-more P {i} {r} f e k l h =
+    by-case (λ t. ltb k r ≡ t → P k) (ltb k r) (λ _ x. f k l (ltb-true k r x)) (λ _ x. let y = ltb-false k r x in let z : k ≡ r = omega arith in rw z e) refl
 
 -- an entry that is not the end's
 pub inside-text : (s : List ℕ) (i e : ℕ) → entryAt s i ≡ e → e < 256 → i < length s
@@ -60,6 +66,10 @@ Ends c =
     ((K : ℕ → Mode → Tokens) (a : ℕ) (t : List ℕ) → opening K a t c ≡ ended (λ n. K n fresh) a (ending c t))
     × ((K : ℕ → Mode → Tokens) (a : ℕ) (t : List ℕ) (q : Bool) → inside K a t q c ≡ ended (λ n. line (K n fresh)) a (ending c t))
 
+end-is : (s : List ℕ) (i : ℕ) (c : Byte) {x : EndRead} → i < length s → kindOf (entryAt s i) ≡ c → ending c (drop (suc i) s) ≡ x → endAt s i ≡ endOf i x
+unfolding endAt
+end-is s i c h k e = rw (lt-ltb i (length s) h, at-kind s i h ∙ k, e) refl
+
 module _ (s : List ℕ) (i : ℕ) (c : Byte) (f : Ends c) (h : i < length s) (k : kindOf (entryAt s i) ≡ c) where
   ends-there : (j : ℕ) → suc i ≤ j → j ≤ length s → ending c (drop (suc i) s) ≡ ends (j - suc i) → Ended s i (Next j)
   unfolding step
@@ -69,11 +79,12 @@ module _ (s : List ℕ) (i : ℕ) (c : Byte) (f : Ends c) (h : i < length s) (k 
     λ _. l,
     seen-kind s i fresh c h k ∙ f .0 _ i _ ∙ rw e (later-seen s (suc i) j fresh l m),
     λ q. seen-kind s i (inner q) c h k ∙ f .1 _ i _ q ∙ rw e (ap line (later-seen s (suc i) j fresh l m)),
+    (let z : suc i + (j - suc i) ≡ j = omega arith in end-is s i c h k e ∙ ap Next z),
   )
 
   ends-not : ending c (drop (suc i) s) ≡ none → Ended s i Bad
   unfolding step
-  ends-not e = (seen-kind s i fresh c h k ∙ f .0 _ i _ ∙ rw e refl, λ q. seen-kind s i (inner q) c h k ∙ f .1 _ i _ q ∙ rw e refl)
+  ends-not e = (seen-kind s i fresh c h k ∙ f .0 _ i _ ∙ rw e refl, λ q. seen-kind s i (inner q) c h k ∙ f .1 _ i _ q ∙ rw e refl, end-is s i c h k e)
 
 lf-ends : Ends lf
 unfolding opening inside
@@ -97,14 +108,14 @@ starts-not s i b n =
     (λ _ h. rw (drop-of-length-le s (ltb-false i (length s) h)) refl) refl
 
 -- the text from i on starts with the one byte of a kind
-pub starts-kind : (s : List ℕ) (i b e : ℕ) (c : Byte) → entryAt s i ≡ e → e < 256 → kindOf e ≡ c → (Back Rattle.alphabet_spec.specs.Kinds.tabs-too (getD s i 0) c → getD s i 0 ≡ b) → starts b (drop i s) ≡ true
+pub starts-kind : (s : List ℕ) (i b e : ℕ) (c : Byte) → entryAt s i ≡ e → e < 256 → kindOf e ≡ c → (Back tabs-too (getD s i 0) c → getD s i 0 ≡ b) → starts b (drop i s) ≡ true
 starts-kind s i b e c h l k f = let g = inside-text s i e h l in starts-with s i b g (f (byte-back s i c g (ap kindOf h ∙ k)))
 
 pub end-over : (s : List ℕ) (i : ℕ) → i ≤ length s → entryAt s i ≡ 256 → Ended s i (Next i)
-unfolding stop
+unfolding stop endAt
 end-over s i l e =
     let z = entry-end s i e in let f : i ≡ length s = omega arith in
-    (omega arith, l, λ h. absurd (omega arith), refl, λ q. seen-end s i (inner q) z ∙ ap line (sym (seen-end s i fresh z)))
+    (omega arith, l, λ h. absurd (omega arith), refl, λ q. seen-end s i (inner q) z ∙ ap line (sym (seen-end s i fresh z)), rw (le-ltb i (length s) z) refl)
 
 pub end-lf : (s : List ℕ) (i : ℕ) → entryAt s i ≡ 176 → Ended s i (Next (i + 1))
 unfolding ending
@@ -166,11 +177,16 @@ unfolding step opening inside
 bad-step K a t true = (refl, λ q. refl)
 bad-step K a t false = (refl, λ q. refl)
 
+bad-ending : (t : List ℕ) (x : Bool) → ending (pick x point other) t ≡ none
+unfolding ending
+bad-ending t true = refl
+bad-ending t false = refl
+
 pub end-bad : (s : List ℕ) (i : ℕ) → 160 ≤ entryAt s i → (entryAt s i ≡ 256 → ⊥) → (entryAt s i ≡ 176 → ⊥) → (entryAt s i ≡ 192 → ⊥) → (entryAt s i ≡ 208 → ⊥) → Ended s i Bad
 end-bad s i l a b c d =
     let k = kind-bad (entryAt s i) l b c d in let h = entry-in s i a in
     let z = bad-step (later s (suc i)) i (drop (suc i) s) (eqb (entryAt s i) 160) in
-    (seen-kind s i fresh _ h k ∙ z .0, λ q. seen-kind s i (inner q) _ h k ∙ z .1 q)
+    (seen-kind s i fresh _ h k ∙ z .0, λ q. seen-kind s i (inner q) _ h k ∙ z .1 q, end-is s i _ h k (bad-ending (drop (suc i) s) (eqb (entryAt s i) 160)))
 
 pub start-end : (s : List ℕ) (i : ℕ) → i ≤ length s → entryAt s i ≡ 256 → seen s i fresh ≡ over (length s)
 unfolding stop

@@ -1,13 +1,15 @@
 -- What the functions on heads ensure (01, "Head"). Assumes nothing.
 use mathlib.Core.Path.{_≡_}
-use mathlib.Core.Bool.{Bool, true, false}
+use mathlib.Core.Bool.{Bool, false}
 use mathlib.Core.List.{List}
-use Prim.Native.Nat.{ℕ, _+_, _-_, _<_, _≤_}
-use lib.ListN.{length, drop}
+use Prim.Native.Nat.{ℕ, suc, _+_, _-_, _<_, _≤_}
+use lib.ListN.{length, getD, drop}
+use Rattle.alphabet_spec.specs.Kinds.{tabs-too}
 use Rattle.alphabet_spec.specs.Digits.{long, run}
+use Rattle.alphabet_spec.specs.Bytes.{kind}
 use Rattle.alphabet_spec.specs.Entries.{entryAt}
 use Rattle.table_spec.specs.Values.{headed-at}
-use Rattle.table_spec.specs.Reading.{head, fault, fresh, inner, pointed}
+use Rattle.table_spec.specs.Reading.{head, fault, fresh, inner, pointed, Rest, opening}
 use Rattle.table_lines.specs.Seen.{seen, behind}
 use Rattle.table_lines.specs.declared.HeadRead.{HeadRead}
 use Rattle.table_lines.specs.declared.HeadRead.the-variants.{Abscissa, NoHead}
@@ -27,15 +29,17 @@ abbrev pub Pointed : List ℕ → ℕ → ℕ → Bool → HeadRead → Type 0
 Pointed s i w minus (Abscissa h j e) = Scaled s i w minus h j e
 Pointed s i w minus NoHead = (n : ℕ) → pointed (drop i s) w n ≡ long
 
--- a head stands at the place i, and values may stand from j on; or what stands there is no head
+-- a head stands at the place i, with the abscissa h, and values may stand from j on: its bytes are those from i up to j, whatever K says of what stands after them
 pub record Topped (s : List ℕ) (i h j e : ℕ) : Type 0 where
   pub low : i < j
   pub high : j ≤ length s
   pub stands : e ≡ entryAt s j
   pub clear : behind s j ≡ false
   pub small : h < 20000000000
+  pub bytes : (K : Rest) → opening K i (drop (suc i) s) (kind tabs-too (getD s i 0)) ≡ head i h (K (j - suc i) (inner false))
   pub law : seen s i fresh ≡ head i h (seen s j (inner false))
 
+-- that; or what stands at the place is no head
 abbrev pub Headed : List ℕ → ℕ → HeadRead → Type 0
 Headed s i (Abscissa h j e) = Topped s i h j e
 Headed s i NoHead = seen s i fresh ≡ fault 4 i

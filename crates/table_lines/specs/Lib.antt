@@ -1,3 +1,4 @@
 pub mod Seen
 pub mod Ends
 pub mod Heads
+pub mod Unique

@@ -1,10 +1,9 @@
 -- The tokens of a body from a place on: what is left to read from here, and how it goes on by one byte. Assumes nothing.
-use mathlib.Core.Path.{_≡_, refl, sym, ap, _∙_, subst}
-use mathlib.Core.Bool.{Bool, true, false}
+use mathlib.Core.Path.{_≡_, refl, ap, _∙_, subst}
+use mathlib.Core.Bool.{Bool, false}
 use mathlib.Core.List.{List, [], _∷_}
 use Prim.Native.Nat.{ℕ, zero, suc, _+_, _-_, _≤_, _<_}
 use native.Mathlib.Omega.{arith}
-use native.Mathlib.Numerals.{add-one}
 use native.Mathlib.Nat.{add-zero, add-suc, suc-add, le-of-suc-le-suc, not-suc-le-zero}
 use lib.Dec.{eqb}
 use lib.ListN.{length, getD, drop, drop-of-length-le, length-drop}
@@ -15,7 +14,7 @@ use Rattle.alphabet_spec.specs.Kinds.{tabs-too}
 use Rattle.alphabet_spec.specs.Bytes.{Byte, kind}
 use Rattle.alphabet_spec.specs.KindLaws.{Back, kind-back}
 use Rattle.alphabet_spec.specs.Entries.{entryAt, kindOf, at-kind}
-use Rattle.table_spec.specs.Reading.{Tokens, Mode, fresh, inner, step, stop, tokens}
+use Rattle.table_spec.specs.Reading.{Tokens, Mode, inner, step, stop, tokens}
 
 -- what is left to read from the place i
 unfoldable pub seen : List ℕ → ℕ → Mode → Tokens

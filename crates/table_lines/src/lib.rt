@@ -1,7 +1,6 @@
 // Lines of a body (01, "Spelling of a body"): blanks, comments, ends of lines, the start of the next line, and heads. Inner functions: the byte table is lent to them.
 ghost use mathlib.Core.Path.{_≡_};
-ghost use mathlib.Core.Bool.{Bool, false};
-ghost use Prim.Native.Nat.{ℕ, _+_, _-_, _<_, _≤_, _^_};
+ghost use Prim.Native.Nat.{_-_, _<_, _≤_, _^_};
 ghost use lib.ListN.{length};
 ghost use Rattle.alphabet_spec.specs.Entries.{entryAt, table};
 ghost use Rattle.table_spec.specs.Values.{headed-at};

@@ -2,7 +2,7 @@
 use mathlib.Core.Path.{_≡_, refl, sym, ap, _∙_, subst}
 use mathlib.Core.Bool.{Bool, true, false}
 use mathlib.Core.List.{List, [], _∷_, map}
-use Prim.Native.Nat.{ℕ, zero, suc, _≤_, _<_}
+use Prim.Native.Nat.{ℕ, suc, _≤_, _<_}
 use native.Mathlib.Omega.{arith}
 use lib.Dec.{ltb, leb}
 use lib.IntN.{ℤ, pos}
@@ -11,7 +11,7 @@ use lib.Seq.{sets}
 use borrow.Author.Tests.{le-leb, lt-leb, lt-ltb, le-ltb, leb-true, leb-false, ltb-true, ltb-false}
 use Rattle.terms.specs.Refusals.{refusal}
 use Rattle.terms.specs.declared.TableRead.the-variants as tables
-use Rattle.terms.specs.Logic.{pick, both, by-case, zero-one}
+use Rattle.terms.specs.Logic.{both, by-case, zero-one}
 use Rattle.table_spec.specs.Frame.{Rules, frame-legal, longest-body, entry-for}
 use Rattle.table_spec.specs.Reading.{Answer, refuse, accept, read, readTable, stored}
 use Rattle.frame.specs.declared.Frame.{Frame}
@@ -20,7 +20,6 @@ use Rattle.table_read.specs.Rows.{frame-rules, passedOf, PassSays}
 use Rattle.table_read.specs.Answers.{told, toldFirst, Accepts, TableSays}
 use Rattle.table_read.specs.declared.Passed.{Passed}
 use Rattle.table_read.specs.declared.Passed.the-variants as passed
-use Rattle.table_read.specs.declared.Checked.{Checked}
 use Rattle.table_read.specs.declared.Checked.the-variants as checks
 
 -- ---- what a pass answered
@@ -97,7 +96,8 @@ pub first-accepts : (x : Answer) {y : ℤ} → checks.First y ≡ toldFirst x �
 first-accepts (refuse c a) e = zero-one cc
 first-accepts (accept ys) e = tt
 
-pub read-accepted : {f l : ℤ} {n : ℕ} {s : List ℕ} {out out' : List ℤ} → Accepts (readTable f l n s (length out)) → out' ≡ stored out (readTable f l n s (length out)) → TableSays f l n s out out' (tables.Accepted n)
+pub read-accepted : {f l : ℤ} {n : ℕ} {s : List ℕ} {out out' : List ℤ} → Accepts (readTable f l n s (length out)) → out' ≡ stored out (readTable f l n s (length out))
+    → TableSays f l n s out out' (tables.Accepted n)
 read-accepted {f} {l} {n} {s} {out} {out'} a o = record { answers = go (readTable f l n s (length out)) a; leaves = o }
   where
     go : (x : Answer) → Accepts x → tables.Accepted n ≡ told n x

@@ -1,27 +1,24 @@
 -- One line: from its head, its check and its values to the state after it. No place of the code is named here. Assumes nothing.
-use mathlib.Core.Path.{_≡_, refl, sym, ap, _∙_, subst}
+use mathlib.Core.Path.{_≡_, refl, sym, _∙_}
 use mathlib.Core.Bool.{Bool, true, false}
-use mathlib.Core.List.{List, [], _∷_}
-use Prim.Native.Nat.{ℕ, zero, suc, _+_, _-_, _≤_, _<_}
+use mathlib.Core.List.{List}
+use Prim.Native.Nat.{ℕ, _-_, _≤_, _<_}
 use native.Mathlib.Omega.{arith}
-use lib.Dec.{ltb, leb, eqb}
 use lib.IntN.{ℤ}
-use lib.ListN.{length}
-use borrow.Author.Tests.{le-leb, ne-eqb}
-use Rattle.terms.specs.Logic.{pick, by-case, no-way}
+use Rattle.terms.specs.Logic.{pick, no-way}
 use Rattle.table_spec.specs.Frame.{passes}
-use Rattle.table_spec.specs.Values.{Form, Spot, first, after, index}
-use Rattle.table_spec.specs.Reading.{fresh, inner, head, fault, bare, difBefore, Answer, refuse, checked, judge}
-use Rattle.table_lines.specs.Seen.{seen, behind, here}
+use Rattle.table_spec.specs.Values.{Spot, first, after, index}
+use Rattle.table_spec.specs.Reading.{fresh, inner, bare, difBefore, checked, judge}
+use Rattle.table_lines.specs.Seen.{seen, here}
 use Rattle.table_lines.specs.Heads.{Topped, Headed}
-use Rattle.table_lines.specs.declared.HeadRead.the-variants.{Abscissa, NoHead}
-use Rattle.table_values.specs.States.{ruled, Codes, own, gap, dif, dup-not, dup-dif, Holds, opening, checking, going, Sits, Lined, Row as LineRow}
-use Rattle.table_values.specs.declared.Cur.{Cur}
-use Rattle.table_values.specs.declared.Valued.the-variants as valued
+use Rattle.table_lines.specs.declared.HeadRead.the-variants.{NoHead}
+use Rattle.table_values.specs.LineValues.{judged, line-says, line-judge}
+use Rattle.table_values.specs.States.{Holds, opening, checking, lastAt, Lined}
+use Rattle.table_values.specs.declared.Row.{Row}
+use Rattle.table_values.specs.declared.LineRead.{LineRead}
+use Rattle.table_values.specs.declared.LineRead.the-variants as linewise
 use Rattle.frame.specs.declared.Frame.{Frame}
-use Rattle.table_read.specs.Rows.{frame-rules, difForm, Between, Rests, Onward, LineSays}
-use Rattle.table_read.specs.declared.Row.{Row}
-use Rattle.table_read.specs.declared.LineRead.the-variants as linewise
+use Rattle.table_read.specs.Rows.{frame-rules, Between, LineSays}
 
 -- ---- how the states fit together
 
@@ -30,21 +27,10 @@ pub line-start : (d : Bool) (p q : ℕ) → (d ≡ true → (p ≡ q) × (0 < q)
 line-start true p q f = let z = f refl in rw (z .0) (checking (z .1))
 line-start false p q f = opening
 
--- at a line's end: the form of the last value
-dif-high : (e : ℕ) → 32 ≤ e → difForm e ≡ true
-dif-high e l = rw (ne-eqb e 1 (λ x. omega arith), le-leb 32 e l) refl
-
-form-end : {e d q : ℕ} {f : Form} → Codes e d q f → (difBefore (after f) ≡ difForm e) × (difForm e ≡ true → 0 < q)
-form-end own = (refl, λ x. no-way x)
-form-end gap = (refl, λ x. no-way x)
-form-end (dif {e = e} a b c) = (sym (dif-high e a), λ x. c)
-form-end dup-not = (refl, λ x. no-way x)
-form-end (dup-dif c) = (refl, λ x. c)
-
-pub line-end-state : {q want d e p at k : ℕ} {w : Spot} → Holds q want d e p w → Between (record { at = at; k = k; q = q; dif = difForm e }) p w
-line-end-state opening = record { form = refl; last = λ x. no-way x }
-line-end-state (checking h) = record { form = refl; last = λ x. no-way x }
-line-end-state (going h) = let z = form-end h in record { form = z .0; last = λ x. (refl, z .1 x) }
+-- at a line's end: the last ordinate and its form, as the values kept them
+line-end-state : {r : Row} (p : ℕ) (w : Spot) → r .q ≡ lastAt w p → r .dif ≡ difBefore w → (r .dif ≡ true → 0 < r .q) → Between r p w
+line-end-state p (first c) e f g = record { form = sym f; last = λ x. no-way (sym f ∙ x) }
+line-end-state p (after h) e f g = record { form = sym f; last = λ x. (sym e, g x) }
 
 -- ---- the head
 
@@ -78,31 +64,35 @@ module _ (fr : Frame) (s : List ℕ) (r : Row) (at : ℕ) where
         unfolding checked
         line-opened p w b = line-checked p w b ∙ rw (e, sym bare-here ∙ g, t .clear) refl
 
-        abbrev start : ℕ → Cur
-        start want = record { at = j; e = f; k = r .k; q = 0; want = want; step = 0; form = 0 }
+        module _ {want : ℕ} (z : want ≡ pick (r .dif) (r .q) 0) where
+          line-starts : (p : ℕ) (w : Spot) → Between r p w → Holds 0 want 0 0 p (first (r .dif))
+          line-starts p w b = rw z (line-start (r .dif) p (r .q) (b .last))
 
-        pub line-refused : {c a want : ℕ} (out out' : List ℤ) → want ≡ pick (r .dif) (r .q) 0 → Lined (fr .points) s (start want) out out' (valued.Refused c a)
-            → LineSays (frame-rules fr) s r at out out' (linewise.Refused c a)
-        line-refused out out' z l p w b = line-opened p w b ∙ l (passes (fr .first) (fr .last) (fr .points)) p (first (r .dif)) (rw z (line-start (r .dif) p (r .q) (b .last)))
+          -- reading on from the head is what the values say, and then what is left
+          line-valued : (p : ℕ) (w : Spot) → Between r p w → judge (frame-rules fr) (seen s at fresh) (r .k) p w
+              ≡ judged (frame-rules fr) (r .k) (line-says (fr .points) (here s j) (r .k) p (first (r .dif)))
+          line-valued p w b = line-opened p w b ∙ line-judge (frame-rules fr) (here s j) (r .k) p (first (r .dif))
 
-        pub line-read : {want : ℕ} {c : Cur} {n : ℕ} {d : Bool} {out out' : List ℤ} → want ≡ pick (r .dif) (r .q) 0 → d ≡ difForm (c .form)
-            → Lined (fr .points) s (start want) out out' (valued.Done c n) → LineSays (frame-rules fr) s r at out out' (linewise.Next (record { at = n; k = c .k; q = c .q; dif = d }))
-        line-read {c = c} {n = n} {d = d} {out = out} {out' = out'} z y l =
-            let a = t .low in let x = l .1 in (
-              omega arith,
-              record { high = l .0; small = l .2 .small; few = l .2 .few },
-              λ p w b.
-                  let v = l .3 (passes (fr .first) (fr .last) (fr .points)) p (first (r .dif)) (rw z (line-start (r .dif) p (r .q) (b .last))) in
-                  record {
-                    points = v .points;
-                    ordinate = v .ordinate;
-                    spot = v .spot;
-                    between = rw y (line-end-state (v .holds));
-                    count = v .count;
-                    stored = v .stored;
-                    law = line-opened p w b ∙ v .law;
-                  },
-            )
+          -- whatever the values answer
+          pub line-read : (out out' : List ℤ) (x : LineRead) → Lined (fr .points) s j (r .k) want out out' x → LineSays (frame-rules fr) s r at out out' x
+          unfolding judge
+          line-read out out' (linewise.Refused c a) l = λ p w b. line-valued p w b ∙ rw (l p (first (r .dif)) (line-starts p w b) .law) refl
+          line-read out out' (linewise.Next n) l =
+              let a = t .low in let x = l .0 in (
+                omega arith,
+                record { high = l .1; small = l .2; few = l .3 },
+                λ p w b.
+                    let v = l .5 p (first (r .dif)) (line-starts p w b) in
+                    record {
+                      points = v .points;
+                      ordinate = v .ordinate;
+                      spot = v .spot;
+                      between = line-end-state (v .ordinate) (v .spot) (v .last) (v .form) (v .some);
+                      count = v .count;
+                      stored = v .stored;
+                      law = line-valued p w b ∙ rw (v .law, v .count) refl;
+                    },
+              )
 
 pub index-small : (d : Bool) (k : ℕ) {N : ℕ} → N ≤ 65536 → k ≤ N → index d k ≤ 65536
 index-small true k l h = omega arith

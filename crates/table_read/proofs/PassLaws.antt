@@ -1,25 +1,25 @@
 -- Line after line to the end of the body. No place of the code is named here. Assumes nothing.
-use mathlib.Core.Path.{_≡_, refl, sym, ap, _∙_, subst}
+use mathlib.Core.Path.{_≡_, refl, sym, ap, _∙_}
 use mathlib.Core.Bool.{Bool, true, false}
-use mathlib.Core.List.{List, [], _∷_, _++_, append-assoc, append-nil, map}
-use Prim.Native.Nat.{ℕ, zero, suc, _+_, _-_, _≤_, _<_}
+use mathlib.Core.List.{List, [], _++_, append-nil, map}
+use Prim.Native.Nat.{ℕ, _+_, _-_}
 use native.Mathlib.Omega.{arith}
-use native.Mathlib.Nat.{add-zero, zero-add}
+use native.Mathlib.Nat.{zero-add}
 use lib.Dec.{ltb}
 use lib.IntN.{ℤ}
 use lib.ListN.{length, length-append}
 use lib.Seq.{sets, length-sets}
 use borrow.Author.Tests.{ltb-false}
-use Rattle.terms.specs.Logic.{pick, by-case, no-way}
+use Rattle.terms.specs.Logic.{pick, no-way}
 use Rattle.table_spec.specs.Frame.{Rules, entry-for}
 use Rattle.table_spec.specs.Values.{Spot, after, Own}
-use Rattle.table_spec.specs.Reading.{Tokens, over, fault, fresh, Answer, refuse, accept, push, difBefore, finish, judge, tokens, read}
+use Rattle.table_spec.specs.Reading.{over, fault, fresh, Answer, refuse, accept, push, finish, judge, read}
 use Rattle.table_lines.specs.Seen.{seen}
 use Rattle.table_values.proofs.Turns.{stored-then}
-use Rattle.table_spec.specs.ReadingLaws.{push-none, push-push}
-use Rattle.table_read.specs.Rows.{Between, Rests, Onward, LineSays, finished, passedOf, PassSays}
-use Rattle.table_read.specs.declared.Row.{Row}
-use Rattle.table_read.specs.declared.LineRead.the-variants as linewise
+use Rattle.table_spec.specs.ReadingLaws.{no-accept, push-none, push-push}
+use Rattle.table_read.specs.Rows.{Between, Rests, LineSays, finished, passedOf, PassSays}
+use Rattle.table_values.specs.declared.Row.{Row}
+use Rattle.table_values.specs.declared.LineRead.the-variants as linewise
 use Rattle.table_read.specs.declared.Passed.{Passed}
 use Rattle.table_read.specs.declared.Passed.the-variants as passed
 
@@ -71,12 +71,9 @@ module _ {R : Rules} {s : List ℕ} {out₀ out : List ℤ} {r : Row} (g : Reach
         law = moved-on j e ∙ ap (push (g .points)) (z .law) ∙ push-push (g .points) (z .points) _;
       }
 
-  accepts-not : {A : Type 0} {c a : ℕ} {ys : List ℕ} → refuse c a ≡ accept ys → A
-  accepts-not e = absurd (let z : _≡_ {A = ℕ} 0 1 = cc in omega arith)
-
   -- a refusal, of what stands here or of a line
   refused-by : {c a : ℕ} {out' : List ℤ} → read R s ≡ refuse c a → PassSays R s out₀ out' (passed.Refused c a)
-  refused-by e = record { says = sym (ap passedOf e); stores = λ ys h. accepts-not (sym e ∙ h); count = λ ys h. accepts-not (sym e ∙ h) }
+  refused-by e = record { says = sym (ap passedOf e); stores = λ ys h. no-accept (sym e ∙ h); count = λ ys h. no-accept (sym e ∙ h) }
 
   pub reached-fault : {j : ℕ} → seen s (r .at) fresh ≡ fault 3 j → PassSays R s out₀ out (passed.Refused 3 j)
   unfolding judge push
@@ -100,8 +97,8 @@ module _ {R : Rules} {s : List ℕ} {out₀ out : List ℤ} {r : Row} (g : Reach
 
   accepts-none : (x y : Bool) (us ys : List ℕ) → push us (pick x (refuse 12 (length s)) (pick y (refuse 13 (length s)) (accept []))) ≡ accept ys → (us ≡ ys) × (x ≡ false)
   unfolding push
-  accepts-none true y us ys e = accepts-not e
-  accepts-none false true us ys e = accepts-not e
+  accepts-none true y us ys e = no-accept e
+  accepts-none false true us ys e = no-accept e
   accepts-none false false us ys e = let y : us ++ [] ≡ ys = cc in (sym (append-nil us) ∙ y, refl)
 
   pub reached-end : {v : Passed} → seen s (r .at) fresh ≡ over (length s) → v ≡ finished (R .points) (length s) (r .k) (r .dif) → PassSays R s out₀ out v

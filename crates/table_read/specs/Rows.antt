@@ -1,9 +1,9 @@
 -- The state of the code between lines, and what reading a line and a body ensures. Assumes nothing.
 use mathlib.Core.Path.{_≡_}
-use mathlib.Core.Bool.{Bool, true, false}
+use mathlib.Core.Bool.{Bool, true}
 use mathlib.Core.List.{List, map}
 use Prim.Native.Nat.{ℕ, _+_, _<_, _≤_}
-use lib.Dec.{ltb, leb, eqb}
+use lib.Dec.{ltb}
 use lib.IntN.{ℤ}
 use lib.ListN.{length}
 use lib.Seq.{sets}
@@ -13,18 +13,14 @@ use Rattle.table_spec.specs.Values.{Spot}
 use Rattle.table_spec.specs.Reading.{fresh, Answer, refuse, accept, push, difBefore, judge, read}
 use Rattle.table_lines.specs.Seen.{seen}
 use Rattle.frame.specs.declared.Frame.{Frame}
-use Rattle.table_read.specs.declared.Row.{Row}
-use Rattle.table_read.specs.declared.LineRead.{LineRead}
-use Rattle.table_read.specs.declared.LineRead.the-variants as linewise
+use Rattle.table_values.specs.declared.Row.{Row}
+use Rattle.table_values.specs.declared.LineRead.{LineRead}
+use Rattle.table_values.specs.declared.LineRead.the-variants as linewise
 use Rattle.table_read.specs.declared.Passed.{Passed}
 use Rattle.table_read.specs.declared.Passed.the-variants as passed
 
 abbrev pub frame-rules : Frame → Rules
 frame-rules fr = rules (fr .first) (fr .last) (fr .points)
-
--- is a form, as the code keeps it, DIF?
-abbrev pub difForm : ℕ → Bool
-difForm form = pick (eqb form 1) true (leb 32 form)
 
 -- how the code keeps the last ordinate p and the spot w between lines
 pub record Between (r : Row) (p : ℕ) (w : Spot) : Type 0 where

@@ -1,17 +1,14 @@
 // Reading a table (01, "Spelling of a body", "Refusal numbers"). The body is gone over twice by one pass: first to answer, with room for the first ordinate only, then to store. So a
 // refusal leaves every lent ordinate as it was.
 ghost use mathlib.Core.Path.{_≡_};
-ghost use mathlib.Core.Bool.{Bool, true, false};
-ghost use mathlib.Core.List.{List, map};
-ghost use Prim.Native.Nat.{ℕ, _+_, _-_, _<_, _≤_};
-ghost use lib.IntN.{ℤ};
+ghost use Prim.Native.Nat.{_<_};
 ghost use lib.ListN.{length};
 ghost use Rattle.alphabet_spec.specs.Entries.{entryAt, table};
 ghost use Rattle.frame.specs.Legal.{Sound};
 ghost use Rattle.terms.specs.Logic.{pick};
 ghost use Rattle.table_spec.specs.Values.{index};
-ghost use Rattle.table_spec.specs.Reading.{Answer, accept, read, readTable, stored};
-ghost use Rattle.table_read.specs.Rows.{frame-rules, difForm, Rests, LineSays, finished, PassSays};
+ghost use Rattle.table_spec.specs.Reading.{read, readTable, stored};
+ghost use Rattle.table_read.specs.Rows.{frame-rules, Rests, LineSays, finished, PassSays};
 ghost use Rattle.table_read.specs.Answers.{toldFirst, Accepts, TableSays};
 use alphabet::TABLE;
 use frame::Frame;
@@ -21,25 +18,11 @@ use table_lines::Start;
 use table_lines::bare_line;
 use table_lines::head;
 use table_lines::row_start;
-use table_values::Cur;
-use table_values::Valued;
+use table_values::LineRead;
+use table_values::Row;
 use table_values::values;
 use terms::Refusal;
 use terms::TableRead;
-
-// Between lines: the place, how many points, the last ordinate, and whether the line before ended in DIF form.
-pub struct Row {
-    pub at: usize,
-    pub k: usize,
-    pub q: u64,
-    pub dif: bool,
-}
-
-// What a line did: the state after it, or a refusal number and place.
-pub enum LineRead {
-    Next(Row),
-    Refused(u64, usize),
-}
 
 // What a pass over a body answers: all points are there, or a refusal number and place.
 pub enum Passed {
@@ -51,16 +34,6 @@ pub enum Passed {
 pub enum Checked {
     First(i32),
     Refused(Refusal),
-}
-
-// Is a form, as values keep it, DIF?
-fn in_dif(form: u64) -> bool
-    ensures { λ r. ⌜ r ≡ difForm form ⌝ }
-{
-    if form == 1 {
-        return true;
-    }
-    form >= 32
 }
 
 // The index that a head belongs to: the last point given on a check line, else the next (01, "Checks").
@@ -113,29 +86,7 @@ fn read_line(
             }
             let want = wanted(dif, q);
             let n = fr.points;
-            match values(
-                t,
-                s,
-                n,
-                out,
-                Cur {
-                    at: j,
-                    e: f,
-                    k,
-                    q: 0,
-                    want,
-                    step: 0,
-                    form: 0,
-                },
-            ) {
-                Valued::Refused(c, a) => LineRead::Refused(c, a),
-                Valued::Done(c, next) => LineRead::Next(Row {
-                    at: next,
-                    k: c.k,
-                    q: c.q,
-                    dif: in_dif(c.form),
-                }),
-            }
+            values(t, s, n, out, j, f, k, want)
         }
     }
 }

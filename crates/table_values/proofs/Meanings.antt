@@ -1,16 +1,16 @@
 -- What a value says, by how the code keeps the spot where it stands (01, "Meaning"). No place of the code is named here. Assumes nothing.
-use mathlib.Core.Path.{_≡_, refl, sym, ap, _∙_, subst}
+use mathlib.Core.Path.{_≡_, refl, sym, subst}
 use mathlib.Core.Bool.{Bool, true, false}
-use mathlib.Core.List.{List, [], _∷_}
-use Prim.Native.Nat.{ℕ, zero, suc, _+_, _-_, _*_, _≤_, _<_}
+use mathlib.Core.List.{[], _∷_}
+use Prim.Native.Nat.{ℕ, suc, _+_, _-_, _*_, _≤_, _<_}
 use native.Mathlib.Omega.{arith}
-use lib.Dec.{ltb, leb, eqb}
+use lib.Dec.{ltb, leb}
 use borrow.Author.Tests.{le-leb, lt-leb, lt-ltb, le-ltb, eq-eqb, ne-eqb}
 use Rattle.terms.specs.Logic.{pick, by-case}
-use Rattle.table_spec.specs.Values.{Value, own, gap, by, times, Form, Own, Gap, By, Dup, Spot, first, after, ordinate, moved, copies, lastOr}
-use Rattle.table_spec.specs.Reading.{Says, adds, refuses, says, again, inRange, allIn}
-use Rattle.table_values.specs.States.{shiftedTo, Reaches, Codes, own as codes-own, gap as codes-gap, dif, dup-not, dup-dif, Holds, opening, checking, going}
-use Rattle.table_values.proofs.Moves.{Shifts, shift-none, steps-in, steps-last, own-copies, gap-copies, same-last, copies-length}
+use Rattle.table_spec.specs.Values.{own, gap, by, times, Own, Gap, By, Dup, Spot, after, ordinate, moved, copies}
+use Rattle.table_spec.specs.Reading.{adds, refuses, says, again, inRange, allIn}
+use Rattle.table_values.specs.States.{shiftedTo, own as codes-own, gap as codes-gap, dif, dup-not, dup-dif, Holds, opening, checking, going}
+use Rattle.table_values.proofs.Moves.{Shifts, shift-none, steps-in, own-copies, gap-copies}
 
 -- ---- a missing ordinate
 

@@ -1,13 +1,13 @@
 -- Ordinates that move by differences, and copies of them. No place of the code is named here. Assumes nothing.
 use mathlib.Core.Path.{_≡_, refl, sym, ap, _∙_, subst}
 use mathlib.Core.Bool.{Bool, true, false}
-use mathlib.Core.List.{List, [], _∷_}
+use mathlib.Core.List.{List, _∷_}
 use Prim.Native.Nat.{ℕ, zero, suc, _+_, _-_, _*_, _≤_, _<_}
 use native.Mathlib.Omega.{arith}
 use native.Mathlib.Nat.{mul-suc, add-zero, mul-one, mul-le-mul}
-use lib.Dec.{ltb, leb, eqb}
+use lib.Dec.{ltb, leb}
 use lib.ListN.{length}
-use borrow.Author.Tests.{lt-ltb, le-ltb, le-leb, lt-leb, ltb-true, ltb-false, leb-true, leb-false}
+use borrow.Author.Tests.{lt-ltb, le-ltb, le-leb, ltb-true, ltb-false, leb-true, leb-false}
 use Rattle.terms.specs.Logic.{pick, by-case, no-way}
 use Rattle.table_spec.specs.Values.{Form, Own, Gap, By, moved, copies, lastOr}
 use Rattle.table_spec.specs.Reading.{inRange, allIn}

@@ -1,7 +1,7 @@
 -- From the run of digits that was read to the token of a value. No place of the code is named here. Assumes nothing.
-use mathlib.Core.Path.{_≡_, refl, sym, ap, _∙_, subst}
+use mathlib.Core.Path.{_≡_, refl, sym, ap, _∙_}
 use mathlib.Core.Bool.{Bool, true, false}
-use mathlib.Core.List.{List, [], _∷_}
+use mathlib.Core.List.{List}
 use Prim.Native.Nat.{ℕ, zero, suc, _+_, _-_, _*_, _^_, _/_, _%_, _≤_, _<_}
 use native.Mathlib.Omega.{arith}
 use native.Mathlib.Numerals.{add-one}
@@ -12,17 +12,17 @@ use borrow.Author.Tests.{eq-eqb, ne-eqb, lt-ltb, le-ltb, lt-leb, le-leb, ltb-tru
 use mathlib.Core.Logic.{_⊎_, inl, inr}
 use Rattle.terms.specs.Logic.{pick, by-case}
 use Rattle.alphabet_spec.specs.Kinds.{Lead, sqz, dif, dup, tabs-too, Pseudo, sqz-up, sqz-down, dif-zero, dif-up, dif-down, dup-low, dup-nine}
-use Rattle.alphabet_spec.specs.Digits.{Run, long, run, digits, some}
+use Rattle.alphabet_spec.specs.Digits.{long, run}
 use Rattle.alphabet_spec.specs.Bytes.{Byte, digit, lead, sign, quest, blank, point, lf, cr, dollar, other, kind}
 use Rattle.alphabet_spec.specs.KindLaws.{Back, kind-back}
 use Rattle.alphabet_spec.specs.Entries.{code, entry, entryAt, kindOf, entry-in, at-entry}
 use Rattle.alphabet_spec.specs.DigitLaws.{digit-at}
-use Rattle.alphabet.specs.Ran.{Ran, ran-is, ran-below}
+use Rattle.alphabet.specs.Ran.{AllDigits, Ran, ran-below}
 use Rattle.table_spec.specs.Values.{Value, own, gap, by, times, valueOf, room}
 use Rattle.table_spec.specs.Reading.{Tokens, value, fault, Mode, inner, valued, inside, step}
-use Rattle.table_lines.specs.Seen.{seen, later, behind, here, later-seen, later-none, seen-kind, byte-back, not-behind}
-use Rattle.table_lines.proofs.HeadLaws.{clear-after, digit-kind, sign-kind}
-use Rattle.table_values.specs.Numbers.{leadOf, valueAt, below, Token, Numbered}
+use Rattle.table_lines.specs.Seen.{behind, here, later-seen, later-none, seen-kind, byte-back, not-behind}
+use Rattle.table_lines.proofs.HeadLaws.{clear-after, digit-kind, sign-kind, some-more, some-none, run-there}
+use Rattle.table_values.specs.Numbers.{leadOf, valueAt, below, Clear, Token, Numbered}
 use Rattle.table_values.specs.declared.NumberRead.the-variants.{Read, Misspelled}
 
 -- ---- entries of pseudo-digits
@@ -85,8 +85,15 @@ room-small e (suc d) = by-case (λ t. room (pick t dup (pick (ltb e 48) (dif fal
 
 -- ---- the token of a run
 
+-- a byte that begins a value, and digits
+clear-run : (s : List ℕ) (i j : ℕ) → entryAt s i < 160 → AllDigits s (i + 1) j → Clear s i j
+clear-run s i j l f k a b =
+    by-case (λ t. ltb i k ≡ t → entryAt s k < 160) (ltb i k) (λ _ x. let y = ltb-true i k x in let z = f k (omega arith) b in omega arith)
+    (λ _ x. let y = ltb-false i k x in let z : k ≡ i = omega arith in rw z l) refl
+
 -- a byte whose step is a value made of the run of digits after it
-module _ (s : List ℕ) (i : ℕ) {v most w j f : ℕ} (c : Byte) (x : ℕ → Value) (h : i < length s) (k : kindOf (entryAt s i) ≡ c) (nb : entryAt s i ≡ 112 → ⊥) (r : Ran s (i + 1) v most w j f)
+module _ (s : List ℕ) (i : ℕ) {v most w j f : ℕ} (c : Byte) (x : ℕ → Value) (h : i < length s) (k : kindOf (entryAt s i) ≡ c) (nb : entryAt s i ≡ 112 → ⊥) (lo : entryAt s i < 160)
+    (r : Ran s (i + 1) v most w j f)
     (g : (K : ℕ → Mode → Tokens) → inside K i (drop (suc i) s) (behind s i) c ≡ valued K i x (pick (ltb f 16) long (run w (j - (i + 1))))) where
   run-long : f < 16 → here s i ≡ fault 5 i
   unfolding step
@@ -98,15 +105,12 @@ module _ (s : List ℕ) (i : ℕ) {v most w j f : ℕ} (c : Byte) (x : ℕ → V
       let low = r .low in let z : j - (i + 1) ≡ j - suc i = omega arith in
       record {
         low = omega arith;
+        clear = clear-run s i j lo (r .all);
         high = r .high;
         stands = r .stands;
         law = seen-kind s i (inner (behind s i)) c h k ∙ g _
             ∙ rw (le-ltb f 16 l, z, clear-after r (not-behind s i nb)) (ap (value i (x w)) (later-seen s (suc i) j (inner false) (omega arith) (r .high)));
       }
-
-module _ (s : List ℕ) (i : ℕ) {v most w j f : ℕ} (r : Ran s (i + 1) v most w j f) where
-  run-there : digits (drop (suc i) s) most v 0 ≡ pick (ltb f 16) long (run w (j - (i + 1)))
-  run-there = subst (λ (k : ℕ). digits (drop k s) most v 0 ≡ pick (ltb f 16) long (run w (j - (i + 1)))) (add-one i) (ran-is r)
 
 -- ---- a pseudo-digit
 
@@ -137,24 +141,15 @@ module _ (s : List ℕ) (i e : ℕ) (g : e ≡ entryAt s i) (l : 16 ≤ e) (h : 
     lead-opens K = rw (← z, run-there s i r) refl
 
     pub packed-long : f < 16 → Numbered s i e Misspelled
-    packed-long = run-long s i (lead (leadOf e) (e % 16)) (valueOf (leadOf e)) lead-in lead-here (λ x. omega arith) r lead-opens
+    packed-long = run-long s i (lead (leadOf e) (e % 16)) (valueOf (leadOf e)) lead-in lead-here (λ x. omega arith) (omega arith) r lead-opens
 
     pub packed-token : 16 ≤ f → Numbered s i e (Read w j f)
     packed-token k =
         let b = lead-fits m z in let y = ran-below r in
-        let x = run-token s i (lead (leadOf e) (e % 16)) (valueOf (leadOf e)) lead-in lead-here (λ x. omega arith) r lead-opens k in
+        let x = run-token s i (lead (leadOf e) (e % 16)) (valueOf (leadOf e)) lead-in lead-here (λ x. omega arith) (omega arith) r lead-opens k in
         (lt-of-lt-of-le y b, rw (valued-at w) x)
 
 -- ---- a sign
-
-some-more : (t : Bool) (w n : ℕ) → 0 < n → some (pick t long (run w n)) ≡ pick t long (run w n)
-some-more true w n h = refl
-some-more false w zero h = absurd (omega arith)
-some-more false w (suc n) h = refl
-
-some-none : (t : Bool) (w : ℕ) → some (pick t long (run w 0)) ≡ long
-some-none true w = refl
-some-none false w = refl
 
 module _ (s : List ℕ) (i e : ℕ) (g : e ≡ entryAt s i) (l : 128 ≤ e) (h : e < 160) {w j f : ℕ} (r : Ran s (i + 1) 0 10 w j f) where
   sign-in : i < length s
@@ -175,12 +170,12 @@ module _ (s : List ℕ) (i e : ℕ) (g : e ≡ entryAt s i) (l : 128 ≤ e) (h :
   sign-alone n = let z : j - (i + 1) ≡ 0 = omega arith in seen-kind s i (inner (behind s i)) (sign (leb 144 e)) sign-in sign-here ∙ rw (run-there s i r, z, some-none (ltb f 16) w) refl
 
   pub signed-long : (j ≡ i + 1 → ⊥) → f < 16 → Numbered s i e Misspelled
-  signed-long n = run-long s i (sign (leb 144 e)) (own (leb 144 e)) sign-in sign-here (λ x. omega arith) r (sign-opens n)
+  signed-long n = run-long s i (sign (leb 144 e)) (own (leb 144 e)) sign-in sign-here (λ x. omega arith) (omega arith) r (sign-opens n)
 
   pub signed-token : (j ≡ i + 1 → ⊥) → 16 ≤ f → Numbered s i e (Read w j f)
   signed-token n k =
       let y = ran-below r in
-      let x = run-token s i (sign (leb 144 e)) (own (leb 144 e)) sign-in sign-here (λ x. omega arith) r (sign-opens n) k in
+      let x = run-token s i (sign (leb 144 e)) (own (leb 144 e)) sign-in sign-here (λ x. omega arith) (omega arith) r (sign-opens n) k in
       (rw (le-ltb e 16 (omega arith), le-ltb e 32 (omega arith)) (omega arith), rw (own-at w) x)
 
 -- ---- a digit, after a blank or not
@@ -206,12 +201,12 @@ module _ (s : List ℕ) (i e : ℕ) (g : e ≡ entryAt s i) (l : e < 16) where
     digit-opens K = rw (behind-is true o (eq-eqb (entryAt s (i - 1)) 112 n), run-there s i r) refl
 
     pub plain-long : f < 16 → Numbered s i e Misspelled
-    plain-long = run-long s i (digit e) (own false) (digit-here .0) digit-kind-here (λ x. omega arith) r digit-opens
+    plain-long = run-long s i (digit e) (own false) (digit-here .0) digit-kind-here (λ x. omega arith) (omega arith) r digit-opens
 
     pub plain-token : 16 ≤ f → Numbered s i e (Read w j f)
     plain-token k =
         let y = ran-below r in let d = digit-here .1 in
-        let x = run-token s i (digit e) (own false) (digit-here .0) digit-kind-here (λ x. omega arith) r digit-opens k in
+        let x = run-token s i (digit e) (own false) (digit-here .0) digit-kind-here (λ x. omega arith) (omega arith) r digit-opens k in
         (rw (lt-ltb e 16 l) (omega arith), rw (lt-ltb e 16 l) x)
 
 -- ---- a missing ordinate
@@ -222,6 +217,7 @@ gap-token s i e =
     let h = entry-in s i (λ x. omega arith) in
     record {
       low = omega arith;
+      clear = clear-run s i (i + 1) (omega arith) (λ k a b. absurd (omega arith));
       high = omega arith;
       stands = refl;
       law = seen-kind s i (inner (behind s i)) quest h (ap kindOf e) ∙ rw (not-behind s i (λ x. omega arith), add-one i) (ap (value i gap) (later-none s (suc i) (inner false)));

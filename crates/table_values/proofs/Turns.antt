@@ -1,28 +1,27 @@
 -- From a token to what it does to the state of reading. No place of the code is named here. Assumes nothing.
 use mathlib.Core.Path.{_≡_, refl, sym, ap, _∙_, subst}
-use mathlib.Core.Bool.{Bool, true, false}
-use mathlib.Core.List.{List, [], _∷_, _++_, append-assoc, map}
-use Prim.Native.Nat.{ℕ, zero, suc, _+_, _-_, _*_, _≤_, _<_}
+use mathlib.Core.Bool.{true}
+use mathlib.Core.List.{List, [], _∷_, _++_, append-nil, map}
+use Prim.Native.Nat.{ℕ, suc, _+_, _≤_, _<_}
 use native.Mathlib.Omega.{arith}
-use native.Mathlib.Numerals.{add-one}
 use native.Mathlib.Nat.{add-zero, add-suc, suc-add}
-use lib.Dec.{ltb, leb, eqb}
+use lib.Dec.{ltb}
 use lib.IntN.{ℤ}
 use lib.ListN.{length, length-append, set}
 use lib.Seq.{sets}
-use borrow.Author.Tests.{le-leb, lt-leb, ltb-true, ltb-false}
-use Rattle.terms.specs.Logic.{pick, by-case}
+use borrow.Author.Tests.{ne-eqb, le-leb, lt-leb, ltb-true, ltb-false}
+use Rattle.terms.specs.Logic.{by-case, no-way}
 use Rattle.alphabet_spec.specs.Entries.{entryAt}
 use Rattle.table_spec.specs.Frame.{entry-for}
-use Rattle.table_spec.specs.Values.{Value, Form, Spot, first, after, lastOr}
-use Rattle.table_spec.specs.Reading.{Tokens, fault, line, fresh, Says, adds, refuses, says, Answer, refuse, accept, push, took, judge}
-use Rattle.table_lines.specs.Seen.{seen, behind, here}
-use Rattle.table_lines.specs.Ends.{Blanked, Ended}
-use Rattle.table_lines.specs.declared.Ending.the-variants.{Next, Bad}
-use Rattle.table_spec.specs.ReadingLaws.{push-none, push-push}
-use Rattle.table_values.specs.Numbers.{Token}
-use Rattle.table_values.specs.States.{ruled, Holds, Sits, Reads, Gone, Went, Row}
+use Rattle.table_spec.specs.Values.{Value, Form, isDif, Spot, after, lastOr}
+use Rattle.table_spec.specs.Reading.{fault, line, fresh, adds, refuses, says, difBefore}
+use Rattle.table_lines.specs.Seen.{seen, here}
+use Rattle.table_lines.specs.Ends.{Blanked}
+use Rattle.table_values.specs.Numbers.{Clear, Token}
+use Rattle.table_values.specs.LineValues.{broken, given, taken, line-says, given-none, given-given}
+use Rattle.table_values.specs.States.{Codes, own, gap, dif, dup-not, dup-dif, difForm, Holds, opening, checking, going, Sits, Reads, Gone, Stepped, rowAfter, lastAt, LineDone, LineBroken}
 use Rattle.table_values.specs.declared.Cur.{Cur}
+use Rattle.table_values.specs.declared.Step.the-variants as step
 
 -- ---- points, one part after the other
 
@@ -32,21 +31,21 @@ stored-then (u ∷ us) vs out k = rw (add-suc k (length us), ← suc-add k (leng
 
 -- ---- a value that was read
 
-module _ (N : ℕ) (passing : ℕ → ℕ → Bool) (s : List ℕ) {at j f : ℕ} {x : Value} (t : Token s at x j f) (k p : ℕ) (w : Spot) where
+module _ (N : ℕ) (s : List ℕ) {at j f : ℕ} {x : Value} (t : Token s at x j f) (k p : ℕ) (w : Spot) where
   -- it is refused by what it says
-  pub value-not : (n : ℕ) → says w p x ≡ refuses n → judge (ruled N passing) (here s at) k p w ≡ refuse n at
-  unfolding judge took
+  pub value-not : (n : ℕ) → says w p x ≡ refuses n → line-says N (here s at) k p w ≡ broken [] n at
+  unfolding line-says taken
   value-not n e = rw (t .law, e) refl
 
   -- it stands for more points than are left
-  pub value-full : (us : List ℕ) (g : Form) → says w p x ≡ adds us g → N < k + length us → judge (ruled N passing) (here s at) k p w ≡ refuse 11 at
-  unfolding judge took
+  pub value-full : (us : List ℕ) (g : Form) → says w p x ≡ adds us g → N < k + length us → line-says N (here s at) k p w ≡ broken [] 11 at
+  unfolding line-says taken
   value-full us g e l = rw (t .law, e, lt-leb (k + length us) N l) refl
 
   -- it adds its points
   pub value-adds : (us : List ℕ) (g : Form) (out out' : List ℤ) (r : Cur) → says w p x ≡ adds us g → k + length us ≤ N → r .at ≡ j → r .k ≡ k + length us
-      → Holds (r .q) (r .want) (r .step) (r .form) (lastOr p us) (after g) → out' ≡ sets out k (map entry-for us) → Gone N passing s at k p w out out' r
-  unfolding judge took
+      → Holds (r .q) (r .want) (r .step) (r .form) (lastOr p us) (after g) → out' ≡ sets out k (map entry-for us) → Gone N s at k p w out out' r
+  unfolding line-says taken
   value-adds us g out out' r e l a b h o =
       record {
         points = us;
@@ -58,33 +57,56 @@ module _ (N : ℕ) (passing : ℕ → ℕ → Bool) (s : List ℕ) {at j f : ℕ
         law = rw (t .law, e, le-leb (k + length us) N l, a, b) refl;
       }
 
+-- the state after it
+pub value-stepped : {N : ℕ} {s : List ℕ} {c r : Cur} {out out' : List ℤ} {j f : ℕ} {x : Value} → Token s (c .at) x j f → r .at ≡ j → Sits N s r
+    → Reads c (λ p w. Gone N s (c .at) (c .k) p w out out' r) → Stepped N s c out out' (step.Go r)
+value-stepped {s = s} {c} t e h f =
+    let l = t .low in
+    (omega arith, record { low = omega arith; clear = subst (λ (n : ℕ). Clear s (c .at) n) (sym e) (t .clear); sits = h; law = f })
+
 -- ---- what says nothing
 
 -- a state that has moved over what says nothing
-pub gone-same : (N : ℕ) (passing : ℕ → ℕ → Bool) (s : List ℕ) (at p : ℕ) (w : Spot) (out : List ℤ) (r : Cur) → Holds (r .q) (r .want) (r .step) (r .form) p w → here s at ≡ here s (r .at)
-    → Gone N passing s at (r .k) p w out out r
-gone-same N passing s at p w out r h e =
-    record { points = []; ordinate = p; spot = w; holds = h; count = omega arith; stored = refl; law = ap (λ x. judge (ruled N passing) x (r .k) p w) e ∙ push-none _ }
+pub gone-same : (N : ℕ) (s : List ℕ) (at p : ℕ) (w : Spot) (out : List ℤ) (r : Cur) → Holds (r .q) (r .want) (r .step) (r .form) p w → here s at ≡ here s (r .at)
+    → Gone N s at (r .k) p w out out r
+gone-same N s at p w out r h e =
+    record { points = []; ordinate = p; spot = w; holds = h; count = omega arith; stored = refl; law = ap (λ x. line-says N x (r .k) p w) e ∙ given-none _ }
 
-module _ (N : ℕ) (passing : ℕ → ℕ → Bool) (s : List ℕ) (at k p : ℕ) (w : Spot) where
-  pub line-token : (j : ℕ) → Ended s at (Next j) → judge (ruled N passing) (here s at) k p w ≡ judge (ruled N passing) (seen s j fresh) k p w
-  unfolding judge
-  line-token j h = ap (λ x. judge (ruled N passing) x k p w) (h .4 (behind s at))
-
-  pub fault-token : (n : ℕ) → here s at ≡ fault n at → judge (ruled N passing) (here s at) k p w ≡ refuse n at
-  unfolding judge
-  fault-token n h = ap (λ x. judge (ruled N passing) x k p w) h
+pub fault-token : (N : ℕ) (s : List ℕ) (at k p : ℕ) (w : Spot) (n : ℕ) → here s at ≡ fault n at → line-says N (here s at) k p w ≡ broken [] n at
+unfolding line-says
+fault-token N s at k p w n h = ap (λ x. line-says N x k p w) h
 
 pub blank-moves : (s : List ℕ) (at e j : ℕ) → e ≡ entryAt s at → e ≡ 112 → Blanked s at j → at < j
 blank-moves s at e j g h b =
     by-case (λ t. ltb at j ≡ t → at < j) (ltb at j) (λ _ x. ltb-true at j x)
     (λ _ x. let y = ltb-false at j x in let z = b .low in let i : j ≡ at = omega arith in absurd (b .stops (ap (entryAt s) i ∙ sym g ∙ h))) refl
 
+pub blank-clear : {s : List ℕ} {at j : ℕ} → Blanked s at j → Clear s at j
+blank-clear b k l h = let z = b .all k l h in omega arith
+
 -- ---- one after the other
 
-module _ (N : ℕ) (passing : ℕ → ℕ → Bool) (s : List ℕ) (at k p : ℕ) (w : Spot) (out mid : List ℤ) (b : Cur) (g : Gone N passing s at k p w out mid b) where
-  pub gone-gone : (out' : List ℤ) (r : Cur) → ((y : ℕ) (x : Spot) → Holds (b .q) (b .want) (b .step) (b .form) y x → Gone N passing s (b .at) (b .k) y x mid out' r)
-      → Gone N passing s at k p w out out' r
+pub clear-then : (s : List ℕ) {i m j : ℕ} → Clear s i m → Clear s m j → Clear s i j
+clear-then s {i} {m} {j} f g k l h = by-case (λ t. ltb k m ≡ t → entryAt s k < 160) (ltb k m) (λ _ x. f k l (ltb-true k m x)) (λ _ x. g k (ltb-false k m x) h) refl
+
+-- the form of the last value, at a line's end
+dif-high : (e : ℕ) → 32 ≤ e → difForm e ≡ true
+dif-high e l = rw (ne-eqb e 1 (λ x. omega arith), le-leb 32 e l) refl
+
+form-end : {e d q : ℕ} {f : Form} → Codes e d q f → (difForm e ≡ isDif f) × (difForm e ≡ true → 0 < q)
+form-end own = (refl, λ x. no-way x)
+form-end gap = (refl, λ x. no-way x)
+form-end (dif {e = e} a b c) = (dif-high e a, λ x. c)
+form-end dup-not = (refl, λ x. no-way x)
+form-end (dup-dif c) = (refl, λ x. c)
+
+spot-end : {q want d e p : ℕ} {w : Spot} → Holds q want d e p w → (q ≡ lastAt w p) × (difForm e ≡ difBefore w) × (difForm e ≡ true → 0 < q)
+spot-end opening = (refl, refl, λ x. no-way x)
+spot-end (checking h) = (refl, refl, λ x. no-way x)
+spot-end (going h) = let z = form-end h in (refl, z .0, z .1)
+
+module _ (N : ℕ) (s : List ℕ) (at k p : ℕ) (w : Spot) (out mid : List ℤ) (b : Cur) (g : Gone N s at k p w out mid b) where
+  pub gone-gone : (out' : List ℤ) (r : Cur) → ((y : ℕ) (x : Spot) → Holds (b .q) (b .want) (b .step) (b .form) y x → Gone N s (b .at) (b .k) y x mid out' r) → Gone N s at k p w out out' r
   gone-gone out' r f =
       let z = f (g .ordinate) (g .spot) (g .holds) in let c = g .count in let d = z .count in
       record {
@@ -94,24 +116,26 @@ module _ (N : ℕ) (passing : ℕ → ℕ → Bool) (s : List ℕ) (at k p : ℕ
         holds = z .holds;
         count = omega (arith, length-append (g .points) (z .points));
         stored = z .stored ∙ rw (g .stored, c) (stored-then (g .points) (z .points) out k);
-        law = g .law ∙ ap (push (g .points)) (z .law) ∙ push-push (g .points) (z .points) _;
+        law = g .law ∙ ap (given (g .points)) (z .law) ∙ given-given (g .points) (z .points) _;
       }
 
-  pub gone-row : (j : ℕ)
-      → ((y : ℕ) (x : Spot) → Holds (b .q) (b .want) (b .step) (b .form) y x → judge (ruled N passing) (here s (b .at)) (b .k) y x ≡ judge (ruled N passing) (seen s j fresh) (b .k) y x)
-      → Row N passing s at k p w out mid b j
-  gone-row j f =
+  pub gone-done : (j : ℕ) → here s (b .at) ≡ line (seen s j fresh) → LineDone N s at k p w out mid (rowAfter b j)
+  unfolding line-says given
+  gone-done j e =
+      let z = spot-end (g .holds) in
       record {
         points = g .points;
         ordinate = g .ordinate;
         spot = g .spot;
-        holds = g .holds;
-        count = g .count;
+        law = g .law ∙ rw (e, append-nil (g .points)) refl;
         stored = g .stored;
-        law = g .law ∙ ap (push (g .points)) (f (g .ordinate) (g .spot) (g .holds));
+        count = g .count;
+        last = z .0;
+        form = z .1;
+        some = z .2;
       }
 
-  pub gone-refuse : (n a : ℕ) → ((y : ℕ) (x : Spot) → Holds (b .q) (b .want) (b .step) (b .form) y x → judge (ruled N passing) (here s (b .at)) (b .k) y x ≡ refuse n a)
-      → judge (ruled N passing) (here s at) k p w ≡ refuse n a
-  unfolding push
-  gone-refuse n a f = g .law ∙ ap (push (g .points)) (f (g .ordinate) (g .spot) (g .holds))
+  pub gone-broken : (n a : ℕ) → ((y : ℕ) (x : Spot) → Holds (b .q) (b .want) (b .step) (b .form) y x → line-says N (here s (b .at)) (b .k) y x ≡ broken [] n a)
+      → LineBroken N s at k p w out mid n a
+  unfolding given
+  gone-broken n a f = record { points = g .points; law = g .law ∙ rw (f (g .ordinate) (g .spot) (g .holds), append-nil (g .points)) refl; stored = g .stored }

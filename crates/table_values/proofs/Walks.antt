@@ -1,26 +1,24 @@
 -- States of the code, one after the other: within a run of differences, and along a line. No place of the code is named here. Assumes nothing.
-use mathlib.Core.Path.{_≡_, refl, sym, ap, _∙_, subst}
-use mathlib.Core.Bool.{Bool, true, false}
+use mathlib.Core.Path.{_≡_, refl, _∙_, subst}
+use mathlib.Core.Bool.{Bool}
 use mathlib.Core.List.{List, [], _∷_, map}
-use Prim.Native.Nat.{ℕ, zero, suc, _+_, _-_, _*_, _≤_, _<_}
+use Prim.Native.Nat.{ℕ, suc, _+_, _-_, _*_, _≤_, _<_}
 use native.Mathlib.Omega.{arith}
 use native.Mathlib.Numerals.{add-one}
 use native.Mathlib.Nat.{mul-one}
-use lib.Dec.{ltb, leb, eqb}
+use lib.Dec.{leb}
 use lib.IntN.{ℤ}
 use lib.ListN.{length, set, length-set}
 use lib.Seq.{sets}
 use Rattle.table_spec.specs.Frame.{entry-for}
-use Rattle.table_spec.specs.Values.{Value, by, Form, By, Spot, after, moved, copies}
-use Rattle.table_spec.specs.Reading.{fresh, refuse, judge}
-use Rattle.table_lines.specs.Seen.{seen, here}
+use Rattle.table_spec.specs.Values.{Value, by, By, Spot, moved, copies}
 use Rattle.table_values.specs.Numbers.{Token}
-use Rattle.table_values.specs.States.{ruled, shiftedTo, Reaches, Codes, dif, Holds, opening, checking, going, Sits, Reads, Gone, Went, Stepped, Row, Lined}
+use Rattle.table_values.specs.States.{shiftedTo, Reaches, dif, Holds, opening, checking, going, Sits, Went, Stepped, rowAfter, Lined}
 use Rattle.table_values.specs.declared.Cur.{Cur}
 use Rattle.table_values.specs.declared.Step.the-variants as step
-use Rattle.table_values.specs.declared.Valued.the-variants as valued
-use Rattle.table_values.proofs.Moves.{Shifts, shift-some, reach-next, reach-small}
-use Rattle.table_values.proofs.Turns.{value-adds, gone-same, gone-gone, gone-row, gone-refuse}
+use Rattle.table_values.specs.declared.LineRead.the-variants as linewise
+use Rattle.table_values.proofs.Moves.{shift-some, reach-next, reach-small}
+use Rattle.table_values.proofs.Turns.{value-adds, gone-same, clear-then, gone-gone, gone-done, gone-broken}
 use Rattle.table_values.proofs.Meanings.{dif-adds}
 
 -- ---- states
@@ -39,7 +37,7 @@ no-want (going h) l = refl
 -- ---- a run of differences
 
 pub went-none : {N : ℕ} {s : List ℕ} (c : Cur) (out : List ℤ) → Sits N s c → Went N s c c out out
-went-none c out h = record { low = omega arith; sits = h; law = λ passing p w g. gone-same _ passing _ _ p w out c g refl }
+went-none c out h = record { low = omega arith; clear = λ k a b. absurd (omega arith); sits = h; law = λ p w g. gone-same _ _ _ p w out c g refl }
 
 -- one difference more
 pub went-on : {N : ℕ} {s : List ℕ} {c : Cur} (b : Cur) {out mid : List ℤ} (out' : List ℤ) {v j f : ℕ} (u : ℕ) → Went N s c b out mid → 0 < b .q → 32 ≤ b .e → b .e < 64
@@ -50,9 +48,10 @@ went-on {N} {s} {c} b {out} {mid} out' {v} {j} {f} u g o l h vs t k e n m =
     let low = g .low in let tl = t .low in
     record {
       low = omega arith;
+      clear = clear-then s (g .clear) (t .clear);
       sits = sits-next t (b .k + 1) u (b .want) v (b .e) (z .high) vs (omega arith);
-      law = λ passing p w x. gone-gone N passing s (c .at) (c .k) p w out mid b (g .law passing p w x) out' _
-          (λ y i hold. value-adds N passing s t (b .k) y i (u ∷ []) (By (leb 48 (b .e)) v) mid out' _ (dif-adds (leb 48 (b .e)) v u hold (λ r. omega arith) z) (omega arith) refl refl
+      law = λ p w x. gone-gone N s (c .at) (c .k) p w out mid b (g .law p w x) out' _
+          (λ y i hold. value-adds N s t (b .k) y i (u ∷ []) (By (leb 48 (b .e)) v) mid out' _ (dif-adds (leb 48 (b .e)) v u hold (λ r. omega arith) z) (omega arith) refl refl
           (rw (no-want hold o) (going (dif l h (z .low)))) m);
     }
 
@@ -61,23 +60,26 @@ went-on {N} {s} {c} b {out} {mid} out' {v} {j} {f} u g o l h vs t k e n m =
 pub went-went : {N : ℕ} {s : List ℕ} {c b r : Cur} {out mid out' : List ℤ} → Went N s c b out mid → Went N s b r mid out' → Went N s c r out out'
 went-went {N} {s} {c} {b} {r} {out} {mid} {out'} g h =
     let x = g .low in let y = h .low in
-    record { low = omega arith; sits = h .sits; law = λ passing p w z. gone-gone N passing s (c .at) (c .k) p w out mid b (g .law passing p w z) out' r (h .law passing) }
+    record { low = omega arith; clear = clear-then s (g .clear) (h .clear); sits = h .sits; law = λ p w z. gone-gone N s (c .at) (c .k) p w out mid b (g .law p w z) out' r (h .law) }
 
-pub went-step : {N : ℕ} {s : List ℕ} {c b r : Cur} {out mid out' : List ℤ} → Went N s c b out mid → Stepped N s b mid out' (step.Go r) → Went N s c r out out'
-went-step g h = went-went g (record { low = let x = h .0 in omega arith; sits = h .1; law = h .2 })
+-- the state at a line's first value
+abbrev pub line-start : ℕ → ℕ → ℕ → ℕ → Cur
+line-start at e k want = record { at = at; e = e; k = k; q = 0; want = want; step = 0; form = 0 }
 
-pub went-line : {N : ℕ} {s : List ℕ} {c b : Cur} {j : ℕ} {out mid out' : List ℤ} → Went N s c b out mid → Stepped N s b mid out' (step.Line j) → Lined N s c out out' (valued.Done b j)
-went-line {N} {s} {c} {b} {j} {out} {mid} {out'} g h =
-    let x = g .low in let y = h .0 in (
-      h .1,
-      omega arith,
-      g .sits,
-      λ passing p w z.
-          rw (h .2) (gone-row N passing s (c .at) (c .k) p w out mid b (g .law passing p w z) j (h .3 passing)),
-    )
+module _ {N : ℕ} {s : List ℕ} {at e k want : ℕ} {b : Cur} {out mid : List ℤ} (out' : List ℤ) (g : Went N s (line-start at e k want) b out mid) where
+  pub went-line : {j : ℕ} → Stepped N s b mid out' (step.Line j) → Lined N s at k want out out' (linewise.Next (rowAfter b j))
+  went-line {j} h =
+      let x = g .low in let y = h .0 in let z = g .sits in let l = h .3 in let q = z .stands in (
+        omega arith,
+        h .1,
+        z .small,
+        z .few,
+        record { stop = b .at; low = x; clear = g .clear; ends = omega arith; next = h .4 },
+        λ p w v. rw (h .2) (gone-done N s at k p w out mid b (g .law p w v) j (h .5)),
+      )
 
-pub went-refused : {N : ℕ} {s : List ℕ} {c b : Cur} {n : ℕ} {out mid : List ℤ} (out' : List ℤ) → Went N s c b out mid → Stepped N s b mid out' (step.Refused n) → Lined N s c out out' (valued.Refused n (b .at))
-went-refused {N} {s} {c} {b} {n} {out} {mid} out' g h = λ passing p w z. gone-refuse N passing s (c .at) (c .k) p w out mid b (g .law passing p w z) n (b .at) (h passing)
+  pub went-refused : {n : ℕ} → Stepped N s b mid out' (step.Refused n) → Lined N s at k want out out' (linewise.Refused n (b .at))
+  went-refused {n} h = λ p w v. rw (h .0) (gone-broken N s at k p w out mid b (g .law p w v) n (b .at) (h .1))
 
 -- ---- copies, stored one after the other
 

@@ -1,2 +1,4 @@
 pub mod Numbers
+pub mod LineValues
 pub mod States
+pub mod Unique

@@ -1,16 +1,16 @@
 -- What reading a number of a value ensures (01, "Values"). Assumes nothing.
 use mathlib.Core.Path.{_≡_}
-use mathlib.Core.Bool.{Bool, true, false}
+use mathlib.Core.Bool.{true, false}
 use mathlib.Core.List.{List}
-use Prim.Native.Nat.{ℕ, _+_, _-_, _<_, _≤_}
+use Prim.Native.Nat.{ℕ, _<_, _≤_}
 use lib.Dec.{ltb, leb}
 use lib.ListN.{length}
 use Rattle.terms.specs.Logic.{pick}
 use Rattle.alphabet_spec.specs.Kinds.{Lead, sqz, dif, dup}
 use Rattle.alphabet_spec.specs.Entries.{entryAt}
-use Rattle.table_spec.specs.Values.{Value, own, by, times, valueOf}
+use Rattle.table_spec.specs.Values.{Value, own, valueOf}
 use Rattle.table_spec.specs.Reading.{value, fault}
-use Rattle.table_lines.specs.Seen.{behind, here}
+use Rattle.table_lines.specs.Seen.{here}
 use Rattle.table_values.specs.declared.NumberRead.{NumberRead}
 use Rattle.table_values.specs.declared.NumberRead.the-variants.{Read, Misspelled}
 
@@ -22,9 +22,14 @@ leadOf e = pick (ltb e 32) dup (pick (ltb e 48) (dif false) (pick (ltb e 64) (di
 abbrev pub valueAt : ℕ → ℕ → Value
 valueAt e v = pick (ltb e 16) (own false v) (pick (ltb e 96) (valueOf (leadOf e) v) (own (leb 144 e) v))
 
+-- from the place i up to j stand only blanks, digits, pseudo-digits, signs and `?`: no line's end, no comment, and no byte that cannot stand there
+abbrev pub Clear : List ℕ → ℕ → ℕ → Type 0
+Clear s i j = (k : ℕ) → i ≤ k → k < j → entryAt s k < 160
+
 -- the value x stands at the place i, and what is left of the line at j, where the entry f stands
 pub record Token (s : List ℕ) (i : ℕ) (x : Value) (j f : ℕ) : Type 0 where
   pub low : i < j
+  pub clear : Clear s i j
   pub high : j ≤ length s
   pub stands : f ≡ entryAt s j
   pub law : here s i ≡ value i x (here s j)

@@ -1,28 +1,28 @@
--- The state of the code within a line, how it keeps what the definition of reading keeps, and what the functions on values ensure. Assumes nothing.
+-- The state of the code within a line and between lines, how it keeps what the definition of reading keeps, and what the functions on values ensure. Assumes nothing.
 use mathlib.Core.Path.{_≡_}
 use mathlib.Core.Bool.{Bool, true, false}
-use mathlib.Core.List.{List, map}
+use mathlib.Core.List.{List, [], map}
 use Prim.Native.Nat.{ℕ, _+_, _*_, _<_, _≤_}
-use lib.Dec.{leb}
+use lib.Dec.{leb, eqb}
 use lib.IntN.{ℤ}
 use lib.ListN.{length}
 use lib.Seq.{sets}
 use Rattle.terms.specs.Logic.{pick}
-use Rattle.alphabet_spec.specs.Kinds.{tabs-too}
 use Rattle.alphabet_spec.specs.Entries.{entryAt}
-use Rattle.table_spec.specs.Frame.{Rules, entry-for}
+use Rattle.table_spec.specs.Frame.{entry-for}
 use Rattle.table_spec.specs.Values.{Form, Own, Gap, By, Dup, Spot, first, after, moved}
-use Rattle.table_spec.specs.Reading.{fresh, inRange, Answer, refuse, push, judge}
+use Rattle.table_spec.specs.Reading.{line, fresh, inRange, difBefore}
 use Rattle.table_lines.specs.Seen.{seen, here}
+use Rattle.table_lines.specs.Ends.{endAt}
+use Rattle.table_lines.specs.declared.Ending.the-variants as ending
+use Rattle.table_values.specs.Numbers.{Clear}
+use Rattle.table_values.specs.LineValues.{whole, broken, given, line-says}
 use Rattle.table_values.specs.declared.Cur.{Cur}
 use Rattle.table_values.specs.declared.Step.{Step}
 use Rattle.table_values.specs.declared.Step.the-variants as step
-use Rattle.table_values.specs.declared.Valued.{Valued}
-use Rattle.table_values.specs.declared.Valued.the-variants as valued
-
--- the rules of a frame with N points, whatever heads pass
-abbrev pub ruled : ℕ → (ℕ → ℕ → Bool) → Rules
-ruled N passing = record { points = N; passing = passing; tabs = tabs-too }
+use Rattle.table_values.specs.declared.Row.{Row}
+use Rattle.table_values.specs.declared.LineRead.{LineRead}
+use Rattle.table_values.specs.declared.LineRead.the-variants as linewise
 
 -- an ordinate moved by a difference, or 0 where that is out of range
 abbrev pub shiftedTo : Bool → ℕ → ℕ → ℕ
@@ -33,6 +33,8 @@ abbrev pub Reaches : Bool → ℕ → ℕ → ℕ → Type 0
 Reaches true d n q = d * n ≤ q
 Reaches false d n q = q + d * n < 4294967296
 
+-- ---- within a line
+
 -- how the code keeps the form of the value before, whose ordinate is q: 0 and 1 after a DUP; 2 for one of its own; the entry of its first byte and its size for a difference
 pub data Codes : ℕ → ℕ → ℕ → Form → Type 0 where
   own : {q d : ℕ} → Codes 2 d q Own
@@ -40,6 +42,10 @@ pub data Codes : ℕ → ℕ → ℕ → Form → Type 0 where
   dif : {e q d : ℕ} → 32 ≤ e → e < 64 → 0 < q → Codes e d q (By (leb 48 e) d)
   dup-not : {q d : ℕ} → Codes 0 d q (Dup false)
   dup-dif : {q d : ℕ} → 0 < q → Codes 1 d q (Dup true)
+
+-- is a form, as the code keeps it, DIF?
+abbrev pub difForm : ℕ → Bool
+difForm form = pick (eqb form 1) true (leb 32 form)
 
 -- how it keeps the ordinate before and the spot, in q, want, step and form
 pub data Holds : ℕ → ℕ → ℕ → ℕ → ℕ → Spot → Type 0 where
@@ -56,43 +62,77 @@ pub record Sits (N : ℕ) (s : List ℕ) (c : Cur) : Type 0 where
   pub size : c .step < 10000000000
   pub few : c .k ≤ N
 
--- what holds for each ordinate before and spot that the state keeps, whatever heads pass
-abbrev pub Reads : Cur → ((ℕ → ℕ → Bool) → ℕ → Spot → Type 0) → Type 0
-Reads c P = (passing : ℕ → ℕ → Bool) (p : ℕ) (w : Spot) → Holds (c .q) (c .want) (c .step) (c .form) p w → P passing p w
+-- what holds for each ordinate before and spot that the state keeps
+abbrev pub Reads : Cur → (ℕ → Spot → Type 0) → Type 0
+Reads c P = (p : ℕ) (w : Spot) → Holds (c .q) (c .want) (c .step) (c .form) p w → P p w
 
 -- from a state of reading to a state of the code: the points between, which were stored, and what is left to read
-pub record Gone (N : ℕ) (passing : ℕ → ℕ → Bool) (s : List ℕ) (at k p : ℕ) (w : Spot) (out out' : List ℤ) (r : Cur) : Type 0 where
+pub record Gone (N : ℕ) (s : List ℕ) (at k p : ℕ) (w : Spot) (out out' : List ℤ) (r : Cur) : Type 0 where
   pub points : List ℕ
   pub ordinate : ℕ
   pub spot : Spot
   pub holds : Holds (r .q) (r .want) (r .step) (r .form) ordinate spot
   pub count : r .k ≡ k + length points
   pub stored : out' ≡ sets out k (map entry-for points)
-  pub law : judge (ruled N passing) (here s at) k p w ≡ push points (judge (ruled N passing) (here s (r .at)) (r .k) ordinate spot)
+  pub law : line-says N (here s at) k p w ≡ given points (line-says N (here s (r .at)) (r .k) ordinate spot)
 
 -- the state r is reached from c, and what was stored on the way
 pub record Went (N : ℕ) (s : List ℕ) (c r : Cur) (out out' : List ℤ) : Type 0 where
   pub low : c .at ≤ r .at
+  pub clear : Clear s (c .at) (r .at)
   pub sits : Sits N s r
-  pub law : Reads c (λ passing p w. Gone N passing s (c .at) (c .k) p w out out' r)
+  pub law : Reads c (λ p w. Gone N s (c .at) (c .k) p w out out' r)
 
--- one token: a value, or blanks; the line's end; or a refusal at the token
+-- one token: a value, or blanks; the line's end, with the next line at j; or a refusal at the token, and nothing was stored
 abbrev pub Stepped : ℕ → List ℕ → Cur → List ℤ → List ℤ → Step → Type 0
-Stepped N s c out out' (step.Go r) = (c .at < r .at) × Sits N s r × Reads c (λ passing p w. Gone N passing s (c .at) (c .k) p w out out' r)
+Stepped N s c out out' (step.Go r) = (c .at < r .at) × Went N s c r out out'
 Stepped N s c out out' (step.Line j) =
-    (c .at ≤ j) × (j ≤ length s) × (out' ≡ out) × Reads c (λ passing p w. judge (ruled N passing) (here s (c .at)) (c .k) p w ≡ judge (ruled N passing) (seen s j fresh) (c .k) p w)
-Stepped N s c out out' (step.Refused n) = Reads c (λ passing p w. judge (ruled N passing) (here s (c .at)) (c .k) p w ≡ refuse n (c .at))
+    (c .at ≤ j) × (j ≤ length s) × (out' ≡ out) × (160 ≤ c .e) × (endAt s (c .at) ≡ ending.Next j) × (here s (c .at) ≡ line (seen s j fresh))
+Stepped N s c out out' (step.Refused n) = (out' ≡ out) × Reads c (λ p w. line-says N (here s (c .at)) (c .k) p w ≡ broken [] n (c .at))
 
--- the values of a line: the state after them, and the place of the next line
-pub record Row (N : ℕ) (passing : ℕ → ℕ → Bool) (s : List ℕ) (at k p : ℕ) (w : Spot) (out out' : List ℤ) (r : Cur) (j : ℕ) : Type 0 where
+-- ---- a line
+
+-- the line that goes on at the place i ends at `stop`, the first place with a line's end, a comment or a byte that cannot stand there, and the next one begins at j
+pub record LineEnds (s : List ℕ) (i j : ℕ) : Type 0 where
+  pub stop : ℕ
+  pub low : i ≤ stop
+  pub clear : Clear s i stop
+  pub ends : 160 ≤ entryAt s stop
+  pub next : endAt s stop ≡ ending.Next j
+
+-- the state after a line, from the last one within it
+abbrev pub rowAfter : Cur → ℕ → Row
+rowAfter c j = record { at = j; k = c .k; q = c .q; dif = difForm (c .form) }
+
+-- the ordinate that the code keeps between lines: that of the last value, 0 for a missing one, or if there was none
+abbrev pub lastAt : Spot → ℕ → ℕ
+lastAt (first c) p = 0
+lastAt (after f) p = p
+
+-- the values of a line from the place i on, with k points given, after the ordinate p, at the spot w: their points were stored, and the state after the line keeps the last one and its form
+pub record LineDone (N : ℕ) (s : List ℕ) (i k p : ℕ) (w : Spot) (out out' : List ℤ) (r : Row) : Type 0 where
   pub points : List ℕ
   pub ordinate : ℕ
   pub spot : Spot
-  pub holds : Holds (r .q) (r .want) (r .step) (r .form) ordinate spot
-  pub count : r .k ≡ k + length points
+  pub law : line-says N (here s i) k p w ≡ whole points ordinate spot (line (seen s (r .at) fresh))
   pub stored : out' ≡ sets out k (map entry-for points)
-  pub law : judge (ruled N passing) (here s at) k p w ≡ push points (judge (ruled N passing) (seen s j fresh) (r .k) ordinate spot)
+  pub count : r .k ≡ k + length points
+  pub last : r .q ≡ lastAt spot ordinate
+  pub form : r .dif ≡ difBefore spot
+  pub some : r .dif ≡ true → 0 < r .q
 
-abbrev pub Lined : ℕ → List ℕ → Cur → List ℤ → List ℤ → Valued → Type 0
-Lined N s c out out' (valued.Done r j) = (j ≤ length s) × (c .at ≤ j) × Sits N s r × Reads c (λ passing p w. Row N passing s (c .at) (c .k) p w out out' r j)
-Lined N s c out out' (valued.Refused n a) = Reads c (λ passing p w. judge (ruled N passing) (here s (c .at)) (c .k) p w ≡ refuse n a)
+-- or one of them is refused: the points of those before it were stored
+pub record LineBroken (N : ℕ) (s : List ℕ) (i k p : ℕ) (w : Spot) (out out' : List ℤ) (n a : ℕ) : Type 0 where
+  pub points : List ℕ
+  pub law : line-says N (here s i) k p w ≡ broken points n a
+  pub stored : out' ≡ sets out k (map entry-for points)
+
+-- what holds for each ordinate before and spot at a line's start, where the first value must equal `want` (0: not asked)
+abbrev pub Starts : ℕ → (ℕ → Spot → Type 0) → Type 0
+Starts want P = (p : ℕ) (w : Spot) → Holds 0 want 0 0 p w → P p w
+
+-- the values of a line: the state after it, or a refusal and its place
+abbrev pub Lined : ℕ → List ℕ → ℕ → ℕ → ℕ → List ℤ → List ℤ → LineRead → Type 0
+Lined N s i k want out out' (linewise.Next r) =
+    (i ≤ r .at) × (r .at ≤ length s) × (r .q < 4294967296) × (r .k ≤ N) × LineEnds s i (r .at) × Starts want (λ p w. LineDone N s i k p w out out' r)
+Lined N s i k want out out' (linewise.Refused n a) = Starts want (λ p w. LineBroken N s i k p w out out' n a)

@@ -1,17 +1,16 @@
-// The values of a line (01, "Values", "Meaning"). Inner functions: the byte table is lent to them, and the state goes in and comes back by value.
+// The values of a line (01, "Values", "Meaning"). The byte table is lent to each function, and the state goes in and comes back by value.
 ghost use mathlib.Core.Path.{_≡_};
-ghost use mathlib.Core.Bool.{Bool, true, false};
 ghost use mathlib.Core.List.{map};
 ghost use mathlib.Core.Logic.{_⊎_};
-ghost use Prim.Native.Nat.{ℕ, _+_, _-_, _*_, _/_, _%_, _<_, _≤_};
+ghost use Prim.Native.Nat.{_+_, _%_, _<_, _≤_};
 ghost use lib.Dec.{leb};
 ghost use lib.ListN.{length, set};
 ghost use lib.Seq.{sets};
 ghost use Rattle.alphabet_spec.specs.Entries.{entryAt, table};
 ghost use Rattle.table_spec.specs.Frame.{entry-for};
-ghost use Rattle.table_spec.specs.Values.{own, gap, by, times, By, copies, moved, room};
+ghost use Rattle.table_spec.specs.Values.{own, by, times, By, copies, moved, room};
 ghost use Rattle.table_values.specs.Numbers.{leadOf, valueAt, below, Token, Numbered};
-ghost use Rattle.table_values.specs.States.{shiftedTo, Reaches, Sits, Went, Stepped, Lined};
+ghost use Rattle.table_values.specs.States.{shiftedTo, difForm, rowAfter, Reaches, Sits, Went, Stepped, Lined};
 use alphabet::digits;
 use alphabet::entry_at;
 use signed::entry_for;
@@ -26,33 +25,41 @@ const BLANK: u64 = 112;
 const POINT: u64 = 160;
 
 // A number: itself, the place after it and the entry there; or one that is misspelled.
-pub enum NumberRead {
+enum NumberRead {
     Read(u64, usize, u64),
     Misspelled,
 }
 
 // Within a line: the place and the entry there; how many points; the ordinate before (0: none on this line, or missing); the ordinate that a check line's first value must equal (0: not
 // asked); the size of the last difference; and the form of the value before: 0 none, or a DUP that is not DIF; 1 a DUP that is; 2 a value of its own; 32 to 63 a difference, its first byte's entry.
-pub struct Cur {
-    pub at: usize,
-    pub e: u64,
-    pub k: usize,
-    pub q: u64,
-    pub want: u64,
-    pub step: u64,
-    pub form: u64,
+struct Cur {
+    at: usize,
+    e: u64,
+    k: usize,
+    q: u64,
+    want: u64,
+    step: u64,
+    form: u64,
 }
 
 // What one token did: the next state, the place of the next line, or a refusal number.
-pub enum Step {
+enum Step {
     Go(Cur),
     Line(usize),
     Refused(u64),
 }
 
-// What the values of a line did: the last state and the place of the next line, or a refusal and its place.
-pub enum Valued {
-    Done(Cur, usize),
+// Between lines: the place, how many points, the last ordinate (0: missing, or none on that line), and whether the line before ended in DIF form.
+pub struct Row {
+    pub at: usize,
+    pub k: usize,
+    pub q: u64,
+    pub dif: bool,
+}
+
+// What a line did: the state after it, or a refusal number and place.
+pub enum LineRead {
+    Next(Row),
     Refused(u64, usize),
 }
 
@@ -191,7 +198,7 @@ fn repeat(out: &mut [i32], k: usize, q: u64, minus: bool, d: u64, n: usize)
 // ---- one value
 
 // THE HOT LOOP. As many differences as stand here one after the other and are right. It stops before anything else.
-pub fn differences(t: &[u8; 256], s: &[u8], points: usize, out: &mut [i32], c: Cur) -> Cur
+fn differences(t: &[u8; 256], s: &[u8], points: usize, out: &mut [i32], c: Cur) -> Cur
     requires { ⌜ (now t ≡ table) × Sits points (now s) c ⌝ }
     ensures { λ r. ⌜ Went points (now (s .entry)) c r (now (out .entry)) (now (out .exit)) ⌝ }
 {
@@ -469,12 +476,52 @@ fn token(t: &[u8; 256], s: &[u8], points: usize, out: &mut [i32], c: Cur) -> Ste
     }
 }
 
-// The values of a line.
-pub fn values(t: &[u8; 256], s: &[u8], points: usize, out: &mut [i32], start: Cur) -> Valued
-    requires { ⌜ (now t ≡ table) × (points ≤ 65536) × Sits points (now s) start ⌝ }
-    ensures { λ r. ⌜ Lined points (now (s .entry)) start (now (out .entry)) (now (out .exit)) r ⌝ }
+// Is a form DIF?
+fn in_dif(form: u64) -> bool
+    ensures { λ r. ⌜ r ≡ difForm form ⌝ }
 {
-    let mut c = start;
+    if form == 1 {
+        return true;
+    }
+    form >= 32
+}
+
+// The state after a line, from the last one within it; the next line stands at the place.
+fn row_after(c: Cur, at: usize) -> Row
+    ensures { λ r. ⌜ r ≡ rowAfter c at ⌝ }
+{
+    let dif = in_dif(c.form);
+    Row {
+        at,
+        k: c.k,
+        q: c.q,
+        dif,
+    }
+}
+
+// The values of a line, from a place with the entry e on, with k points given; the first must equal `want`, if that is not 0.
+pub fn values(
+    t: &[u8; 256],
+    s: &[u8],
+    points: usize,
+    out: &mut [i32],
+    at: usize,
+    e: u64,
+    k: usize,
+    want: u64,
+) -> LineRead
+    requires { ⌜ (now t ≡ table) × (points ≤ 65536) × (0 < at) × (at ≤ length (now s)) × (e ≡ entryAt (now s) at) × (k ≤ points) ⌝ }
+    ensures { λ r. ⌜ Lined points (now (s .entry)) at k want (now (out .entry)) (now (out .exit)) r ⌝ }
+{
+    let mut c = Cur {
+        at,
+        e,
+        k,
+        q: 0,
+        want,
+        step: 0,
+        form: 0,
+    };
     loop {
         let b = differences(t, s, points, out, c);
         match token(t, s, points, out, b) {
@@ -482,10 +529,10 @@ pub fn values(t: &[u8; 256], s: &[u8], points: usize, out: &mut [i32], start: Cu
                 c = d;
             }
             Step::Line(j) => {
-                return Valued::Done(b, j);
+                return LineRead::Next(row_after(b, j));
             }
             Step::Refused(n) => {
-                return Valued::Refused(n, b.at);
+                return LineRead::Refused(n, b.at);
             }
         }
     }

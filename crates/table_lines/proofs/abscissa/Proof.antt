@@ -1,4 +1,4 @@
-use mathlib.Core.Path.{_≡_, refl, sym, ap, _∙_}
+use mathlib.Core.Path.{refl}
 use borrow.Author.Needs.{needs}
 use Rattle.table_lines.proofs.abscissa.Statement.{statement}
 use Rattle.table_lines.proofs.abscissa.Tie as tie

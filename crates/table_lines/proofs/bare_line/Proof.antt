@@ -1,13 +1,5 @@
 use Rattle.table_lines.proofs.Bare.{bare-value, bare-end, bare-bad}
-use mathlib.Core.Path.{_≡_, refl, sym, ap, _∙_}
-use Prim.Native.Nat.{ℕ, suc, _+_, _-_, _<_, _≤_}
-use native.Mathlib.Omega.{arith}
-use lib.ListN.{length, drop}
-use Rattle.alphabet_spec.specs.Entries.{entryAt, entry-in, entry-end}
-use Rattle.table_spec.specs.Reading.{fresh, inner, comment}
-use Rattle.table_lines.specs.Seen.{seen, behind, here}
-use Rattle.table_lines.specs.Ends.{Blanked, Commented, Ended, Started}
-use Rattle.table_lines.proofs.LineEnds.{inside-text, blank-in, blank-fresh, blank-within, comment-end, comment-lf, comment-on, end-over, end-lf, end-cr, end-comment, end-no-cr, end-no-dollar, end-bad, start-end}
+use Prim.Native.Nat.{_-_}
 use borrow.Author.Needs.{needs}
 use Rattle.table_lines.proofs.bare_line.Statement.{statement}
 use Rattle.table_lines.proofs.bare_line.Tie as tie

@@ -1,13 +1,12 @@
-use mathlib.Core.Path.{_≡_, refl, sym, ap, _∙_}
-use Prim.Native.Nat.{ℕ, suc, _+_, _-_, _<_, _≤_}
+use mathlib.Core.Path.{_≡_, refl, sym, _∙_}
+use Prim.Native.Nat.{ℕ, _-_, _<_, _≤_}
 use native.Mathlib.Omega.{arith}
-use lib.ListN.{length, drop}
+use lib.ListN.{length}
 use borrow.Author.Needs.{needs}
-use Rattle.alphabet_spec.specs.Entries.{entryAt, entry-in, entry-end}
-use Rattle.table_spec.specs.Reading.{fresh, inner, comment}
-use Rattle.table_lines.specs.Seen.{seen, behind, here}
-use Rattle.table_lines.specs.Ends.{Blanked, Commented, Ended, Started}
-use Rattle.table_lines.proofs.LineEnds.{inside-text, blank-in, blank-fresh, blank-within, comment-end, comment-lf, comment-on, end-over, end-lf, end-cr, end-comment, end-no-cr, end-no-dollar, end-bad, start-end}
+use Rattle.alphabet_spec.specs.Entries.{entryAt}
+use Rattle.table_spec.specs.Reading.{fresh, inner}
+use Rattle.table_lines.specs.Seen.{seen, behind}
+use Rattle.table_lines.proofs.LineEnds.{blank-in, blank-fresh, blank-within, place-more}
 use Rattle.table_lines.proofs.blanks.Statement.{statement}
 use Rattle.table_lines.proofs.blanks.Tie as tie
 use Rattle.table_lines.proofs.blanks.Reads as reads
@@ -15,13 +14,15 @@ use Rattle.table_lines.proofs.blanks.Lts as lts
 use Rattle.alphabet.proofs.entry_at.Reads as entry-at-reads
 
 abbrev Inv-loop : tie.InvT-loop
-Inv-loop t s from i₀ i = (from ≤ i) × (i ≤ length s) × (seen s from fresh ≡ seen s i fresh) × (seen s from (inner (behind s from)) ≡ seen s i (inner (behind s i)))
+Inv-loop t s from i₀ i =
+    (from ≤ i) × (i ≤ length s) × (seen s from fresh ≡ seen s i fresh) × (seen s from (inner (behind s from)) ≡ seen s i (inner (behind s i)))
+    × ((k : ℕ) → from ≤ k → k < i → entryAt s k ≡ 112)
 
 abbrev μ-loop : tie.MeasureT-loop
 μ-loop t s from i₀ i = length s - i
 
 loop-holds : tie.Need-loop-holds Inv-loop μ-loop
-loop-holds c = search needs
+loop-holds c = (search needs, search needs, refl, refl, λ k a b. absurd (omega arith))
 
 entry-at-requires : tie.Need-entry-at-requires Inv-loop μ-loop
 entry-at-requires c κs = search needs
@@ -37,12 +38,12 @@ loop-again c =
     let l = c .before .before .loop .inv in
     let e = sym (c .before .entry-at .ensures) ∙ c .if1 .taken in
     let h = blank-in _ _ e in
-    (omega arith, omega arith, l .2 ∙ blank-fresh _ _ e, l .3 ∙ blank-within _ _ _ e)
+    (omega arith, omega arith, l .2 ∙ blank-fresh _ _ e, l .3 ∙ blank-within _ _ _ e, place-more _ (l .4) e)
 
 returns : tie.Need-returns Inv-loop μ-loop
 returns c =
     let l = c .before .before .loop .inv in
-    record { low = l .0; high = l .1; before = l .2; within = l .3; stops = λ e. c .if1 .left (c .before .entry-at .ensures ∙ e) }
+    record { low = l .0; high = l .1; all = l .4; before = l .2; within = l .3; stops = λ e. c .if1 .left (c .before .entry-at .ensures ∙ e) }
 
 pub blanks-spec : {M : Type 1} → statement M
 blanks-spec =

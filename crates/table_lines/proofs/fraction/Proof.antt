@@ -1,5 +1,5 @@
 use mathlib.Core.Bool.{true}
-use mathlib.Core.Path.{_≡_, refl, sym, ap, _∙_}
+use mathlib.Core.Path.{sym, _∙_}
 use native.Mathlib.Omega.{arith}
 use Rattle.table_lines.proofs.LineEnds.{inside-text}
 use Rattle.table_lines.proofs.HeadLaws.{whole-only, fraction-long, fraction-small, fraction-read}
@@ -28,7 +28,8 @@ digits-requires : tie.Need-digits-requires
 digits-requires c κs = let p = c .before .before .before .pre in let l = inside-text _ _ _ (sym (p .2) ∙ c .if1 .left) (omega arith) in (p .0, omega arith, omega arith)
 
 returns-2 : tie.Need-returns-2
-returns-2 c = let p = c .before .before .before .before .before .before .pre in fraction-long _ (sym (p .2) ∙ c .before .before .before .if1 .left) (c .before .before .digits .ensures) true (c .if2 .taken)
+returns-2 c =
+    let p = c .before .before .before .before .before .before .pre in fraction-long _ (sym (p .2) ∙ c .before .before .before .if1 .left) (c .before .before .digits .ensures) true (c .if2 .taken)
 
 sub-worth : tie.Need-sub-worth
 sub-worth c = search needs
@@ -37,13 +38,22 @@ worth-requires : tie.Need-worth-requires
 worth-requires c κs = search needs
 
 mul-size : tie.Need-mul-size
-mul-size c = let p = c .before .before .before .before .before .before .before .before .pre in let z = fraction-small _ (sym (p .2) ∙ c .before .before .before .before .before .if1 .left) (c .before .before .before .before .digits .ensures) (p .3) in rw (c .before .worth .ensures) (omega arith)
+mul-size c =
+    let p = c .before .before .before .before .before .before .before .before .pre in
+    let z = fraction-small _ (sym (p .2) ∙ c .before .before .before .before .before .if1 .left) (c .before .before .before .before .digits .ensures) (p .3) in
+    rw (c .before .worth .ensures) (omega arith)
 
 abscissa-requires-2 : tie.Need-abscissa-requires-2
-abscissa-requires-2 c κs = let p = c .before .before .before .before .before .before .before .before .pre in rw (c .before .worth .ensures) (fraction-small _ (sym (p .2) ∙ c .before .before .before .before .before .if1 .left) (c .before .before .before .before .digits .ensures) (p .3))
+abscissa-requires-2 c κs =
+    let p = c .before .before .before .before .before .before .before .before .pre in
+    rw (c .before .worth .ensures) (fraction-small _ (sym (p .2) ∙ c .before .before .before .before .before .if1 .left) (c .before .before .before .before .digits .ensures) (p .3))
 
 returns-3 : tie.Need-returns-3
-returns-3 c = let p = c .before .before .before .before .before .before .before .before .before .pre in rw (c .abscissa2 .ensures, c .before .before .worth .ensures) (fraction-read _ (sym (p .2) ∙ c .before .before .before .before .before .before .if1 .left) (c .before .before .before .before .before .digits .ensures) _ (p .3) (c .before .before .before .if2 .left))
+returns-3 c =
+    let p = c .before .before .before .before .before .before .before .before .before .pre in
+    rw (c .abscissa2 .ensures, c .before .before .worth .ensures)
+    (fraction-read _ (sym (p .2) ∙ c .before .before .before .before .before .before .if1 .left) (c .before .before .before .before .before .digits .ensures) _ (p .3)
+    (c .before .before .before .if2 .left))
 
 pub fraction-spec : {M : Type 1} → statement M
 fraction-spec =

@@ -1,6 +1,4 @@
-use mathlib.Core.Path.{_≡_, refl, sym, ap, _∙_}
 use native.Mathlib.Omega.{arith}
-use lib.Dec.{leb}
 use Rattle.table_lines.proofs.HeadLaws.{value-first, digit-small, digit-long, digit-headed, sign-alone, sign-small, sign-long, sign-headed}
 use borrow.Author.Needs.{needs}
 use Rattle.table_lines.proofs.head.Statement.{statement}
@@ -25,7 +23,10 @@ fraction-requires c κs =
     (p .0, r .high, r .stands, digit-small _ _ _ (p .1) (p .2) (p .4) (c .before .before .before .if1 .taken) r, c .if2 .left)
 
 returns-2 : tie.Need-returns-2
-returns-2 c = let p = c .before .before .before .before .before .before .pre in digit-headed _ _ _ (p .1) (p .2) (p .4) (c .before .before .before .before .if1 .taken) (c .before .before .before .digits .ensures) (c .before .if2 .left) (c .fraction .result) (c .fraction .ensures)
+returns-2 c =
+    let p = c .before .before .before .before .before .before .pre in
+    digit-headed _ _ _ (p .1) (p .2) (p .4) (c .before .before .before .before .if1 .taken) (c .before .before .before .digits .ensures) (c .before .if2 .left) (c .fraction .result)
+    (c .fraction .ensures)
 
 returns-3 : tie.Need-returns-3
 returns-3 c = let p = c .before .before .before .pre in value-first _ _ _ (p .1) (p .2) (c .before .if1 .left) (c .if3 .taken) (p .4)
@@ -34,10 +35,14 @@ digits-requires-2 : tie.Need-digits-requires-2
 digits-requires-2 c κs = let p = c .before .before .before .pre in (p .0, omega arith, omega arith)
 
 returns-4 : tie.Need-returns-4
-returns-4 c = let p = c .before .before .before .before .before .before .pre in sign-alone _ _ _ (p .1) (p .2) (c .before .before .before .if3 .left) (p .3) (c .before .before .digits2 .ensures) (c .if4 .taken)
+returns-4 c =
+    let p = c .before .before .before .before .before .before .pre in sign-alone _ _ _ (p .1) (p .2) (c .before .before .before .if3 .left) (p .3) (c .before .before .digits2 .ensures) (c .if4 .taken)
 
 returns-5 : tie.Need-returns-5
-returns-5 c = let p = c .before .before .before .before .before .before .before .before .pre in sign-long _ _ _ (p .1) (p .2) (p .4) (c .before .before .before .before .before .if3 .left) (p .3) (c .before .before .before .before .digits2 .ensures) (c .before .before .if4 .left) (c .if5 .taken)
+returns-5 c =
+    let p = c .before .before .before .before .before .before .before .before .pre in
+    sign-long _ _ _ (p .1) (p .2) (p .4) (c .before .before .before .before .before .if3 .left) (p .3) (c .before .before .before .before .digits2 .ensures) (c .before .before .if4 .left)
+    (c .if5 .taken)
 
 fraction-requires-2 : tie.Need-fraction-requires-2
 fraction-requires-2 c κs =
@@ -47,7 +52,8 @@ fraction-requires-2 c κs =
 returns-6 : tie.Need-returns-6
 returns-6 c =
     let p = c .before .before .before .before .before .before .before .before .before .pre in
-    sign-headed _ _ _ (p .1) (p .2) (p .4) (c .before .before .before .before .before .before .if3 .left) (p .3) (c .before .before .before .before .before .digits2 .ensures) (c .before .before .before .if4 .left) (c .before .if5 .left) (c .fraction2 .result) (c .fraction2 .ensures)
+    sign-headed _ _ _ (p .1) (p .2) (p .4) (c .before .before .before .before .before .before .if3 .left) (p .3) (c .before .before .before .before .before .digits2 .ensures)
+    (c .before .before .before .if4 .left) (c .before .if5 .left) (c .fraction2 .result) (c .fraction2 .ensures)
 
 pub head-spec : {M : Type 1} → statement M
 head-spec =

@@ -1,12 +1,9 @@
-use mathlib.Core.Path.{_≡_, refl, sym, ap, _∙_}
-use Prim.Native.Nat.{ℕ, suc, _+_, _-_, _<_, _≤_}
+use mathlib.Core.Path.{sym, _∙_}
+use Prim.Native.Nat.{_+_, _-_}
 use native.Mathlib.Omega.{arith}
-use lib.ListN.{length, drop}
-use Rattle.alphabet_spec.specs.Entries.{entryAt, entry-in, entry-end}
-use Rattle.table_spec.specs.Reading.{fresh, inner, comment}
-use Rattle.table_lines.specs.Seen.{seen, behind, here}
-use Rattle.table_lines.specs.Ends.{Blanked, Commented, Ended, Started}
-use Rattle.table_lines.proofs.LineEnds.{inside-text, blank-in, blank-fresh, blank-within, comment-end, comment-lf, comment-on, end-over, end-lf, end-cr, end-comment, end-no-cr, end-no-dollar, end-bad, start-end}
+use Rattle.alphabet_spec.specs.Entries.{entry-in}
+use Rattle.table_spec.specs.Reading.{comment}
+use Rattle.table_lines.proofs.LineEnds.{end-over, end-lf, end-cr, end-comment, end-no-cr, end-no-dollar, end-bad}
 use borrow.Author.Needs.{needs}
 use Rattle.table_lines.proofs.line_end.Statement.{statement}
 use Rattle.table_lines.proofs.line_end.Tie as tie
@@ -49,7 +46,9 @@ comment-requires c κs =
     omega arith
 
 returns-5 : tie.Need-returns-5
-returns-5 c = end-comment _ _ _ (sym (c .before .before .before .before .before .before .before .before .pre .2) ∙ c .before .before .before .if5 .taken) (sym (c .before .before .entry-at2 .ensures) ∙ c .before .if6 .taken) (c .comment .ensures)
+returns-5 c =
+    end-comment _ _ _ (sym (c .before .before .before .before .before .before .before .before .pre .2) ∙ c .before .before .before .if5 .taken)
+    (sym (c .before .before .entry-at2 .ensures) ∙ c .before .if6 .taken) (c .comment .ensures)
 
 returns-6 : tie.Need-returns-6
 returns-6 c = end-no-dollar _ _ (sym (c .before .before .before .before .before .before .before .pre .2) ∙ c .before .before .if5 .taken) (λ x. c .if6 .left (c .before .entry-at2 .ensures ∙ x))
@@ -58,7 +57,8 @@ returns-7 : tie.Need-returns-7
 returns-7 c =
     let e = c .before .before .before .before .before .pre .2 in
     let l = c .before .before .before .before .before .pre .3 in
-    end-bad (c .before .before .before .before .before .args .s .now) (c .before .before .before .before .before .args .at) (omega (arith, e)) (λ x. c .before .before .before .if1 .left (e ∙ x)) (λ x. c .before .before .if2 .left (e ∙ x)) (λ x. c .before .if3 .left (e ∙ x)) (λ x. c .if5 .left (e ∙ x))
+    end-bad (c .before .before .before .before .before .args .s .now) (c .before .before .before .before .before .args .at) (omega (arith, e)) (λ x. c .before .before .before .if1 .left (e ∙ x))
+    (λ x. c .before .before .if2 .left (e ∙ x)) (λ x. c .before .if3 .left (e ∙ x)) (λ x. c .if5 .left (e ∙ x))
 
 pub line-end-spec : {M : Type 1} → statement M
 line-end-spec =

@@ -1,13 +1,12 @@
-use mathlib.Core.Path.{_≡_, refl, sym, ap, _∙_}
-use Prim.Native.Nat.{ℕ, suc, _+_, _-_, _<_, _≤_}
+use mathlib.Core.Path.{_≡_, sym, _∙_}
+use Prim.Native.Nat.{_-_, _≤_}
 use native.Mathlib.Omega.{arith}
-use lib.ListN.{length, drop}
+use lib.ListN.{length}
 use borrow.Author.Needs.{needs}
-use Rattle.alphabet_spec.specs.Entries.{entryAt, entry-in, entry-end}
-use Rattle.table_spec.specs.Reading.{fresh, inner, comment}
-use Rattle.table_lines.specs.Seen.{seen, behind, here}
-use Rattle.table_lines.specs.Ends.{Blanked, Commented, Ended, Started}
-use Rattle.table_lines.proofs.LineEnds.{inside-text, blank-in, blank-fresh, blank-within, comment-end, comment-lf, comment-on, end-over, end-lf, end-cr, end-comment, end-no-cr, end-no-dollar, end-bad, start-end}
+use Rattle.alphabet_spec.specs.Entries.{entry-in}
+use Rattle.table_spec.specs.Reading.{fresh}
+use Rattle.table_lines.specs.Seen.{seen}
+use Rattle.table_lines.proofs.LineEnds.{start-end}
 use Rattle.table_lines.proofs.row_start.Statement.{statement}
 use Rattle.table_lines.proofs.row_start.Tie as tie
 use Rattle.table_lines.proofs.row_start.Reads as reads
@@ -57,7 +56,8 @@ loop-less c =
     let b = c .before .before .before .before .before .before .before .blanks .ensures in
     let x = rw (c .before .j .given .1) at (c .before .before .before .line-end .ensures) in
     let y = b .low in
-    let n = entry-in (c .before .before .before .before .before .before .before .before .before .before .args .s .now) (c .before .before .before .before .before .before .before .blanks .result) (λ e. c .before .before .before .before .if2 .left (c .before .before .before .before .before .before .entry-at .ensures ∙ e)) in
+    let n = entry-in (c .before .before .before .before .before .before .before .before .before .before .args .s .now) (c .before .before .before .before .before .before .before .blanks .result)
+    (λ e. c .before .before .before .before .if2 .left (c .before .before .before .before .before .before .entry-at .ensures ∙ e)) in
     let z = x .2 n in
     omega (arith, x .1)
 

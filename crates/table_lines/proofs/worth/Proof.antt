@@ -1,4 +1,4 @@
-use mathlib.Core.Path.{_≡_, refl, sym, ap, _∙_}
+use mathlib.Core.Path.{_≡_, refl}
 use native.Mathlib.Omega.{arith}
 use Rattle.table_lines.proofs.worth.Statement.{statement}
 use Rattle.table_lines.proofs.worth.Tie as tie

@@ -1,15 +1,9 @@
-use mathlib.Core.Path.{_≡_, refl, sym, ap, _∙_, subst}
-use Prim.Native.Nat.{ℕ, _<_, _≤_}
-use native.Mathlib.Omega.{arith}
-use lib.ListN.{length}
+use mathlib.Core.Path.{refl}
 use borrow.Author.Needs.{needs, sfits-of}
-use mir.Syntax.{w32, w64}
+use mir.Syntax.{w32}
 use mir.Facts.{toZ-ofZ}
 use Rattle.alphabet_spec.specs.Entries.{table}
-use Rattle.table_spec.specs.Reading.{read, readTable, refuse}
-use Rattle.frame.specs.FrameLaws.{Framing, framed-outside, framed-legal}
-use Rattle.table_read.specs.Answers.{toldFirst}
-use Rattle.table_read.proofs.AnswerLaws.{check-refused, check-first, stored-all, body-long, frame-outside, no-room, body-read, read-refused, first-accepts, read-accepted}
+use Rattle.table_read.proofs.AnswerLaws.{check-refused, check-first}
 use Rattle.table_read.proofs.check_body.Statement.{statement}
 use Rattle.table_read.proofs.check_body.Tie as tie
 use Rattle.table_read.proofs.check_body.Reads as reads
@@ -40,7 +34,9 @@ returns : tie.Need-returns
 returns c = rw (c .new .ensures) (check-refused _ _ (rw (c .before .before .n .given .1) at (c .before .before .before .before .before .pass .ensures)))
 
 returns-2 : tie.Need-returns-2
-returns-2 c = rw (toZ-ofZ (sfits-of {w = w32} (c .t16 .given))) (check-first (c .before .before .before .before .before .before .before .before .pre .some) (rw (c .before .enum-told .given .1) at (c .before .before .before .before .pass .ensures)))
+returns-2 c =
+    rw (toZ-ofZ (sfits-of {w = w32} (c .t16 .given)))
+    (check-first (c .before .before .before .before .before .before .before .before .pre .some) (rw (c .before .enum-told .given .1) at (c .before .before .before .before .pass .ensures)))
 
 pub check-body-spec : {M : Type 1} → statement M
 check-body-spec =

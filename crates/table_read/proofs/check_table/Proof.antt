@@ -1,15 +1,9 @@
-use mathlib.Core.Path.{_≡_, refl, sym, ap, _∙_, subst}
-use Prim.Native.Nat.{ℕ, _<_, _≤_}
-use native.Mathlib.Omega.{arith}
-use lib.ListN.{length}
-use borrow.Author.Needs.{needs, sfits-of}
-use mir.Syntax.{w32, w64}
+use mathlib.Core.Path.{sym, ap, _∙_}
+use borrow.Author.Needs.{needs}
 use mir.Facts.{toZ-ofZ}
-use Rattle.alphabet_spec.specs.Entries.{table}
-use Rattle.table_spec.specs.Reading.{read, readTable, refuse}
-use Rattle.frame.specs.FrameLaws.{Framing, framed-outside, framed-legal}
+use Rattle.frame.specs.FrameLaws.{framed-outside, framed-legal}
 use Rattle.table_read.specs.Answers.{toldFirst}
-use Rattle.table_read.proofs.AnswerLaws.{check-refused, check-first, stored-all, body-long, frame-outside, no-room, body-read, read-refused, first-accepts, read-accepted}
+use Rattle.table_read.proofs.AnswerLaws.{body-long, frame-outside, no-room, body-read}
 use Rattle.table_read.proofs.check_table.Statement.{statement}
 use Rattle.table_read.proofs.check_table.Tie as tie
 use Rattle.table_read.proofs.check_table.Reads as reads
@@ -41,21 +35,25 @@ new-requires-4 c κs = search needs
 
 returns-2 : tie.Need-returns-2
 returns-2 c =
-    let S = c .before .before .before .before .before .before .before .before in let z = rw (toZ-ofZ (S .fits .first), toZ-ofZ (S .fits .last)) at (sym (c .before .before .before .before .before .new2 .ensures) ∙ c .before .before .before .fr .given .1) in
+    let S = c .before .before .before .before .before .before .before .before in
+    let z = rw (toZ-ofZ (S .fits .first), toZ-ofZ (S .fits .last)) at (sym (c .before .before .before .before .before .new2 .ensures) ∙ c .before .before .before .fr .given .1) in
     rw (c .new4 .ensures) (sym (ap toldFirst (no-room _ _ _ _ _ (c .before .before .before .before .before .before .if1 .left) (framed-legal _ _ _ z) (c .before .if2 .taken))))
 
 check-body-requires : tie.Need-check-body-requires
 check-body-requires c κs =
-    let S = c .before .before .before .before .before .before .before in let z = rw (toZ-ofZ (S .fits .first), toZ-ofZ (S .fits .last)) at (sym (c .before .before .before .before .new2 .ensures) ∙ c .before .before .fr .given .1) in framed-legal _ _ _ z .sound
+    let S = c .before .before .before .before .before .before .before in
+    let z = rw (toZ-ofZ (S .fits .first), toZ-ofZ (S .fits .last)) at (sym (c .before .before .before .before .new2 .ensures) ∙ c .before .before .fr .given .1) in framed-legal _ _ _ z .sound
 
 returns-3 : tie.Need-returns-3
 returns-3 c =
-    let S = c .before .before .before .before .before .before in let z = rw (toZ-ofZ (S .fits .first), toZ-ofZ (S .fits .last)) at (sym (c .before .before .before .new2 .ensures) ∙ c .before .enum-told .given .1) in
+    let S = c .before .before .before .before .before .before in
+    let z = rw (toZ-ofZ (S .fits .first), toZ-ofZ (S .fits .last)) at (sym (c .before .before .before .new2 .ensures) ∙ c .before .enum-told .given .1) in
     rw (c .new3 .ensures) (sym (ap toldFirst (frame-outside _ _ _ _ _ (framed-outside _ _ _ z))))
 
 returns-4 : tie.Need-returns-4
 returns-4 c =
-    let S = c .before .before .before .before .before .before .before .before in let z = rw (toZ-ofZ (S .fits .first), toZ-ofZ (S .fits .last)) at (sym (c .before .before .before .before .before .new2 .ensures) ∙ c .before .before .before .fr .given .1) in
+    let S = c .before .before .before .before .before .before .before .before in
+    let z = rw (toZ-ofZ (S .fits .first), toZ-ofZ (S .fits .last)) at (sym (c .before .before .before .before .before .new2 .ensures) ∙ c .before .before .before .fr .given .1) in
     c .check-body .ensures ∙ sym (ap toldFirst (body-read _ _ _ _ _ (c .before .before .before .before .before .before .if1 .left) (framed-legal _ _ _ z) (c .before .if2 .left)))
 
 pub check-table-spec : {M : Type 1} → statement M

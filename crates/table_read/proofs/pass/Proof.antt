@@ -1,9 +1,8 @@
-use mathlib.Core.Path.{_≡_, refl, sym, ap, _∙_}
-use Prim.Native.Nat.{ℕ, _+_, _-_, _<_, _≤_}
+use Prim.Native.Nat.{_-_}
 use native.Mathlib.Omega.{arith}
 use borrow.Author.Needs.{needs}
 use lib.ListN.{length}
-use Rattle.table_read.specs.Rows.{frame-rules, Rests}
+use Rattle.table_read.specs.Rows.{frame-rules}
 use Rattle.table_read.proofs.PassLaws.{Reached, reached-same, reached-start, reached-next, reached-fault, reached-refused, reached-end}
 use Rattle.table_read.proofs.pass.Statement.{statement}
 use Rattle.table_read.proofs.pass.Tie as tie
@@ -63,20 +62,23 @@ same-length-3 c = let x = reached-same (c .before .before .before .before .befor
 returns-3 : tie.Need-returns-3 Inv-loop μ-loop
 returns-3 c =
     let x = rw (c .before .before .before .before .before .before .before .j2 .given .1) at (c .before .before .before .before .before .before .before .before .before .row-start .ensures) in
-    reached-refused (c .before .before .before .before .before .before .before .before .before .before .loop .inv) _ _ (x .5) (rw (c .before .n .given .1) at (c .before .before .before .before .read-line .ensures))
+    reached-refused (c .before .before .before .before .before .before .before .before .before .before .loop .inv) _ _ (x .5)
+    (rw (c .before .n .given .1) at (c .before .before .before .before .read-line .ensures))
 
 enum-known-next : tie.Need-enum-known-next Inv-loop μ-loop
 enum-known-next c = search needs
 
 loop-less : tie.Need-loop-less Inv-loop μ-loop
 loop-less c =
-    let x = rw (c .before .before .before .before .before .before .before .j2 .given .1) at (c .before .before .before .before .before .before .before .before .before .row-start .ensures) in let y = rw (c .before .next .given .1) at (c .before .before .before .before .read-line .ensures) in
+    let x = rw (c .before .before .before .before .before .before .before .j2 .given .1) at (c .before .before .before .before .before .before .before .before .before .row-start .ensures) in
+    let y = rw (c .before .next .given .1) at (c .before .before .before .before .read-line .ensures) in
     let h = y .1 .high in omega (arith, x .0, y .0)
 
 loop-again : tie.Need-loop-again Inv-loop μ-loop
 loop-again c =
     let x = rw (c .before .before .before .before .before .before .before .j2 .given .1) at (c .before .before .before .before .before .before .before .before .before .row-start .ensures) in
-    reached-next (c .before .before .before .before .before .before .before .before .before .before .loop .inv) _ (x .5) (rw (c .before .next .given .1) at (c .before .before .before .before .read-line .ensures))
+    reached-next (c .before .before .before .before .before .before .before .before .before .before .loop .inv) _ (x .5)
+    (rw (c .before .next .given .1) at (c .before .before .before .before .read-line .ensures))
 
 pub pass-spec : {M : Type 1} → statement M
 pass-spec =

@@ -1,15 +1,9 @@
-use mathlib.Core.Path.{_≡_, refl, sym, ap, _∙_, subst}
-use Prim.Native.Nat.{ℕ, _<_, _≤_}
-use native.Mathlib.Omega.{arith}
+use mathlib.Core.Path.{sym, _∙_}
 use lib.ListN.{length}
-use borrow.Author.Needs.{needs, sfits-of}
-use mir.Syntax.{w32, w64}
+use borrow.Author.Needs.{needs}
 use mir.Facts.{toZ-ofZ}
-use Rattle.alphabet_spec.specs.Entries.{table}
-use Rattle.table_spec.specs.Reading.{read, readTable, refuse}
-use Rattle.frame.specs.FrameLaws.{Framing, framed-outside, framed-legal}
-use Rattle.table_read.specs.Answers.{toldFirst}
-use Rattle.table_read.proofs.AnswerLaws.{check-refused, check-first, stored-all, body-long, frame-outside, no-room, body-read, read-refused, first-accepts, read-accepted}
+use Rattle.table_spec.specs.Reading.{readTable}
+use Rattle.table_read.proofs.AnswerLaws.{read-refused, first-accepts, read-accepted}
 use Rattle.table_read.proofs.read_table.Statement.{statement}
 use Rattle.table_read.proofs.read_table.Tie as tie
 use Rattle.table_read.proofs.read_table.Reads as reads
@@ -28,20 +22,24 @@ enum-told c = search needs
 
 store-table-requires : tie.Need-store-table-requires
 store-table-requires c κs =
-    let S = c .before .before .before .before .before in let a = S .args in let z = rw (toZ-ofZ (S .fits .first), toZ-ofZ (S .fits .last)) at (sym (c .before .enum-told .given .1) ∙ c .before .before .before .check-table .ensures) in
+    let S = c .before .before .before .before .before in let a = S .args in
+    let z = rw (toZ-ofZ (S .fits .first), toZ-ofZ (S .fits .last)) at (sym (c .before .enum-told .given .1) ∙ c .before .before .before .check-table .ensures) in
     rw (toZ-ofZ (S .fits .first), toZ-ofZ (S .fits .last)) (first-accepts (readTable (a .first) (a .last) (a .points) (a .body .now) (length (a .out .now))) z)
 
 returns : tie.Need-returns
 returns c =
-    let S = c .before .before .before .before .before in let z = rw (toZ-ofZ (S .fits .first), toZ-ofZ (S .fits .last)) at (sym (c .before .r .given .1) ∙ c .before .before .before .check-table .ensures) in read-refused z
+    let S = c .before .before .before .before .before in
+    let z = rw (toZ-ofZ (S .fits .first), toZ-ofZ (S .fits .last)) at (sym (c .before .r .given .1) ∙ c .before .before .before .check-table .ensures) in read-refused z
 
 same-length : tie.Need-same-length
 same-length c = search needs
 
 returns-2 : tie.Need-returns-2
 returns-2 c =
-    let S = c .before .before .before .before .before .before .before in let a = S .args in let z = rw (toZ-ofZ (S .fits .first), toZ-ofZ (S .fits .last)) at (sym (c .before .before .before .enum-told .given .1) ∙ c .before .before .before .before .before .check-table .ensures) in
-    read-accepted (first-accepts (readTable (a .first) (a .last) (a .points) (a .body .now) (length (a .out .now))) z) (rw (toZ-ofZ (S .fits .first), toZ-ofZ (S .fits .last)) at (c .before .store-table .ensures))
+    let S = c .before .before .before .before .before .before .before in let a = S .args in
+    let z = rw (toZ-ofZ (S .fits .first), toZ-ofZ (S .fits .last)) at (sym (c .before .before .before .enum-told .given .1) ∙ c .before .before .before .before .before .check-table .ensures) in
+    read-accepted (first-accepts (readTable (a .first) (a .last) (a .points) (a .body .now) (length (a .out .now))) z)
+    (rw (toZ-ofZ (S .fits .first), toZ-ofZ (S .fits .last)) at (c .before .store-table .ensures))
 
 pub read-table-spec : {M : Type 1} → statement M
 read-table-spec =

@@ -1,15 +1,7 @@
-use mathlib.Core.Path.{_≡_, refl, sym, ap, _∙_, subst}
-use Prim.Native.Nat.{ℕ, _<_, _≤_}
-use native.Mathlib.Omega.{arith}
-use lib.ListN.{length}
-use borrow.Author.Needs.{needs, sfits-of}
-use mir.Syntax.{w32, w64}
-use mir.Facts.{toZ-ofZ}
+use mathlib.Core.Path.{refl}
+use borrow.Author.Needs.{needs}
 use Rattle.alphabet_spec.specs.Entries.{table}
-use Rattle.table_spec.specs.Reading.{read, readTable, refuse}
-use Rattle.frame.specs.FrameLaws.{Framing, framed-outside, framed-legal}
-use Rattle.table_read.specs.Answers.{toldFirst}
-use Rattle.table_read.proofs.AnswerLaws.{check-refused, check-first, stored-all, body-long, frame-outside, no-room, body-read, read-refused, first-accepts, read-accepted}
+use Rattle.table_read.proofs.AnswerLaws.{stored-all}
 use Rattle.table_read.proofs.store_body.Statement.{statement}
 use Rattle.table_read.proofs.store_body.Tie as tie
 use Rattle.table_read.proofs.store_body.Reads as reads

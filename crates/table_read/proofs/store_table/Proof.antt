@@ -1,15 +1,7 @@
-use mathlib.Core.Path.{_≡_, refl, sym, ap, _∙_, subst}
-use Prim.Native.Nat.{ℕ, _<_, _≤_}
-use native.Mathlib.Omega.{arith}
-use lib.ListN.{length}
-use borrow.Author.Needs.{needs, sfits-of}
-use mir.Syntax.{w32, w64}
+use mathlib.Core.Path.{sym, _∙_}
+use borrow.Author.Needs.{needs}
 use mir.Facts.{toZ-ofZ}
-use Rattle.alphabet_spec.specs.Entries.{table}
-use Rattle.table_spec.specs.Reading.{read, readTable, refuse}
-use Rattle.frame.specs.FrameLaws.{Framing, framed-outside, framed-legal}
-use Rattle.table_read.specs.Answers.{toldFirst}
-use Rattle.table_read.proofs.AnswerLaws.{check-refused, check-first, stored-all, body-long, frame-outside, no-room, body-read, read-refused, first-accepts, read-accepted}
+use Rattle.frame.specs.FrameLaws.{framed-outside, framed-legal}
 use Rattle.table_read.proofs.AnswerLaws.{accepts-not-outside, accepts-body}
 use Rattle.table_read.proofs.store_table.Statement.{statement}
 use Rattle.table_read.proofs.store_table.Tie as tie
@@ -29,7 +21,8 @@ enum-known-fr c = search needs
 
 store-body-requires : tie.Need-store-body-requires
 store-body-requires c κs =
-    let S = c .before .before .before .before .before .before in let z = rw (toZ-ofZ (S .fits .first), toZ-ofZ (S .fits .last)) at (sym (c .before .before .before .before .new .ensures) ∙ c .before .before .fr .given .1) in
+    let S = c .before .before .before .before .before .before in
+    let z = rw (toZ-ofZ (S .fits .first), toZ-ofZ (S .fits .last)) at (sym (c .before .before .before .before .new .ensures) ∙ c .before .before .fr .given .1) in
     let g = framed-legal _ _ _ z in (g .sound, accepts-body _ _ _ _ _ g (S .pre) .1)
 
 returns : tie.Need-returns
@@ -42,7 +35,8 @@ same-length c = search needs
 
 returns-2 : tie.Need-returns-2
 returns-2 c =
-    let S = c .before .before .before .before .before .before .before .before in let z = rw (toZ-ofZ (S .fits .first), toZ-ofZ (S .fits .last)) at (sym (c .before .before .before .before .before .before .new .ensures) ∙ c .before .before .before .before .fr .given .1) in
+    let S = c .before .before .before .before .before .before .before .before in
+    let z = rw (toZ-ofZ (S .fits .first), toZ-ofZ (S .fits .last)) at (sym (c .before .before .before .before .before .before .new .ensures) ∙ c .before .before .before .before .fr .given .1) in
     rw (accepts-body _ _ _ _ _ (framed-legal _ _ _ z) (S .pre) .0) (c .before .store-body .ensures)
 
 pub store-table-spec : {M : Type 1} → statement M

@@ -1,15 +1,10 @@
-use mathlib.Core.Path.{_≡_, refl, sym, ap, _∙_, subst}
-use mathlib.Core.Logic.{_⊎_, inl, inr, ⊎-elim}
-use mathlib.Core.List.{[], _∷_}
-use Prim.Native.Nat.{ℕ, _+_, _-_, _*_, _/_, _%_, _<_, _≤_}
+use mathlib.Core.Path.{_≡_, refl}
+use Prim.Native.Nat.{_-_, _<_, _≤_}
 use native.Mathlib.Omega.{arith}
-use lib.Dec.{leb, eqb}
-use lib.ListN.{length, length-set}
+use lib.Dec.{leb}
+use lib.ListN.{length}
 use borrow.Author.Needs.{needs}
-use Rattle.table_spec.specs.Values.{Own, Gap, By, Dup, own, by, times, copies, moved}
-use Rattle.table_values.specs.Numbers.{Token, below, valueAt}
-use Rattle.table_values.specs.States.{Sits, Went, Stepped, going, own as codes-own, gap as codes-gap, dif, dup-not, dup-dif}
-use Rattle.table_values.proofs.Turns.{value-not, value-full, value-adds, line-token, fault-token, gone-same, blank-moves}
+use Rattle.table_values.specs.States.{Went}
 use Rattle.table_values.proofs.NumberLaws.{below-ten, dif-at}
 use Rattle.table_values.proofs.Moves.{shift-some}
 use Rattle.table_values.proofs.Walks.{went-none, went-on}
@@ -22,7 +17,8 @@ use Rattle.table_values.proofs.put.Reads as put-reads
 use Rattle.table_values.proofs.shifted.Reads as shifted-reads
 
 abbrev Inv-loop : tie.InvT-loop
-Inv-loop t s points out₀ c at₀ e₀ k₀ q₀ step₀ form₀ out at e k q step form = Went points s c (record { at = at; e = e; k = k; q = q; want = c .want; step = step; form = form }) out₀ out × (0 < q) × (length out ≡ length out₀)
+Inv-loop t s points out₀ c at₀ e₀ k₀ q₀ step₀ form₀ out at e k q step form =
+    Went points s c (record { at = at; e = e; k = k; q = q; want = c .want; step = step; form = form }) out₀ out × (0 < q) × (length out ≡ length out₀)
 
 abbrev μ-loop : tie.MeasureT-loop
 μ-loop t s points out₀ c at₀ e₀ k₀ q₀ step₀ form₀ out at e k q step form = points - k
@@ -44,11 +40,13 @@ enum-known-v c = search needs
 
 shifted-requires : tie.Need-shifted-requires Inv-loop μ-loop
 shifted-requires c κs =
-    let l = c .before .before .before .before .before .before .loop .inv .0 .sits in let x = rw (c .before .v .given .1) at (c .before .before .before .packed .ensures) in let b = below-ten (c .before .before .before .before .before .before .loop .e) in
+    let l = c .before .before .before .before .before .before .loop .inv .0 .sits in let x = rw (c .before .v .given .1) at (c .before .before .before .packed .ensures) in
+    let b = below-ten (c .before .before .before .before .before .before .loop .e) in
     (l .small, let y = x .0 in omega arith)
 
 put-requires : tie.Need-put-requires Inv-loop μ-loop
-put-requires c κs = let l = c .before .before .before .before .before .before .before .before .before .loop in shift-some (leb 48 (l .e)) _ (l .q) _ (c .before .before .shifted .ensures) (c .before .if3 .left) .high
+put-requires c κs =
+    let l = c .before .before .before .before .before .before .before .before .before .loop in shift-some (leb 48 (l .e)) _ (l .q) _ (c .before .before .shifted .ensures) (c .before .if3 .left) .high
 
 add-k : tie.Need-add-k Inv-loop μ-loop
 add-k c = search needs
@@ -58,10 +56,13 @@ loop-less c = search needs
 
 loop-again : tie.Need-loop-again Inv-loop μ-loop
 loop-again c =
-    let l = c .before .before .before .before .before .before .before .before .before .before .before .loop in let x = rw (c .before .before .before .before .before .before .v .given .1) at (c .before .before .before .before .before .before .before .before .packed .ensures) in let b = below-ten (l .e) in
+    let l = c .before .before .before .before .before .before .before .before .before .before .before .loop in
+    let x = rw (c .before .before .before .before .before .before .v .given .1) at (c .before .before .before .before .before .before .before .before .packed .ensures) in let b = below-ten (l .e) in
     let d = c .before .before .before .before .before .before .before .before .before .before .loop-test .taken in let lo : 32 ≤ l .e = omega arith in let hi : l .e < 64 = omega arith in
     let u = shift-some (leb 48 (l .e)) _ (l .q) _ (c .before .before .before .before .shifted .ensures) (c .before .before .before .if3 .left) in (
-      went-on _ _ _ (l .inv .0) (l .inv .1) lo hi (let y = x .0 in omega arith) (rw (dif-at (l .e) _ lo hi) at (x .1)) (c .before .before .before .before .before .before .before .before .before .if2 .left) (c .before .before .before .before .shifted .ensures) (c .before .before .before .if3 .left) (c .before .put .ensures),
+      went-on _ _ _ (l .inv .0) (l .inv .1) lo hi (let y = x .0 in omega arith) (rw (dif-at (l .e) _ lo hi) at (x .1))
+          (c .before .before .before .before .before .before .before .before .before .if2 .left) (c .before .before .before .before .shifted .ensures) (c .before .before .before .if3 .left)
+          (c .before .put .ensures),
       u .low,
       search needs,
     )

@@ -1,14 +1,9 @@
-use mathlib.Core.Path.{_≡_, refl, sym, ap, _∙_, subst}
-use mathlib.Core.Logic.{_⊎_, inl, inr, ⊎-elim}
-use mathlib.Core.List.{[], _∷_}
-use Prim.Native.Nat.{ℕ, _+_, _-_, _*_, _/_, _%_, _<_, _≤_}
+use mathlib.Core.Path.{_≡_, refl, subst}
+use Prim.Native.Nat.{ℕ, _+_, _-_}
 use native.Mathlib.Omega.{arith}
-use lib.Dec.{leb, eqb}
-use lib.ListN.{length, length-set}
-use Rattle.table_spec.specs.Values.{Own, Gap, By, Dup, own, by, times, copies, moved}
-use Rattle.table_values.specs.Numbers.{Token, below, valueAt}
-use Rattle.table_values.specs.States.{Sits, Went, Stepped, going, own as codes-own, gap as codes-gap, dif, dup-not, dup-dif}
-use Rattle.table_values.proofs.Turns.{value-not, value-full, value-adds, line-token, fault-token, gone-same, blank-moves}
+use Rattle.table_spec.specs.Values.{times}
+use Rattle.table_values.specs.Numbers.{Token}
+use Rattle.table_values.proofs.Turns.{value-not}
 use Rattle.table_values.proofs.Meanings.{dup-nowhere, dup-few}
 use borrow.Author.Needs.{needs}
 use Rattle.table_values.proofs.dup_value.Statement.{statement}
@@ -19,18 +14,19 @@ use Rattle.table_values.proofs.same_again.Reads as same-again-reads
 use Rattle.table_values.proofs.steps_again.Reads as steps-again-reads
 
 returns : tie.Need-returns
-returns c = let p = c .before .before .pre in λ passing y w h. value-not _ passing _ (p .3) _ y w 8 (dup-nowhere _ h (c .if1 .taken))
+returns c = let p = c .before .before .pre in (refl, λ y w h. value-not _ _ (p .3) _ y w 8 (dup-nowhere _ h (c .if1 .taken)))
 
 returns-2 : tie.Need-returns-2
-returns-2 c = let p = c .before .before .before .pre in λ passing y w h. value-not _ passing _ (p .3) _ y w 8 (dup-few _ h (c .if2 .taken))
+returns-2 c = let p = c .before .before .before .pre in (refl, λ y w h. value-not _ _ (p .3) _ y w 8 (dup-few _ h (c .if2 .taken)))
 
 sub-n : tie.Need-sub-n
 sub-n c = search needs
 
 same-again-requires : tie.Need-same-again-requires
 same-again-requires c κs =
-    let p = c .before .before .before .before .before .pre in let a = c .before .before .before .before .before .args in let l = c .before .before .if2 .left in let e : a .v ≡ a .v - 1 + 1 = omega arith in
-    (p .0, p .1, c .before .before .before .if1 .left, c .before .if3 .taken, omega arith, omega arith, rw (← e) (p .3))
+    let p = c .before .before .before .before .before .pre in let a = c .before .before .before .before .before .args in let l = c .before .before .if2 .left in
+    let e : a .v ≡ a .v - 1 + 1 = omega arith in
+    (p .0, p .1, c .before .before .before .if1 .left, c .before .if3 .taken, omega arith, omega arith, subst (λ (n : ℕ). Token (a .s .now) (a .c .at) (times n) (a .j) (a .f)) e (p .3))
 
 same-length : tie.Need-same-length
 same-length c = search needs
@@ -40,8 +36,9 @@ returns-3 c = search needs
 
 steps-again-requires : tie.Need-steps-again-requires
 steps-again-requires c κs =
-    let p = c .before .before .before .before .before .pre in let a = c .before .before .before .before .before .args in let l = c .before .before .if2 .left in let e : a .v ≡ a .v - 1 + 1 = omega arith in
-    (p .0, p .1, c .before .if3 .left, omega arith, omega arith, rw (← e) (p .3))
+    let p = c .before .before .before .before .before .pre in let a = c .before .before .before .before .before .args in let l = c .before .before .if2 .left in
+    let e : a .v ≡ a .v - 1 + 1 = omega arith in
+    (p .0, p .1, c .before .if3 .left, omega arith, omega arith, subst (λ (n : ℕ). Token (a .s .now) (a .c .at) (times n) (a .j) (a .f)) e (p .3))
 
 same-length-2 : tie.Need-same-length-2
 same-length-2 c = search needs

@@ -1,14 +1,10 @@
-use mathlib.Core.Path.{_≡_, refl, sym, ap, _∙_, subst}
-use mathlib.Core.Logic.{_⊎_, inl, inr, ⊎-elim}
+use mathlib.Core.Path.{refl, sym, _∙_}
 use mathlib.Core.List.{[], _∷_}
-use Prim.Native.Nat.{ℕ, _+_, _-_, _*_, _/_, _%_, _<_, _≤_}
+use Prim.Native.Nat.{_-_}
 use native.Mathlib.Omega.{arith}
-use lib.Dec.{leb, eqb}
-use lib.ListN.{length, length-set}
-use Rattle.table_spec.specs.Values.{Own, Gap, By, Dup, own, by, times, copies, moved}
-use Rattle.table_values.specs.Numbers.{Token, below, valueAt}
-use Rattle.table_values.specs.States.{Sits, Went, Stepped, going, own as codes-own, gap as codes-gap, dif, dup-not, dup-dif}
-use Rattle.table_values.proofs.Turns.{value-not, value-full, value-adds, line-token, fault-token, gone-same, blank-moves}
+use Rattle.table_spec.specs.Values.{Gap}
+use Rattle.table_values.specs.States.{going, gap as codes-gap}
+use Rattle.table_values.proofs.Turns.{value-not, value-full, value-adds, value-stepped}
 use Rattle.table_values.proofs.NumberLaws.{gap-token}
 use Rattle.table_values.proofs.Meanings.{gap-asked, gap-free}
 use borrow.Author.Needs.{needs}
@@ -25,12 +21,12 @@ add-next c = search needs
 returns : tie.Need-returns
 returns c =
     let p = c .before .before .pre in let t = gap-token _ _ (sym (p .1 .stands) ∙ p .2) in
-    λ passing y w h. value-not _ passing _ t _ y w 10 (gap-asked h (c .if1 .taken))
+    (refl, λ y w h. value-not _ _ t _ y w 10 (gap-asked h (c .if1 .taken)))
 
 returns-2 : tie.Need-returns-2
 returns-2 c =
     let p = c .before .before .before .pre in let t = gap-token _ _ (sym (p .1 .stands) ∙ p .2) in let l = c .if2 .taken in
-    λ passing y w h. value-full _ passing _ t _ y w (0 ∷ []) Gap (gap-free h (c .before .if1 .left)) (omega arith)
+    (refl, λ y w h. value-full _ _ t _ y w (0 ∷ []) Gap (gap-free h (c .before .if1 .left)) (omega arith))
 
 put-requires : tie.Need-put-requires
 put-requires c κs = search needs
@@ -46,11 +42,10 @@ same-length c = search needs
 
 returns-3 : tie.Need-returns-3
 returns-3 c =
-    let p = c .before .before .before .before .before .before .before .pre in let t = gap-token _ _ (sym (p .1 .stands) ∙ p .2) in let l = c .before .before .before .before .if2 .left in (
-      t .low,
-      record { some = omega arith; high = t .high; stands = c .entry-at .ensures; small = omega arith; size = omega arith; few = omega arith },
-      λ passing y w h. value-adds _ passing _ t _ y w (0 ∷ []) Gap _ _ _ (gap-free h (c .before .before .before .before .before .if1 .left)) (omega arith) refl refl (going codes-gap) (c .before .before .put .ensures),
-    )
+    let p = c .before .before .before .before .before .before .before .pre in let t = gap-token _ _ (sym (p .1 .stands) ∙ p .2) in let l = c .before .before .before .before .if2 .left in
+    value-stepped t refl (record { some = omega arith; high = t .high; stands = c .entry-at .ensures; small = omega arith; size = omega arith; few = omega arith })
+    (λ y w h. value-adds _ _ t _ y w (0 ∷ []) Gap _ _ _ (gap-free h (c .before .before .before .before .before .if1 .left)) (omega arith) refl refl (going codes-gap)
+    (c .before .before .put .ensures))
 
 pub missing-spec : {M : Type 1} → statement M
 missing-spec =

@@ -1,5 +1,4 @@
-use mathlib.Core.Path.{_≡_, refl, sym, ap, _∙_}
-use Prim.Native.Nat.{ℕ, _*_, _≤_, _<_, _+_}
+use mathlib.Core.Path.{refl}
 use native.Mathlib.Omega.{arith}
 use Rattle.table_values.proofs.Moves.{reach-down, reach-up}
 use Rattle.table_values.proofs.moved_by.Statement.{statement}

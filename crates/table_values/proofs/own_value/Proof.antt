@@ -1,14 +1,10 @@
-use mathlib.Core.Path.{_≡_, refl, sym, ap, _∙_, subst}
-use mathlib.Core.Logic.{_⊎_, inl, inr, ⊎-elim}
-use mathlib.Core.List.{[], _∷_}
-use Prim.Native.Nat.{ℕ, _+_, _-_, _*_, _/_, _%_, _<_, _≤_}
+use mathlib.Core.Path.{refl, sym, _∙_}
+use mathlib.Core.List.{[]}
+use Prim.Native.Nat.{_-_}
 use native.Mathlib.Omega.{arith}
-use lib.Dec.{leb, eqb}
-use lib.ListN.{length, length-set}
-use Rattle.table_spec.specs.Values.{Own, Gap, By, Dup, own, by, times, copies, moved}
-use Rattle.table_values.specs.Numbers.{Token, below, valueAt}
-use Rattle.table_values.specs.States.{Sits, Went, Stepped, going, own as codes-own, gap as codes-gap, dif, dup-not, dup-dif}
-use Rattle.table_values.proofs.Turns.{value-not, value-full, value-adds, line-token, fault-token, gone-same, blank-moves}
+use Rattle.table_spec.specs.Values.{Own}
+use Rattle.table_values.specs.States.{going, own as codes-own}
+use Rattle.table_values.proofs.Turns.{value-not, value-full, value-adds, value-stepped}
 use Rattle.table_values.proofs.Moves.{own-reach, own-small}
 use Rattle.table_values.proofs.Meanings.{own-large, own-free, own-unequal, own-equal}
 use Rattle.table_values.proofs.Walks.{sits-next}
@@ -21,7 +17,7 @@ use Rattle.table_values.proofs.moved_by.Reads as moved-by-reads
 use Rattle.table_values.proofs.put.Reads as put-reads
 
 returns : tie.Need-returns
-returns c = let p = c .before .before .pre in λ passing y w h. value-not _ passing _ (p .1) _ y w 9 (own-large _ _ h (c .if1 .taken))
+returns c = let p = c .before .before .pre in (refl, λ y w h. value-not _ _ (p .1) _ y w 9 (own-large _ _ h (c .if1 .taken)))
 
 moved-by-requires : tie.Need-moved-by-requires
 moved-by-requires c κs = let a = c .before .before .args in own-reach (a .minus) (a .v) (c .if1 .left)
@@ -29,24 +25,24 @@ moved-by-requires c κs = let a = c .before .before .args in own-reach (a .minus
 returns-2 : tie.Need-returns-2
 returns-2 c =
     let p = c .before .before .before .before .before .pre in
-    λ passing y w h. value-not _ passing _ (p .1) _ y w 10 (own-unequal _ _ h (c .before .before .before .if1 .left) (c .before .if2 .taken) (λ e. c .if3 .taken (c .before .before .moved-by .ensures ∙ e)))
+    (refl, λ y w h. value-not _ _ (p .1) _ y w 10 (own-unequal _ _ h (c .before .before .before .if1 .left) (c .before .if2 .taken) (λ e. c .if3 .taken (c .before .before .moved-by .ensures ∙ e))))
 
 returns-3 : tie.Need-returns-3
 returns-3 c =
-    let p = c .before .before .before .before .before .pre in let a = c .before .before .before .before .before .args in let l = c .before .before .before .if1 .left in let u = c .before .before .moved-by .ensures in (
-      p .1 .low,
-      sits-next (p .1) _ _ 0 0 2 (rw u (own-small (a .minus) (a .v) l)) (omega arith) (p .0 .few),
-      λ passing y w h. let z = own-equal (a .minus) (a .v) h l (c .before .if2 .taken) (sym u ∙ c .if3 .left) in
-          value-adds _ passing _ (p .1) _ y w [] Own _ _ _ (z .0) (let few = p .0 .few in omega arith) refl (omega arith) (rw (c .if3 .left ∙ z .1) (going codes-own)) refl,
-    )
+    let p = c .before .before .before .before .before .pre in let a = c .before .before .before .before .before .args in let l = c .before .before .before .if1 .left in
+    let u = c .before .before .moved-by .ensures in
+    value-stepped (p .1) refl (sits-next (p .1) _ _ 0 0 2 (rw u (own-small (a .minus) (a .v) l)) (omega arith) (p .0 .few))
+    (λ y w h. let z = own-equal (a .minus) (a .v) h l (c .before .if2 .taken) (sym u ∙ c .if3 .left) in
+    value-adds _ _ (p .1) _ y w [] Own _ _ _ (z .0) (let few = p .0 .few in omega arith) refl (omega arith) (rw (c .if3 .left ∙ z .1) (going codes-own)) refl)
 
 returns-4 : tie.Need-returns-4
 returns-4 c =
     let p = c .before .before .before .before .before .pre in let a = c .before .before .before .before .before .args in let l = c .if4 .taken in
-    λ passing y w h. value-full _ passing _ (p .1) _ y w _ Own (own-free (a .minus) (a .v) h (c .before .before .before .if1 .left) (c .before .if2 .left)) (omega arith)
+    (refl, λ y w h. value-full _ _ (p .1) _ y w _ Own (own-free (a .minus) (a .v) h (c .before .before .before .if1 .left) (c .before .if2 .left)) (omega arith))
 
 put-requires : tie.Need-put-requires
-put-requires c κs = let a = c .before .before .before .before .before .before .args in rw (c .before .before .before .moved-by .ensures) (own-small (a .minus) (a .v) (c .before .before .before .before .if1 .left))
+put-requires c κs =
+    let a = c .before .before .before .before .before .before .args in rw (c .before .before .before .moved-by .ensures) (own-small (a .minus) (a .v) (c .before .before .before .before .if1 .left))
 
 add-t18 : tie.Need-add-t18
 add-t18 c = search needs
@@ -56,11 +52,11 @@ same-length c = search needs
 
 returns-5 : tie.Need-returns-5
 returns-5 c =
-    let p = c .before .before .before .before .before .before .before .before .pre in let a = c .before .before .before .before .before .before .before .before .args in let l = c .before .before .before .before .before .before .if1 .left in let u = c .before .before .before .before .before .moved-by .ensures in let k = c .before .before .before .if4 .left in (
-      p .1 .low,
-      sits-next (p .1) _ _ 0 0 2 (rw u (own-small (a .minus) (a .v) l)) (omega arith) (omega arith),
-      λ passing y w h. value-adds _ passing _ (p .1) _ y w _ Own _ _ _ (own-free (a .minus) (a .v) h l (c .before .before .before .before .if2 .left)) (omega arith) refl refl (rw u (going codes-own)) (rw u at (c .before .put .ensures)),
-    )
+    let p = c .before .before .before .before .before .before .before .before .pre in let a = c .before .before .before .before .before .before .before .before .args in
+    let l = c .before .before .before .before .before .before .if1 .left in let u = c .before .before .before .before .before .moved-by .ensures in let k = c .before .before .before .if4 .left in
+    value-stepped (p .1) refl (sits-next (p .1) _ _ 0 0 2 (rw u (own-small (a .minus) (a .v) l)) (omega arith) (omega arith))
+    (λ y w h. value-adds _ _ (p .1) _ y w _ Own _ _ _ (own-free (a .minus) (a .v) h l (c .before .before .before .before .if2 .left)) (omega arith) refl refl (rw u (going codes-own))
+    (rw u at (c .before .put .ensures)))
 
 pub own-value-spec : {M : Type 1} → statement M
 own-value-spec =

@@ -1,5 +1,5 @@
 use native.Mathlib.Omega.{arith}
-use Rattle.table_values.proofs.NumberLaws.{lead-in, lead-digit, lead-fits, below-ten, packed-long, packed-token}
+use Rattle.table_values.proofs.NumberLaws.{lead-in, lead-fits, below-ten, packed-long, packed-token}
 use borrow.Author.Needs.{needs}
 use Rattle.table_values.proofs.packed.Statement.{statement}
 use Rattle.table_values.proofs.packed.Tie as tie
@@ -20,10 +20,12 @@ digits-requires c κs =
     (p .0, omega arith, omega (arith, below-ten (c .before .before .args .e)))
 
 returns : tie.Need-returns
-returns c = let p = c .before .before .before .before .before .pre in packed-long _ _ _ (p .1) (p .2) (p .3) (c .before .before .before .further .ensures) (c .before .before .digits .ensures) (c .if1 .taken)
+returns c =
+    let p = c .before .before .before .before .before .pre in packed-long _ _ _ (p .1) (p .2) (p .3) (c .before .before .before .further .ensures) (c .before .before .digits .ensures) (c .if1 .taken)
 
 returns-2 : tie.Need-returns-2
-returns-2 c = let p = c .before .before .before .before .before .pre in packed-token _ _ _ (p .1) (p .2) (p .3) (c .before .before .before .further .ensures) (c .before .before .digits .ensures) (c .if1 .left)
+returns-2 c =
+    let p = c .before .before .before .before .before .pre in packed-token _ _ _ (p .1) (p .2) (p .3) (c .before .before .before .further .ensures) (c .before .before .digits .ensures) (c .if1 .left)
 
 pub packed-spec : {M : Type 1} → statement M
 packed-spec = tie.close (tie.spec add-next further-requires digits-requires returns returns-2)

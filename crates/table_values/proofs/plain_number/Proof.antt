@@ -1,4 +1,4 @@
-use mathlib.Core.Path.{_≡_, refl, sym, ap, _∙_}
+use mathlib.Core.Path.{sym, _∙_}
 use native.Mathlib.Omega.{arith}
 use Rattle.table_values.proofs.NumberLaws.{digit-here, digit-late, plain-long, plain-token}
 use borrow.Author.Needs.{needs}
@@ -25,10 +25,14 @@ digits-requires : tie.Need-digits-requires
 digits-requires c κs = let p = c .before .before .before .pre in let z = digit-here _ _ _ (p .1) (p .2) in (p .0, omega (arith, z .0), omega (arith, z .1))
 
 returns-2 : tie.Need-returns-2
-returns-2 c = let p = c .before .before .before .before .before .before .pre in plain-long _ _ _ (p .1) (p .2) (p .3) (sym (c .before .before .before .before .entry-at .ensures) ∙ c .before .before .before .if1 .left) (c .before .before .digits .ensures) (c .if2 .taken)
+returns-2 c =
+    let p = c .before .before .before .before .before .before .pre in
+    plain-long _ _ _ (p .1) (p .2) (p .3) (sym (c .before .before .before .before .entry-at .ensures) ∙ c .before .before .before .if1 .left) (c .before .before .digits .ensures) (c .if2 .taken)
 
 returns-3 : tie.Need-returns-3
-returns-3 c = let p = c .before .before .before .before .before .before .pre in plain-token _ _ _ (p .1) (p .2) (p .3) (sym (c .before .before .before .before .entry-at .ensures) ∙ c .before .before .before .if1 .left) (c .before .before .digits .ensures) (c .if2 .left)
+returns-3 c =
+    let p = c .before .before .before .before .before .before .pre in
+    plain-token _ _ _ (p .1) (p .2) (p .3) (sym (c .before .before .before .before .entry-at .ensures) ∙ c .before .before .before .if1 .left) (c .before .before .digits .ensures) (c .if2 .left)
 
 pub plain-number-spec : {M : Type 1} → statement M
 plain-number-spec =

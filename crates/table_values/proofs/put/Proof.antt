@@ -1,4 +1,4 @@
-use mathlib.Core.Path.{_≡_, refl, sym, ap, _∙_}
+use mathlib.Core.Path.{refl, sym}
 use borrow.Author.Needs.{needs, sfits-of}
 use mir.Syntax.{w32}
 use mir.Facts.{toZ-ofZ}

@@ -1,15 +1,10 @@
 use mathlib.Core.Bool.{false}
-use mathlib.Core.Path.{_≡_, refl, sym, ap, _∙_, subst}
-use mathlib.Core.Logic.{_⊎_, inl, inr, ⊎-elim}
-use mathlib.Core.List.{[], _∷_}
-use Prim.Native.Nat.{ℕ, _+_, _-_, _*_, _/_, _%_, _<_, _≤_}
+use mathlib.Core.Path.{refl}
+use Prim.Native.Nat.{_-_}
 use native.Mathlib.Omega.{arith}
-use lib.Dec.{leb, eqb}
-use lib.ListN.{length, length-set}
-use Rattle.table_spec.specs.Values.{Own, Gap, By, Dup, own, by, times, copies, moved}
-use Rattle.table_values.specs.Numbers.{Token, below, valueAt}
-use Rattle.table_values.specs.States.{Sits, Went, Stepped, going, own as codes-own, gap as codes-gap, dif, dup-not, dup-dif}
-use Rattle.table_values.proofs.Turns.{value-not, value-full, value-adds, line-token, fault-token, gone-same, blank-moves}
+use Rattle.table_spec.specs.Values.{By}
+use Rattle.table_values.specs.States.{going, dup-not}
+use Rattle.table_values.proofs.Turns.{value-full, value-adds, value-stepped}
 use Rattle.table_values.proofs.Moves.{copies-length, same-last}
 use Rattle.table_values.proofs.Meanings.{dup-same}
 use Rattle.table_values.proofs.Walks.{sits-next}
@@ -26,7 +21,7 @@ add-end c = search needs
 returns : tie.Need-returns
 returns c =
     let p = c .before .before .pre in let a = c .before .before .args in let l = c .if1 .taken in let n = copies-length (a .n) (By false 0) (a .c .q) in
-    λ passing y w h. let z = dup-same (a .n) h (p .2) (p .3) (p .4) in value-full _ passing _ (p .6) _ y w _ _ (z .0) (omega arith)
+    (refl, λ y w h. let z = dup-same (a .n) h (p .2) (p .3) (p .4) in value-full _ _ (p .6) _ y w _ _ (z .0) (omega arith))
 
 repeat-requires : tie.Need-repeat-requires
 repeat-requires c κs = search needs
@@ -36,12 +31,11 @@ same-length c = search needs
 
 returns-2 : tie.Need-returns-2
 returns-2 c =
-    let p = c .before .before .before .before .before .pre in let a = c .before .before .before .before .before .args in let l = c .before .before .before .if1 .left in let n = copies-length (a .n) (By false 0) (a .c .q) in (
-      p .6 .low,
-      sits-next (p .6) _ _ 0 0 0 (p .0 .small) (omega arith) (omega arith),
-      λ passing y w h. let z = dup-same (a .n) h (p .2) (p .3) (p .4) in
-          value-adds _ passing _ (p .6) _ y w _ _ _ _ _ (z .0) (omega arith) refl (omega arith) (rw (z .1, same-last (a .n) (a .c .q)) (going dup-not)) (c .before .repeat .ensures),
-    )
+    let p = c .before .before .before .before .before .pre in let a = c .before .before .before .before .before .args in let l = c .before .before .before .if1 .left in
+    let n = copies-length (a .n) (By false 0) (a .c .q) in
+    value-stepped (p .6) refl (sits-next (p .6) _ _ 0 0 0 (p .0 .small) (omega arith) (omega arith))
+    (λ y w h. let z = dup-same (a .n) h (p .2) (p .3) (p .4) in
+    value-adds _ _ (p .6) _ y w _ _ _ _ _ (z .0) (omega arith) refl (omega arith) (rw (z .1, same-last (a .n) (a .c .q)) (going dup-not)) (c .before .repeat .ensures))
 
 pub same-again-spec : {M : Type 1} → statement M
 same-again-spec = tie.close (tie.spec add-end returns repeat-requires same-length returns-2)

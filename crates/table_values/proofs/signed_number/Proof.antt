@@ -1,4 +1,3 @@
-use mathlib.Core.Path.{_≡_, refl, sym, ap, _∙_}
 use native.Mathlib.Omega.{arith}
 use Rattle.alphabet_spec.specs.Entries.{entry-in}
 use Rattle.table_values.proofs.NumberLaws.{sign-alone, signed-long, signed-token}
@@ -18,10 +17,14 @@ returns : tie.Need-returns
 returns c = let p = c .before .before .before .before .pre in sign-alone _ _ _ (p .1) (p .2) (p .3) (c .before .before .digits .ensures) (c .if1 .taken)
 
 returns-2 : tie.Need-returns-2
-returns-2 c = let p = c .before .before .before .before .before .before .pre in signed-long _ _ _ (p .1) (p .2) (p .3) (c .before .before .before .before .digits .ensures) (c .before .before .if1 .left) (c .if2 .taken)
+returns-2 c =
+    let p = c .before .before .before .before .before .before .pre in
+    signed-long _ _ _ (p .1) (p .2) (p .3) (c .before .before .before .before .digits .ensures) (c .before .before .if1 .left) (c .if2 .taken)
 
 returns-3 : tie.Need-returns-3
-returns-3 c = let p = c .before .before .before .before .before .before .pre in signed-token _ _ _ (p .1) (p .2) (p .3) (c .before .before .before .before .digits .ensures) (c .before .before .if1 .left) (c .if2 .left)
+returns-3 c =
+    let p = c .before .before .before .before .before .before .pre in
+    signed-token _ _ _ (p .1) (p .2) (p .3) (c .before .before .before .before .digits .ensures) (c .before .before .if1 .left) (c .if2 .left)
 
 pub signed-number-spec : {M : Type 1} → statement M
 signed-number-spec = tie.close (tie.spec add-next digits-requires returns returns-2 returns-3)

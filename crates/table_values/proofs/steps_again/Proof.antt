@@ -1,16 +1,12 @@
-use mathlib.Core.Path.{_≡_, refl, sym, ap, _∙_, subst}
-use mathlib.Core.Logic.{_⊎_, inl, inr, ⊎-elim}
-use mathlib.Core.List.{[], _∷_}
-use Prim.Native.Nat.{ℕ, _+_, _-_, _*_, _/_, _%_, _<_, _≤_}
+use mathlib.Core.Path.{refl, sym, _∙_}
+use Prim.Native.Nat.{_-_, _*_}
 use native.Mathlib.Omega.{arith}
-use lib.Dec.{leb, eqb}
-use lib.ListN.{length, length-set}
-use Rattle.table_spec.specs.Values.{Own, Gap, By, Dup, own, by, times, copies, moved}
-use Rattle.table_values.specs.Numbers.{Token, below, valueAt}
-use Rattle.table_values.specs.States.{Sits, Went, Stepped, going, own as codes-own, gap as codes-gap, dif, dup-not, dup-dif}
-use Rattle.table_values.proofs.Turns.{value-not, value-full, value-adds, line-token, fault-token, gone-same, blank-moves}
+use lib.Dec.{leb}
+use Rattle.table_spec.specs.Values.{By}
+use Rattle.table_values.specs.States.{going, dup-dif}
+use Rattle.table_values.proofs.Turns.{value-not, value-full, value-adds, value-stepped}
 use Rattle.table_values.proofs.Moves.{copies-length, steps-last, shift-some, reaches, far-small}
-use Rattle.table_values.proofs.Meanings.{Repeats, repeats, dup-out, dup-steps}
+use Rattle.table_values.proofs.Meanings.{repeats, dup-out, dup-steps}
 use Rattle.table_values.proofs.Walks.{sits-next}
 use borrow.Author.Needs.{needs}
 use Rattle.table_values.proofs.steps_again.Statement.{statement}
@@ -29,20 +25,22 @@ shifted-requires c κs = let p = c .before .pre in let a = c .before .args in (p
 returns : tie.Need-returns
 returns c =
     let p = c .before .before .before .pre in let a = c .before .before .before .args in
-    λ passing y w h. value-not _ passing _ (p .5) _ y w 9 (dup-out (a .n) (p .3) (p .0 .small) (repeats (a .n) h (p .2)) (sym (c .before .shifted .ensures) ∙ c .if1 .taken))
+    (refl, λ y w h. value-not _ _ (p .5) _ y w 9 (dup-out (a .n) (p .3) (p .0 .small) (repeats (a .n) h (p .2)) (sym (c .before .shifted .ensures) ∙ c .if1 .taken)))
 
 add-end : tie.Need-add-end
 add-end c = search needs
 
 returns-2 : tie.Need-returns-2
 returns-2 c =
-    let p = c .before .before .before .before .pre in let a = c .before .before .before .before .args in let l = c .if2 .taken in let n = copies-length (a .n) (By (leb 48 (a .c .form)) (a .c .step)) (a .c .q) in
+    let p = c .before .before .before .before .pre in let a = c .before .before .before .before .args in let l = c .if2 .taken in
+    let n = copies-length (a .n) (By (leb 48 (a .c .form)) (a .c .step)) (a .c .q) in
     let z = shift-some (leb 48 (a .c .form)) (a .c .step * a .n) (a .c .q) _ (c .before .before .shifted .ensures) (c .before .if1 .left) in
-    λ passing y w h. value-full _ passing _ (p .5) _ y w _ _ (dup-steps (a .n) (p .3) (p .0 .small) (repeats (a .n) h (p .2)) z) (omega arith)
+    (refl, λ y w h. value-full _ _ (p .5) _ y w _ _ (dup-steps (a .n) (p .3) (p .0 .small) (repeats (a .n) h (p .2)) z) (omega arith))
 
 repeat-requires : tie.Need-repeat-requires
 repeat-requires c κs =
-    let p = c .before .before .before .before .before .pre in let a = c .before .before .before .before .before .args in let l = c .before .if2 .left in let z = shift-some (leb 48 (a .c .form)) (a .c .step * a .n) (a .c .q) _ (c .before .before .before .shifted .ensures) (c .before .before .if1 .left) in
+    let p = c .before .before .before .before .before .pre in let a = c .before .before .before .before .before .args in let l = c .before .if2 .left in
+    let z = shift-some (leb 48 (a .c .form)) (a .c .step * a .n) (a .c .q) _ (c .before .before .before .shifted .ensures) (c .before .before .if1 .left) in
     (omega arith, p .0 .small, reaches (leb 48 (a .c .form)) (a .c .step) (a .n) (a .c .q) (z .inside))
 
 same-length : tie.Need-same-length
@@ -50,14 +48,13 @@ same-length c = search needs
 
 returns-3 : tie.Need-returns-3
 returns-3 c =
-    let p = c .before .before .before .before .before .before .before .pre in let a = c .before .before .before .before .before .before .before .args in let l = c .before .before .before .if2 .left in let n = copies-length (a .n) (By (leb 48 (a .c .form)) (a .c .step)) (a .c .q) in
-    let z = shift-some (leb 48 (a .c .form)) (a .c .step * a .n) (a .c .q) _ (c .before .before .before .before .before .shifted .ensures) (c .before .before .before .before .if1 .left) in (
-      p .5 .low,
-      sits-next (p .5) _ _ 0 0 1 (z .high) (omega arith) (omega arith),
-      λ passing y w h. let g = repeats (a .n) h (p .2) in
-          value-adds _ passing _ (p .5) _ y w _ _ _ _ _ (dup-steps (a .n) (p .3) (p .0 .small) g z) (omega arith) refl (omega arith)
-          (rw (g .before, steps-last (leb 48 (a .c .form)) (a .c .step) (a .n) (a .c .q), ← z .is) (going (dup-dif (z .low)))) (c .before .repeat .ensures),
-    )
+    let p = c .before .before .before .before .before .before .before .pre in let a = c .before .before .before .before .before .before .before .args in let l = c .before .before .before .if2 .left in
+    let n = copies-length (a .n) (By (leb 48 (a .c .form)) (a .c .step)) (a .c .q) in
+    let z = shift-some (leb 48 (a .c .form)) (a .c .step * a .n) (a .c .q) _ (c .before .before .before .before .before .shifted .ensures) (c .before .before .before .before .if1 .left) in
+    value-stepped (p .5) refl (sits-next (p .5) _ _ 0 0 1 (z .high) (omega arith) (omega arith))
+    (λ y w h. let g = repeats (a .n) h (p .2) in
+    value-adds _ _ (p .5) _ y w _ _ _ _ _ (dup-steps (a .n) (p .3) (p .0 .small) g z) (omega arith) refl (omega arith)
+    (rw (g .before, steps-last (leb 48 (a .c .form)) (a .c .step) (a .n) (a .c .q), ← z .is) (going (dup-dif (z .low)))) (c .before .repeat .ensures))
 
 pub steps-again-spec : {M : Type 1} → statement M
 steps-again-spec =

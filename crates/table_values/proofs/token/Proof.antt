@@ -1,17 +1,8 @@
 use Rattle.table_values.proofs.NumberLaws.{kinds}
-use mathlib.Core.Path.{_≡_, refl, sym, ap, _∙_, subst}
-use mathlib.Core.Logic.{_⊎_, inl, inr, ⊎-elim}
-use mathlib.Core.List.{[], _∷_}
-use Prim.Native.Nat.{ℕ, _+_, _-_, _*_, _/_, _%_, _<_, _≤_}
+use mathlib.Core.Path.{refl}
+use Prim.Native.Nat.{_-_}
 use native.Mathlib.Omega.{arith}
-use lib.Dec.{leb, eqb}
-use lib.ListN.{length, length-set}
-use Rattle.table_spec.specs.Values.{Own, Gap, By, Dup, own, by, times, copies, moved}
-use Rattle.table_values.specs.Numbers.{Token, below, valueAt}
-use Rattle.table_values.specs.States.{Sits, Went, Stepped, going, own as codes-own, gap as codes-gap, dif, dup-not, dup-dif}
-use Rattle.table_values.proofs.Turns.{value-not, value-full, value-adds, line-token, fault-token, gone-same, blank-moves}
-use Rattle.table_lines.specs.Ends.{Blanked, Ended}
-use Rattle.table_lines.specs.Seen.{behind}
+use Rattle.table_values.proofs.Turns.{fault-token, gone-same, blank-moves, blank-clear}
 use borrow.Author.Needs.{needs}
 use Rattle.table_values.proofs.token.Statement.{statement}
 use Rattle.table_values.proofs.token.Tie as tie
@@ -34,10 +25,10 @@ enum-told : tie.Need-enum-told
 enum-told c = search needs
 
 returns : tie.Need-returns
-returns c = let x = rw (c .before .j .given .1) at (c .before .before .before .line-end .ensures) in (x .0, x .1, refl, λ passing y w h. line-token _ passing _ _ _ y w _ x)
+returns c = let x = rw (c .before .j .given .1) at (c .before .before .before .line-end .ensures) in (x .0, x .1, refl, c .before .before .before .before .if1 .taken, x .5, x .4 _)
 
 returns-2 : tie.Need-returns-2
-returns-2 c = let x = rw (c .enum-told .given .1) at (c .before .before .line-end .ensures) in λ passing y w h. fault-token _ passing _ _ _ y w 3 (x .1 _)
+returns-2 c = let x = rw (c .enum-told .given .1) at (c .before .before .line-end .ensures) in (refl, λ y w h. fault-token _ _ _ _ y w 3 (x .1 _))
 
 blanks-requires : tie.Need-blanks-requires
 blanks-requires c κs = search needs
@@ -49,8 +40,12 @@ returns-3 : tie.Need-returns-3
 returns-3 c =
     let p = c .before .before .before .before .before .pre .2 in let b = c .before .blanks .ensures in let l = blank-moves _ _ _ _ (p .stands) (c .before .before .if2 .taken) b in (
       l,
-      record { some = omega arith; high = b .high; stands = c .entry-at .ensures; small = p .small; size = p .size; few = p .few },
-      λ passing y w h. gone-same _ passing _ _ y w _ _ h (b .within),
+      record {
+        low = b .low;
+        clear = blank-clear b;
+        sits = record { some = omega arith; high = b .high; stands = c .entry-at .ensures; small = p .small; size = p .size; few = p .few };
+        law = λ y w h. gone-same _ _ _ y w _ _ h (b .within);
+      },
     )
 
 missing-requires : tie.Need-missing-requires
@@ -75,11 +70,18 @@ enum-known-v c = search needs
 
 value-requires : tie.Need-value-requires
 value-requires c κs =
-    let p = c .before .before .before .before .before .before .before .before .before .pre in let x = rw (c .before .before .v .given .1) at (c .before .before .before .before .number .ensures) in
-    (p .2, p .1, c .before .before .before .before .before .before .before .if1 .left, kinds _ _ _ (p .2 .stands) (c .before .before .before .before .before .before .before .if1 .left) (c .before .before .before .before .before .before .if2 .left) (c .before .before .before .before .before .if3 .left), x .0, x .1)
+    let p = c .before .before .before .before .before .before .before .before .before .pre in let x = rw (c .before .before .v .given .1) at (c .before .before .before .before .number .ensures) in (
+      p .2,
+      p .1,
+      c .before .before .before .before .before .before .before .if1 .left,
+      kinds _ _ _ (p .2 .stands) (c .before .before .before .before .before .before .before .if1 .left)
+          (c .before .before .before .before .before .before .if2 .left) (c .before .before .before .before .before .if3 .left),
+      x .0,
+      x .1,
+    )
 
 returns-5 : tie.Need-returns-5
-returns-5 c = let x = rw (c .enum-told2 .given .1) at (c .before .before .number .ensures) in λ passing y w h. fault-token _ passing _ _ _ y w 5 x
+returns-5 c = let x = rw (c .enum-told2 .given .1) at (c .before .before .number .ensures) in (refl, λ y w h. fault-token _ _ _ _ y w 5 x)
 
 same-length-2 : tie.Need-same-length-2
 same-length-2 c = search needs

@@ -1,16 +1,5 @@
-use mathlib.Core.Path.{_≡_, refl, sym, ap, _∙_, subst}
-use mathlib.Core.Logic.{_⊎_, inl, inr, ⊎-elim}
-use mathlib.Core.List.{[], _∷_}
-use Prim.Native.Nat.{ℕ, _+_, _-_, _*_, _/_, _%_, _<_, _≤_}
+use Prim.Native.Nat.{_-_, _<_, _≤_}
 use native.Mathlib.Omega.{arith}
-use lib.Dec.{leb, eqb}
-use lib.ListN.{length, length-set}
-use Rattle.table_spec.specs.Values.{Own, Gap, By, Dup, own, by, times, copies, moved}
-use Rattle.table_values.specs.Numbers.{Token, below, valueAt}
-use Rattle.table_values.specs.States.{Sits, Went, Stepped, going, own as codes-own, gap as codes-gap, dif, dup-not, dup-dif}
-use Rattle.table_values.proofs.Turns.{value-not, value-full, value-adds, line-token, fault-token, gone-same, blank-moves}
-use lib.Dec.{ltb}
-use borrow.Author.Tests.{ltb-true, ltb-false}
 use Rattle.table_values.proofs.NumberLaws.{below-ten, dup-at, dif-at, own-at-all}
 use borrow.Author.Needs.{needs}
 use Rattle.table_values.proofs.value.Statement.{statement}
@@ -34,7 +23,8 @@ returns c = search needs
 
 difference-requires : tie.Need-difference-requires
 difference-requires c κs =
-    let p = c .before .before .before .before .pre in let a = c .before .before .before .before .args in let d = c .before .if2 .taken in let l : 32 ≤ a .c .e = omega arith in let h : a .c .e < 64 = omega arith in
+    let p = c .before .before .before .before .pre in let a = c .before .before .before .before .args in let d = c .before .if2 .taken in let l : 32 ≤ a .c .e = omega arith in
+    let h : a .c .e < 64 = omega arith in
     (p .0, (let b = below-ten (a .c .e) in let x = p .4 in omega arith), l, h, rw (dif-at (a .c .e) (a .v) l h) at (p .5))
 
 same-length-2 : tie.Need-same-length-2

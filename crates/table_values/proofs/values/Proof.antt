@@ -1,61 +1,66 @@
-use mathlib.Core.Path.{_≡_, refl, sym, ap, _∙_, subst}
-use mathlib.Core.Logic.{_⊎_, inl, inr, ⊎-elim}
-use mathlib.Core.List.{[], _∷_}
-use Prim.Native.Nat.{ℕ, _+_, _-_, _*_, _/_, _%_, _<_, _≤_}
+use mathlib.Core.Path.{_≡_, refl}
 use native.Mathlib.Omega.{arith}
-use lib.Dec.{leb, eqb}
-use lib.ListN.{length, length-set}
+use Prim.Native.Nat.{_-_}
+use lib.ListN.{length}
 use borrow.Author.Needs.{needs}
-use Rattle.table_spec.specs.Values.{Own, Gap, By, Dup, own, by, times, copies, moved}
-use Rattle.table_values.specs.Numbers.{Token, below, valueAt}
-use Rattle.table_values.specs.States.{Sits, Went, Stepped, going, own as codes-own, gap as codes-gap, dif, dup-not, dup-dif}
-use Rattle.table_values.proofs.Turns.{value-not, value-full, value-adds, line-token, fault-token, gone-same, blank-moves}
-use Rattle.table_values.specs.States.{Lined}
-use Rattle.table_values.proofs.Walks.{went-none, went-went, went-step, went-line, went-refused}
+use Rattle.table_values.specs.States.{Went}
+use Rattle.table_values.proofs.Walks.{went-none, went-went, line-start, went-line, went-refused}
 use Rattle.table_values.proofs.values.Statement.{statement}
 use Rattle.table_values.proofs.values.Tie as tie
 use Rattle.table_values.proofs.values.Reads as reads
 use Rattle.table_values.proofs.values.Lts as lts
 use Rattle.table_values.proofs.differences.Reads as differences-reads
+use Rattle.table_values.proofs.row_after.Reads as row-after-reads
 use Rattle.table_values.proofs.token.Reads as token-reads
 
 abbrev Inv-loop : tie.InvT-loop
-Inv-loop t s points out₀ c₀ out c = Went points s c₀ c out₀ out × (length out ≡ length out₀)
+Inv-loop t s points out₀ at e k want c₀ out c = Went points s (line-start at e k want) c out₀ out × (length out ≡ length out₀)
 
 abbrev μ-loop : tie.MeasureT-loop
-μ-loop t s points out₀ c₀ out c = length s - c .at
+μ-loop t s points out₀ at e k want c₀ out c = length s - c .at
 
 loop-holds : tie.Need-loop-holds Inv-loop μ-loop
-loop-holds c = (went-none _ _ (c .before .pre .2), refl)
+loop-holds c =
+    let p = c .before .pre in
+    (went-none _ _ (record { some = p .2; high = p .3; stands = p .4; small = omega arith; size = omega arith; few = p .5 }), refl)
 
 differences-requires : tie.Need-differences-requires Inv-loop μ-loop
 differences-requires c κs = (c .before .before .before .pre .0, c .before .loop .inv .0 .sits)
 
 token-requires : tie.Need-token-requires Inv-loop μ-loop
-token-requires c κs = (c .before .before .before .before .before .before .pre .0, c .before .before .before .before .before .before .pre .1, c .before .before .differences .ensures .sits)
+token-requires c κs =
+    let p = c .before .before .before .before .before .before .pre in
+    (p .0, p .1, c .before .before .differences .ensures .sits)
 
 enum-known-d : tie.Need-enum-known-d Inv-loop μ-loop
 enum-known-d c = search needs
 
 loop-less : tie.Need-loop-less Inv-loop μ-loop
 loop-less c =
-    let x = rw (c .before .d .given .1) at (c .before .before .before .before .token .ensures) in let y = c .before .before .before .before .before .before .before .differences .ensures .low in let z = x .1 .high in omega (arith, x .0)
+    let x = rw (c .before .d .given .1) at (c .before .before .before .before .token .ensures) in
+    let y = c .before .before .before .before .before .before .before .differences .ensures .low in
+    let z = x .1 .sits .high in omega (arith, x .0)
 
 loop-again : tie.Need-loop-again Inv-loop μ-loop
 loop-again c =
     let x = rw (c .before .d .given .1) at (c .before .before .before .before .token .ensures) in
-    (went-step (went-went (c .before .before .before .before .before .before .before .before .before .loop .inv .0) (c .before .before .before .before .before .before .before .differences .ensures)) x, search needs)
+    let g = c .before .before .before .before .before .before .before .before .before .loop .inv .0 in
+    (went-went (went-went g (c .before .before .before .before .before .before .before .differences .ensures)) (x .1), search needs)
 
 enum-known-j : tie.Need-enum-known-j Inv-loop μ-loop
 enum-known-j c = search needs
+
+row-after-requires : tie.Need-row-after-requires Inv-loop μ-loop
+row-after-requires c κs = search needs
 
 same-length : tie.Need-same-length Inv-loop μ-loop
 same-length c = search needs
 
 returns : tie.Need-returns Inv-loop μ-loop
 returns c =
-    let x = rw (c .before .j .given .1) at (c .before .before .before .before .token .ensures) in
-    went-line (went-went (c .before .before .before .before .before .before .before .before .before .loop .inv .0) (c .before .before .before .before .before .before .before .differences .ensures)) x
+    let x = rw (c .before .before .j .given .1) at (c .before .before .before .before .before .token .ensures) in
+    let g = c .before .before .before .before .before .before .before .before .before .before .loop .inv .0 in
+    rw (c .row-after .ensures) (went-line _ (went-went g (c .before .before .before .before .before .before .before .before .differences .ensures)) x)
 
 enum-known-n : tie.Need-enum-known-n Inv-loop μ-loop
 enum-known-n c = search needs
@@ -66,7 +71,8 @@ same-length-2 c = search needs
 returns-2 : tie.Need-returns-2 Inv-loop μ-loop
 returns-2 c =
     let x = rw (c .before .n .given .1) at (c .before .before .before .before .token .ensures) in
-    went-refused [] (went-went (c .before .before .before .before .before .before .before .before .before .loop .inv .0) (c .before .before .before .before .before .before .before .differences .ensures)) x
+    let g = c .before .before .before .before .before .before .before .before .before .loop .inv .0 in
+    went-refused _ (went-went g (c .before .before .before .before .before .before .before .differences .ensures)) x
 
 pub values-spec : {M : Type 1} → statement M
 values-spec =
@@ -81,6 +87,7 @@ values-spec =
     loop-less
     loop-again
     enum-known-j
+    row-after-requires
     same-length
     returns
     enum-known-n

@@ -1,0 +1,14 @@
+use mathlib.Core.Path.{refl}
+use Rattle.table_read.proofs.wanted.Statement.{statement}
+use Rattle.table_read.proofs.wanted.Tie as tie
+use Rattle.table_read.proofs.wanted.Reads as reads
+use Rattle.table_read.proofs.wanted.Lts as lts
+
+returns : tie.Need-returns
+returns c = rw (c .if1 .taken) refl
+
+returns-2 : tie.Need-returns-2
+returns-2 c = rw (c .if1 .left) refl
+
+pub wanted-spec : {M : Type 1} → statement M
+wanted-spec = tie.close (tie.spec returns returns-2)
