@@ -1,5 +1,5 @@
 -- From the answers of the library to what a C host is told. No place of the code is named here. Assumes nothing.
-use mathlib.Core.Path.{_≡_, refl}
+use mathlib.Core.Path.{_≡_, refl, _∙_}
 use mathlib.Core.List.{List}
 use Prim.Native.Nat.{ℕ}
 use lib.IntN.{ℤ, pos}
@@ -67,10 +67,10 @@ file-refused (refuse-file c a) {r} e = let z : r ≡ refusal c a = cc in (rw z r
 file-refused (accept-file n f l ys) e = zero-one cc
 
 module _ {file : List ℕ} {out out' : List ℤ} where
-  pub told-file : {t : FileTable} → FileSays file out out' (files.Accepted t) → FileTold file out out' 0 (t .points) (t .first) (t .last) 0
-  told-file g =
+  pub told-file : {t : FileTable} {f l : ℤ} → FileSays file out out' (files.Accepted t) → f ≡ t .first → l ≡ t .last → FileTold file out out' 0 (t .points) f l 0
+  told-file g a b =
       let z = file-accepted (readFile file (length out)) (g .answers) in
-      record { number = z .0; second = z .1; third = z .2; fourth = z .3; fifth = z .4; leaves = g .leaves }
+      record { number = z .0; second = z .1; third = z .2; fourth = a ∙ z .3; fifth = b ∙ z .4; leaves = g .leaves }
 
   pub told-file-refused : {r : Refusal} → FileSays file out out' (files.Refused r) → FileTold file out out' (r .place) 0 (pos 0) (pos 0) (r .number)
   told-file-refused g =

@@ -21,8 +21,8 @@ same-length c = search needs
 returns : tie.Need-returns
 returns c =
     let k = c .before .struct-told .given in
-    rw (toZ-ofZ (sfits-of {w = w64} (k .1 .0 .1)), toZ-ofZ (sfits-of {w = w64} (k .1 .1 .0 .1)))
-    (told-file (rw (c .before .before .before .t .given .1) at (c .before .before .before .before .before .before .read-file .ensures)))
+    told-file (rw (c .before .before .before .t .given .1) at (c .before .before .before .before .before .before .read-file .ensures))
+    (toZ-ofZ (sfits-of {w = w64} (k .1 .0 .1))) (toZ-ofZ (sfits-of {w = w64} (k .1 .1 .0 .1)))
 
 same-length-2 : tie.Need-same-length-2
 same-length-2 c = search needs
