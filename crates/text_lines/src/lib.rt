@@ -71,7 +71,7 @@ fn put_opening(out: &mut [u8], at: usize, fr: Frame, s: State) -> usize
 }
 
 // The last check line, if the text ends in DIF form. The place after it.
-pub fn put_close(out: &mut [u8], at: usize, fr: Frame, dif: bool, p: u64) -> usize
+fn put_close(out: &mut [u8], at: usize, fr: Frame, dif: bool, p: u64) -> usize
     requires { ⌜ Sound fr × (p < 4294967296) × (at < 2 ^ 58) ⌝ }
     ensures { λ r. ⌜ Put (now (out .entry)) at (now (out .exit)) r (close (headOf fr) dif (fr .points) p) ⌝ }
 {
