@@ -323,7 +323,7 @@ fn ratio_of(k: u64, d: Decimal, c: Decimal) -> Rounded
     requires { ⌜ (k ≤ 3) × Small d × Factor c ⌝ }
     ensures { λ r. ⌜ (r ≡ ratio k d c) × roundedIn r ⌝ }
 {
-    let q = decimal::quotient(
+    let q = quotient::quotient(
         d.minus,
         d.mantissa,
         d.power + k,

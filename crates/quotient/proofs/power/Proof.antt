@@ -1,8 +1,8 @@
 -- `power` meets its contract: an entry of the table is the power that its place says, by the rule of Powers. Assumes nothing.
 use Rattle.decimal_spec.specs.Powers.{powers, is-power}
 use borrow.Author.Needs.{needs}
-use Rattle.decimal.proofs.power.Statement.{statement}
-use Rattle.decimal.proofs.power.Tie as tie
+use Rattle.quotient.proofs.power.Statement.{statement}
+use Rattle.quotient.proofs.power.Tie as tie
 
 mul-result : tie.Need-mul-result
 mul-result c = search needs

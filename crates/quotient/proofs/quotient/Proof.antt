@@ -1,8 +1,8 @@
 -- `quotient` meets its contract: the answer as a struct. Assumes nothing.
 use Rattle.decimal_spec.specs.Quotient.{quotientOf}
 use borrow.Author.Needs.{needs}
-use Rattle.decimal.proofs.quotient.Statement.{statement}
-use Rattle.decimal.proofs.quotient.Tie as tie
+use Rattle.quotient.proofs.quotient.Statement.{statement}
+use Rattle.quotient.proofs.quotient.Tie as tie
 
 divided-requires : tie.Need-divided-requires
 divided-requires c κs = search needs

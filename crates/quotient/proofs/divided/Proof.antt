@@ -1,10 +1,10 @@
 -- `divided` meets its contract: by the difference of the exponents; the laws are of Division. Assumes nothing.
 use native.Mathlib.Omega.{arith}
 use native.Mathlib.Nat.{mul-pos}
-use Rattle.decimal.proofs.Division.{down, up, tiny, nil, huge, large, within, product, positive}
+use Rattle.quotient.proofs.Division.{down, up, tiny, nil, huge, large, within, product, positive}
 use borrow.Author.Needs.{needs}
-use Rattle.decimal.proofs.divided.Statement.{statement}
-use Rattle.decimal.proofs.divided.Tie as tie
+use Rattle.quotient.proofs.divided.Statement.{statement}
+use Rattle.quotient.proofs.divided.Tie as tie
 
 sub-down : tie.Need-sub-down
 sub-down c = search needs

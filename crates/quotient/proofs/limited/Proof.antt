@@ -1,8 +1,8 @@
 -- `limited` meets its contract: the answer that a nearest number gives. Assumes nothing.
-use Rattle.decimal.proofs.Division.{over, zero, signed}
+use Rattle.quotient.proofs.Division.{over, zero, signed}
 use borrow.Author.Needs.{needs}
-use Rattle.decimal.proofs.limited.Statement.{statement}
-use Rattle.decimal.proofs.limited.Tie as tie
+use Rattle.quotient.proofs.limited.Statement.{statement}
+use Rattle.quotient.proofs.limited.Tie as tie
 
 nearest-requires : tie.Need-nearest-requires
 nearest-requires c κs = search needs

@@ -1,0 +1,123 @@
+// The rounded quotient of two decimals (01, The file: "from a table of powers of ten"), for F, L and FIRSTY. An inner function: mantissas are below 10^9, and the divisor is above 0.
+ghost use mathlib.Core.Path.{_≡_};
+ghost use Prim.Native.Nat.{_+_, _-_, _*_, _<_, _≤_, _^_};
+ghost use Rattle.decimal_spec.specs.Number.{bound};
+ghost use Rattle.decimal_spec.specs.Quotient.{Nearest, IsRounded, roundedOf, quotientOf};
+use decimal_spec::Quotient;
+use decimal_spec::Rounded;
+
+// The table of powers of ten, from ten to the 0 on.
+const POWERS: [u64; 19] = [
+    1,
+    10,
+    100,
+    1000,
+    10000,
+    100000,
+    1000000,
+    10000000,
+    100000000,
+    1000000000,
+    10000000000,
+    100000000000,
+    1000000000000,
+    10000000000000,
+    100000000000000,
+    1000000000000000,
+    10000000000000000,
+    100000000000000000,
+    1000000000000000000,
+];
+
+// Ten to the n.
+fn power(n: usize) -> u64
+    requires { ⌜ n < 19 ⌝ }
+    ensures { λ r. ⌜ r ≡ 10 ^ n ⌝ }
+{
+    POWERS[n]
+}
+
+// The size of the whole number nearest to a / b, halves to the larger. Twice the rest is formed, since twice a may not fit.
+fn nearest(minus: bool, a: u64, b: u64) -> u64
+    requires { ⌜ (0 < b) × (b ≤ 1000000000000000000) × (a < 10000000000000000000) ⌝ }
+    ensures { λ r. ⌜ Nearest minus a b r ⌝ }
+{
+    let q = a / b;
+    let rest = a % b;
+    let twice = 2 * rest;
+    let more = q + 1;
+    if twice > b {
+        return more;
+    }
+    if twice < b {
+        return q;
+    }
+    if minus { q } else { more }
+}
+
+// The same held to the limit, with no sign for zero.
+fn limited(minus: bool, a: u64, b: u64, limit: u64) -> Rounded
+    requires { ⌜ (0 < b) × (b ≤ 1000000000000000000) × (a < 10000000000000000000) ⌝ }
+    ensures { λ r. ⌜ IsRounded limit minus a b r ⌝ }
+{
+    let q = nearest(minus, a, b);
+    if q > limit {
+        return Rounded::Beyond;
+    }
+    if q == 0 {
+        return Rounded::Whole {
+            minus: false,
+            size: 0,
+        };
+    }
+    Rounded::Whole { minus, size: q }
+}
+
+// The quotient of two decimals, m1 times ten to the e1 by m2 times ten to the e2. A product is formed only where it is below
+// ten to the 19; where it is not, the answer is zero or beyond without it.
+fn divided(minus: bool, m1: u64, e1: u64, m2: u64, e2: u64, limit: u64) -> Rounded
+    requires { ⌜ (m1 < bound) × (0 < m2) × (m2 < bound) × (limit < 10000000000) ⌝ }
+    ensures { λ r. ⌜ r ≡ roundedOf limit minus (m1 * 10 ^ e1) (m2 * 10 ^ e2) ⌝ }
+{
+    if e1 < e2 {
+        let down = e2 - e1;
+        if down > 9 {
+            return Rounded::Whole {
+                minus: false,
+                size: 0,
+            };
+        }
+        let p = power(down as usize);
+        let b = m2 * p;
+        return limited(minus, m1, b, limit);
+    }
+    if m1 == 0 {
+        return Rounded::Whole {
+            minus: false,
+            size: 0,
+        };
+    }
+    let up = e1 - e2;
+    if up > 18 {
+        return Rounded::Beyond;
+    }
+    let p = power(up as usize);
+    let most = 9999999999999999999 / p;
+    if m1 > most {
+        return Rounded::Beyond;
+    }
+    let a = m1 * p;
+    limited(minus, a, m2, limit)
+}
+
+// The quotient of two decimals, as a file's F, L and first ordinate ask it: exact for all exponents, which are counted from one
+// origin below the least. An inner function: what it requires of the mantissas is what `number` ensures and, of the divisor,
+// that a factor exceeds zero (01, The file); the limit is the caller's.
+pub fn quotient(minus: bool, m1: u64, e1: u64, m2: u64, e2: u64, limit: u64) -> Quotient
+    requires { ⌜ (m1 < bound) × (0 < m2) × (m2 < bound) × (limit < 10000000000) ⌝ }
+    ensures { λ r. ⌜ r ≡ quotientOf limit minus (m1 * 10 ^ e1) (m2 * 10 ^ e2) ⌝ }
+{
+    Quotient {
+        rounded: divided(minus, m1, e1, m2, e2, limit),
+    }
+}
