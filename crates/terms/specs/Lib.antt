@@ -1,3 +1,4 @@
 pub mod Logic
 pub mod Places
+pub mod PlaceLaws
 pub mod Refusals

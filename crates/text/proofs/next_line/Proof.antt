@@ -1,0 +1,19 @@
+-- The line goes on after an LF only.
+use mathlib.Core.Path.{refl}
+use native.Mathlib.Numerals.{add-one}
+use borrow.Author.Tests.{eq-eqb, ne-eqb}
+use borrow.Author.Needs.{needs}
+use Rattle.text.proofs.next_line.Statement.{statement}
+use Rattle.text.proofs.next_line.Tie as tie
+
+add-result : tie.Need-add-result
+add-result c = search needs
+
+returns : tie.Need-returns
+returns c = rw (eq-eqb (c .before .args .b) 10 (c .if1 .taken), add-one (c .before .args .line)) refl
+
+returns-2 : tie.Need-returns-2
+returns-2 c = rw (ne-eqb (c .before .args .b) 10 (c .if1 .left)) refl
+
+pub next-line-spec : {M : Type 1} → statement M
+next-line-spec = tie.close (tie.spec add-result returns returns-2)
