@@ -6,7 +6,7 @@ ghost use Prim.Native.Nat.{_+_, _-_, _<_, _≤_};
 ghost use lib.ListN.{length, take, drop};
 ghost use Rattle.label_spec.specs.Names.{norm, nameIn};
 ghost use Rattle.label_spec.specs.Labels.{from, hashed};
-ghost use Rattle.terms.specs.Refusals.{refusal};
+ghost use Rattle.terms.specs.Refusals.{fault-at};
 ghost use Rattle.label_spec.specs.File.{openedAt, opened, judged, labelled};
 ghost use Rattle.label_spec.specs.Records.{recordOf, recordFor, textOf};
 ghost use Rattle.label.specs.Answers.{Passed, TitleAt, openIn, walkedIn, labelledIn, foundIn, findIn};
@@ -33,7 +33,8 @@ use label_spec::Opened;
 use label_spec::Record;
 use label_spec::Spot;
 use label_spec::Walked;
-use terms::Refusal;
+use terms::Fault;
+use text::refusal_in;
 
 mod space;
 
@@ -79,9 +80,9 @@ pub fn past_space(s: &[u8], at: usize) -> usize
 
 // TITLE is not first: another byte stands there, or the end (21).
 fn untitled(place: usize) -> Opened
-    ensures { λ r. ⌜ r ≡ Opened.Refused (refusal 21 place) ⌝ }
+    ensures { λ r. ⌜ r ≡ Opened.Refused (fault-at 21 place) ⌝ }
 {
-    Opened::Refused(Refusal::new(21, place))
+    Opened::Refused(Fault::new(21, place))
 }
 
 // The label whose `##` stands here, if it is TITLE.
@@ -118,9 +119,9 @@ pub fn open_title(file: &[u8]) -> Opened
 
 // A fault of the walk.
 fn fault(number: u64, place: usize) -> Walked
-    ensures { λ r. ⌜ r ≡ Walked.Refused (refusal number place) ⌝ }
+    ensures { λ r. ⌜ r ≡ Walked.Refused (fault-at number place) ⌝ }
 {
-    Walked::Refused(Refusal::new(number, place))
+    Walked::Refused(Fault::new(number, place))
 }
 
 // The next label by itself: 22 without one, 20 if it is bad, END, and 24 if it is TITLE.
@@ -258,9 +259,9 @@ pub fn find_record(part: &[u8], start: usize, stop: usize, name: &[u8]) -> Found
 
 // The file is longer than a file may be (19).
 fn too_long() -> Labelled
-    ensures { λ r. ⌜ r ≡ Labelled.Refused (refusal 19 0) ⌝ }
+    ensures { λ r. ⌜ r ≡ Labelled.Refused (fault-at 19 0) ⌝ }
 {
-    Labelled::Refused(Refusal::new(19, 0))
+    Labelled::Refused(Fault::new(19, 0))
 }
 
 // What the labels of a file say: 19, 21, then 20, 22, 23, 24 in one walk; or the places of TITLE and END.
@@ -271,11 +272,11 @@ pub fn labels(file: &[u8]) -> Labelled
         return too_long();
     }
     match open_title(file) {
-        Opened::Refused(refusal) => Labelled::Refused(refusal),
+        Opened::Refused(fault) => Labelled::Refused(fault),
         Opened::Title { mark, eq } => {
             let start = eq + 1;
             match walk(file, start) {
-                Walked::Refused(refusal) => Labelled::Refused(refusal),
+                Walked::Refused(fault) => Labelled::Refused(fault),
                 Walked::Ended { mark: end, eq: _ } => Labelled::Places {
                     title: mark,
                     eq,
@@ -305,7 +306,9 @@ pub fn find(file: &[u8], name: &[u8]) -> Record
     ensures { λ r. ⌜ (r ≡ recordFor (now (file .entry)) (norm (now (name .entry)))) × findIn (length (now (file .entry))) r ⌝ }
 {
     match labels(file) {
-        Labelled::Refused(refusal) => Record::Refused(refusal),
+        Labelled::Refused(fault) => {
+            Record::Refused(refusal_in(file, fault.number, fault.place))
+        },
         Labelled::Places { title, eq, end } => match find_from_title(file, title, eq, end, name) {
             Found::Text { from, to } => Record::Text { from, to },
             Found::Absent => Record::Absent,

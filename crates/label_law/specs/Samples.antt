@@ -4,17 +4,18 @@ use mathlib.Core.List.{List, [], _∷_}
 use Prim.Native.Nat.{ℕ, _<_}
 use lib.ListN.{length}
 use borrow.Author.Tests.{lt-leb}
+use Rattle.terms.specs.Places.{lineOf, columnAfter}
 use Rattle.label_spec.specs.declared.Labelled.{Labelled}
 use Rattle.label_spec.specs.declared.Record.{Record}
 use Rattle.label_spec.specs.Names.{blank, ignored, upper, norm, sames, TITLE, END}
 use Rattle.label_spec.specs.Labels.{eqIn, headed, step, walk, from, hashed}
 use Rattle.label_spec.specs.Space.{space, opens, past, pastAt}
-use Rattle.terms.specs.Refusals.{refusal}
+use Rattle.terms.specs.Refusals.{fault-at}
 use Rattle.label_spec.specs.File.{longestFile, titled, openedAt, opened, member, twice, judged, placed, afterTitle, labelled}
 use Rattle.label_spec.specs.Records.{markOf, recordOf, asRecord, recordIn, recordFor}
 
 -- A file too long: 19 at 0, before all else.
-pub too-long : (s : List ℕ) → longestFile < length s → labelled s ≡ Labelled.Refused (refusal 19 0)
+pub too-long : (s : List ℕ) → longestFile < length s → labelled s ≡ Labelled.Refused (fault-at 19 0)
 unfolding labelled
 too-long s h = rw (lt-leb (length s) longestFile h) refl
 
@@ -44,7 +45,7 @@ no-first =
     record {
       text =
           32 ∷ 10 ∷ 36 ∷ 36 ∷ 99 ∷ [];
-      answer = Labelled.Refused (refusal 21 5);
+      answer = Labelled.Refused (fault-at 21 5);
     }
 
 -- The first byte that is no blank, line end or comment: '$$c\n x##TITLE=\n##END='
@@ -53,7 +54,7 @@ other-first =
     record {
       text =
           36 ∷ 36 ∷ 99 ∷ 10 ∷ 32 ∷ 120 ∷ 35 ∷ 35 ∷ 84 ∷ 73 ∷ 84 ∷ 76 ∷ 69 ∷ 61 ∷ 10 ∷ 35 ∷ 35 ∷ 69 ∷ 78 ∷ 68 ∷ 61 ∷ [];
-      answer = Labelled.Refused (refusal 21 5);
+      answer = Labelled.Refused (fault-at 21 5);
     }
 
 -- A lone CR is no blank: '\r##TITLE=\n##END='
@@ -62,7 +63,7 @@ lone-cr =
     record {
       text =
           13 ∷ 35 ∷ 35 ∷ 84 ∷ 73 ∷ 84 ∷ 76 ∷ 69 ∷ 61 ∷ 10 ∷ 35 ∷ 35 ∷ 69 ∷ 78 ∷ 68 ∷ 61 ∷ [];
-      answer = Labelled.Refused (refusal 21 0);
+      answer = Labelled.Refused (fault-at 21 0);
     }
 
 -- A lone `$` is no comment: ' $##TITLE=\n##END='
@@ -71,7 +72,7 @@ lone-dollar =
     record {
       text =
           32 ∷ 36 ∷ 35 ∷ 35 ∷ 84 ∷ 73 ∷ 84 ∷ 76 ∷ 69 ∷ 61 ∷ 10 ∷ 35 ∷ 35 ∷ 69 ∷ 78 ∷ 68 ∷ 61 ∷ [];
-      answer = Labelled.Refused (refusal 21 1);
+      answer = Labelled.Refused (fault-at 21 1);
     }
 
 -- `##TITLE` with no `=`: 21 comes before 20: '##TITLE\n##END='
@@ -80,7 +81,7 @@ title-bare =
     record {
       text =
           35 ∷ 35 ∷ 84 ∷ 73 ∷ 84 ∷ 76 ∷ 69 ∷ 10 ∷ 35 ∷ 35 ∷ 69 ∷ 78 ∷ 68 ∷ 61 ∷ [];
-      answer = Labelled.Refused (refusal 21 0);
+      answer = Labelled.Refused (fault-at 21 0);
     }
 
 -- A first label too long: 21 too: '##AAAAAAAAAAAAAAAAAAAAAAAAAAAAAAAAAAAAAAAAA=\n##END='
@@ -90,7 +91,7 @@ title-long =
       text =
           35 ∷ 35 ∷ 65 ∷ 65 ∷ 65 ∷ 65 ∷ 65 ∷ 65 ∷ 65 ∷ 65 ∷ 65 ∷ 65 ∷ 65 ∷ 65 ∷ 65 ∷ 65 ∷ 65 ∷ 65 ∷ 65 ∷ 65 ∷ 65 ∷ 65 ∷ 65 ∷ 65 ∷ 65 ∷ 65 ∷ 65 ∷ 65 ∷
           65 ∷ 65 ∷ 65 ∷ 65 ∷ 65 ∷ 65 ∷ 65 ∷ 65 ∷ 65 ∷ 65 ∷ 65 ∷ 65 ∷ 65 ∷ 65 ∷ 65 ∷ 61 ∷ 10 ∷ 35 ∷ 35 ∷ 69 ∷ 78 ∷ 68 ∷ 61 ∷ [];
-      answer = Labelled.Refused (refusal 21 0);
+      answer = Labelled.Refused (fault-at 21 0);
     }
 
 -- `##=` before TITLE: '##=\n##TITLE=\n##END='
@@ -99,7 +100,7 @@ empty-first =
     record {
       text =
           35 ∷ 35 ∷ 61 ∷ 10 ∷ 35 ∷ 35 ∷ 84 ∷ 73 ∷ 84 ∷ 76 ∷ 69 ∷ 61 ∷ 10 ∷ 35 ∷ 35 ∷ 69 ∷ 78 ∷ 68 ∷ 61 ∷ [];
-      answer = Labelled.Refused (refusal 21 0);
+      answer = Labelled.Refused (fault-at 21 0);
     }
 
 -- A label without `=` on its line: '##TITLE=\n##A\n=##END='
@@ -108,7 +109,7 @@ bare =
     record {
       text =
           35 ∷ 35 ∷ 84 ∷ 73 ∷ 84 ∷ 76 ∷ 69 ∷ 61 ∷ 10 ∷ 35 ∷ 35 ∷ 65 ∷ 10 ∷ 61 ∷ 35 ∷ 35 ∷ 69 ∷ 78 ∷ 68 ∷ 61 ∷ [];
-      answer = Labelled.Refused (refusal 20 9);
+      answer = Labelled.Refused (fault-at 20 9);
     }
 
 -- A name of 40 bytes as compared: '##TITLE=\n##a_a_a_a_a_a_a_a_a_a_a_a_a_a_a_a_a_a_a_a_a_a_a_a_a_a_a_a_a_a_a_a_a_a_a_a_a_a_a_a_=\n##END='
@@ -131,7 +132,7 @@ forty-one =
           35 ∷ 35 ∷ 84 ∷ 73 ∷ 84 ∷ 76 ∷ 69 ∷ 61 ∷ 10 ∷ 35 ∷ 35 ∷ 97 ∷ 97 ∷ 97 ∷ 97 ∷ 97 ∷ 97 ∷ 97 ∷ 97 ∷ 97 ∷ 97 ∷ 97 ∷ 97 ∷ 97 ∷ 97 ∷ 97 ∷ 97 ∷ 97 ∷
           97 ∷ 97 ∷ 97 ∷ 97 ∷ 97 ∷ 97 ∷ 97 ∷ 97 ∷ 97 ∷ 97 ∷ 97 ∷ 97 ∷ 97 ∷ 97 ∷ 97 ∷ 97 ∷ 97 ∷ 97 ∷ 97 ∷ 97 ∷ 97 ∷ 97 ∷ 97 ∷ 97 ∷ 61 ∷ 10 ∷ 35 ∷ 35 ∷
           69 ∷ 78 ∷ 68 ∷ 61 ∷ [];
-      answer = Labelled.Refused (refusal 20 9);
+      answer = Labelled.Refused (fault-at 20 9);
     }
 
 -- No END: 22 at the length: '##TITLE=\n##A=\n'
@@ -140,7 +141,7 @@ no-end =
     record {
       text =
           35 ∷ 35 ∷ 84 ∷ 73 ∷ 84 ∷ 76 ∷ 69 ∷ 61 ∷ 10 ∷ 35 ∷ 35 ∷ 65 ∷ 61 ∷ 10 ∷ [];
-      answer = Labelled.Refused (refusal 22 14);
+      answer = Labelled.Refused (fault-at 22 14);
     }
 
 -- A label twice, spelled in two ways: '##TITLE=\n##A B=1\nx ##AB=\n##a_/b=\n##END='
@@ -150,7 +151,7 @@ again =
       text =
           35 ∷ 35 ∷ 84 ∷ 73 ∷ 84 ∷ 76 ∷ 69 ∷ 61 ∷ 10 ∷ 35 ∷ 35 ∷ 65 ∷ 32 ∷ 66 ∷ 61 ∷ 49 ∷ 10 ∷ 120 ∷ 32 ∷ 35 ∷ 35 ∷ 65 ∷ 66 ∷ 61 ∷ 10 ∷ 35 ∷ 35 ∷ 97 ∷
           95 ∷ 47 ∷ 98 ∷ 61 ∷ 10 ∷ 35 ∷ 35 ∷ 69 ∷ 78 ∷ 68 ∷ 61 ∷ [];
-      answer = Labelled.Refused (refusal 23 25);
+      answer = Labelled.Refused (fault-at 23 25);
     }
 
 -- Empty names are excepted: '##TITLE=\n##=\n##- =\n##END='
@@ -187,7 +188,7 @@ title-again =
       text =
           35 ∷ 35 ∷ 84 ∷ 73 ∷ 84 ∷ 76 ∷ 69 ∷ 61 ∷ 10 ∷ 35 ∷ 35 ∷ 65 ∷ 61 ∷ 10 ∷ 35 ∷ 35 ∷ 116 ∷ 105 ∷ 32 ∷ 116 ∷ 108 ∷ 101 ∷ 61 ∷ 10 ∷ 35 ∷ 35 ∷ 69 ∷
           78 ∷ 68 ∷ 61 ∷ [];
-      answer = Labelled.Refused (refusal 24 14);
+      answer = Labelled.Refused (fault-at 24 14);
     }
 
 -- What stands after END is not read: '##TITLE=\n##end= x\n##TITLE=\n##A\n##B=\n##B='
@@ -207,7 +208,7 @@ first-fault =
       text =
           35 ∷ 35 ∷ 84 ∷ 73 ∷ 84 ∷ 76 ∷ 69 ∷ 61 ∷ 10 ∷ 35 ∷ 35 ∷ 65 ∷ 61 ∷ 10 ∷ 35 ∷ 35 ∷ 65 ∷ 61 ∷ 10 ∷ 35 ∷ 35 ∷ 84 ∷ 73 ∷ 84 ∷ 76 ∷ 69 ∷ 61 ∷ 10 ∷
           35 ∷ 35 ∷ 66 ∷ 10 ∷ [];
-      answer = Labelled.Refused (refusal 23 14);
+      answer = Labelled.Refused (fault-at 23 14);
     }
 
 -- A text runs to the next label's `##`, blanks before it included: '##TITLE=t\n##A= 1\n $$x\n ##END='
@@ -261,14 +262,14 @@ in-line =
       answer = Record.Text 14 21;
     }
 
--- No record where the labels are refused: '##TITLE=t\n##A=\n'
+-- No record where the labels are refused: '##TITLE=t\n##A=\n'. The end, place 15, is where line 3 would start.
 abbrev pub refused : Search
 refused =
     record {
       text =
           35 ∷ 35 ∷ 84 ∷ 73 ∷ 84 ∷ 76 ∷ 69 ∷ 61 ∷ 116 ∷ 10 ∷ 35 ∷ 35 ∷ 65 ∷ 61 ∷ 10 ∷ [];
       name = 65 ∷ [];
-      answer = Record.Refused (refusal 22 15);
+      answer = Record.Refused (record { number = 22; place = 15; line = 3; column = 1 });
     }
 
 -- The table, and what the definitions make of it.
@@ -302,5 +303,5 @@ unfolding labelled afterTitle opened openedAt titled hashed placed judged twice 
 samples-hold = refl
 
 pub searches-hold : findings searches ≡ results searches
-unfolding recordFor recordIn asRecord recordOf markOf labelled afterTitle opened openedAt titled hashed placed judged twice member from walk step headed eqIn past pastAt space opens blank ignored upper norm sames TITLE END
+unfolding lineOf columnAfter recordFor recordIn asRecord recordOf markOf labelled afterTitle opened openedAt titled hashed placed judged twice member from walk step headed eqIn past pastAt space opens blank ignored upper norm sames TITLE END
 searches-hold = refl

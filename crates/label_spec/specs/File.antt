@@ -4,7 +4,7 @@ use mathlib.Core.List.{List, [], _∷_, _++_}
 use Prim.Native.Nat.{ℕ, _+_}
 use lib.Dec.{leb}
 use lib.ListN.{length}
-use Rattle.terms.specs.Refusals.{refusal}
+use Rattle.terms.specs.Refusals.{fault-at}
 use Rattle.label_spec.specs.declared.Opened.{Opened}
 use Rattle.label_spec.specs.declared.Walked.{Walked}
 use Rattle.label_spec.specs.declared.Labelled.{Labelled}
@@ -19,12 +19,12 @@ longestFile = 1048576
 
 -- The label at p, if its name is TITLE; otherwise 21 at p.
 unfoldable pub titled : ℕ → Walk → Opened
-titled p over = Opened.Refused (refusal 21 p)
-titled p (bad x rest) = Opened.Refused (refusal 21 p)
-titled p (label x n e v rest) = pick (sames v TITLE) (Opened.Title x e) (Opened.Refused (refusal 21 p))
+titled p over = Opened.Refused (fault-at 21 p)
+titled p (bad x rest) = Opened.Refused (fault-at 21 p)
+titled p (label x n e v rest) = pick (sames v TITLE) (Opened.Title x e) (Opened.Refused (fault-at 21 p))
 
 unfoldable pub openedAt : List ℕ → ℕ → Opened
-openedAt s p = pick (hashed s p) (titled p (from s p true)) (Opened.Refused (refusal 21 p))
+openedAt s p = pick (hashed s p) (titled p (from s p true)) (Opened.Refused (fault-at 21 p))
 
 -- "Only blank or comment lines precede TITLE": the first byte that is no blank, line end or comment is that of TITLE's `##` (21).
 unfoldable pub opened : List ℕ → Opened
@@ -43,12 +43,12 @@ twice (b ∷ w) done = member (b ∷ w) done
 -- The walk after TITLE, up to END or to the first fault, in a text of this length, after labels with the names `done`:
 -- 22 no END, 20 a bad label, 24 TITLE again, 23 a label twice. What follows END is not read.
 unfoldable pub judged : ℕ → List (List ℕ) → Walk → Walked
-judged len done over = Walked.Refused (refusal 22 len)
-judged len done (bad x rest) = Walked.Refused (refusal 20 x)
+judged len done over = Walked.Refused (fault-at 22 len)
+judged len done (bad x rest) = Walked.Refused (fault-at 20 x)
 judged len done (label x n e v rest) =
     pick (sames v END) (Walked.Ended x e)
-    (pick (sames v TITLE) (Walked.Refused (refusal 24 x))
-    (pick (twice v done) (Walked.Refused (refusal 23 x)) (judged len (done ++ v ∷ []) rest)))
+    (pick (sames v TITLE) (Walked.Refused (fault-at 24 x))
+    (pick (twice v done) (Walked.Refused (fault-at 23 x)) (judged len (done ++ v ∷ []) rest)))
 
 -- TITLE stands at m, its `=` at e.
 unfoldable pub placed : ℕ → ℕ → Walked → Labelled
@@ -61,4 +61,4 @@ afterTitle s (Opened.Refused r) = Labelled.Refused r
 
 -- What the labels of a file answer.
 unfoldable pub labelled : List ℕ → Labelled
-labelled s = pick (leb (length s) longestFile) (afterTitle s (opened s)) (Labelled.Refused (refusal 19 0))
+labelled s = pick (leb (length s) longestFile) (afterTitle s (opened s)) (Labelled.Refused (fault-at 19 0))

@@ -8,6 +8,7 @@ use Rattle.label_spec.specs.declared.Found.{Found}
 use Rattle.label_spec.specs.declared.Labelled.{Labelled}
 use Rattle.label_spec.specs.declared.Record.{Record}
 use Rattle.terms.specs.Logic.{pick}
+use Rattle.terms.specs.Refusals.{refusalIn}
 use Rattle.label_spec.specs.Names.{sames}
 use Rattle.label_spec.specs.Labels.{Walk, over, bad, label, from}
 use Rattle.label_spec.specs.File.{labelled}
@@ -31,7 +32,7 @@ asRecord Found.Absent = Record.Absent
 
 unfoldable pub recordIn : List ℕ → List ℕ → Labelled → Record
 recordIn s w (Labelled.Places m e x) = asRecord (recordOf (length s) x w (from s m true))
-recordIn s w (Labelled.Refused r) = Record.Refused r
+recordIn s w (Labelled.Refused r) = Record.Refused (refusalIn s (r .number) (r .place))
 
 -- The record of a file with the name w, TITLE's own among them, END's not: it is looked for among the labels before END.
 unfoldable pub recordFor : List ℕ → List ℕ → Record

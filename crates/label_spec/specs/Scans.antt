@@ -8,7 +8,7 @@ use Rattle.label_spec.specs.declared.Walked.{Walked}
 use Rattle.terms.specs.Logic.{pick}
 use Rattle.label_spec.specs.Names.{sames, TITLE, END}
 use Rattle.label_spec.specs.Labels.{Walk, over, bad, label}
-use Rattle.terms.specs.Refusals.{refusal}
+use Rattle.terms.specs.Refusals.{fault-at}
 
 -- The inner scan: does a label before the place m have the name w?
 unfoldable pub known : ℕ → List ℕ → Walk → Bool
@@ -23,9 +23,9 @@ clash m (b ∷ w) all = known m (b ∷ w) all
 
 -- The outer scan, among all the labels.
 unfoldable pub judge : ℕ → Walk → Walk → Walked
-judge len all over = Walked.Refused (refusal 22 len)
-judge len all (bad x rest) = Walked.Refused (refusal 20 x)
+judge len all over = Walked.Refused (fault-at 22 len)
+judge len all (bad x rest) = Walked.Refused (fault-at 20 x)
 judge len all (label x n e v rest) =
     pick (sames v END) (Walked.Ended x e)
-    (pick (sames v TITLE) (Walked.Refused (refusal 24 x))
-    (pick (clash x v all) (Walked.Refused (refusal 23 x)) (judge len all rest)))
+    (pick (sames v TITLE) (Walked.Refused (fault-at 24 x))
+    (pick (clash x v all) (Walked.Refused (fault-at 23 x)) (judge len all rest)))

@@ -1,4 +1,5 @@
 // What is found in a file. Definitions and code share these types (01, The file).
+use terms::Fault;
 use terms::Refusal;
 
 // Where a byte that was looked for stands.
@@ -23,13 +24,13 @@ pub enum Label {
 // TITLE, if it is first: the places of its `##` and of its `=`.
 pub enum Opened {
     Title { mark: usize, eq: usize },
-    Refused(Refusal),
+    Refused(Fault),
 }
 
 // Where the walk over the labels after TITLE ends: at END, or at the first fault.
 pub enum Walked {
     Ended { mark: usize, eq: usize },
-    Refused(Refusal),
+    Refused(Fault),
 }
 
 // The text of a record: the part of the file from one place up to another.
@@ -41,7 +42,7 @@ pub enum Found {
 // What the labels of a file say: the places of TITLE's `##` and `=` and of END's `##`, or the first fault.
 pub enum Labelled {
     Places { title: usize, eq: usize, end: usize },
-    Refused(Refusal),
+    Refused(Fault),
 }
 
 // The text of a record of a file whose labels may be refused.

@@ -9,7 +9,7 @@ use lib.IntN.{ℤ, pos}
 use lib.ListN.{length, getD, set}
 use lib.Seq.{sets}
 use borrow.Author.Tests.{le-leb, lt-leb, lt-ltb, le-ltb, leb-true, leb-false, ltb-true, ltb-false}
-use Rattle.terms.specs.Refusals.{refusal}
+use Rattle.terms.specs.Refusals.{fault-at}
 use Rattle.terms.specs.declared.TableRead.the-variants as tables
 use Rattle.terms.specs.Logic.{both, by-case, zero-one}
 use Rattle.table_spec.specs.Frame.{Rules, frame-legal, longest-body, entry-for}
@@ -32,7 +32,7 @@ pub pass-all : (x : Answer) → passed.All ≡ passedOf x → (ys : List ℕ) ×
 pass-all (refuse c a) e = zero-one cc
 pass-all (accept ys) e = (ys, refl)
 
-pub check-refused : {R : Rules} {s : List ℕ} (out out' : List ℤ) {c a : ℕ} → PassSays R s out out' (passed.Refused c a) → checks.Refused (refusal c a) ≡ toldFirst (read R s)
+pub check-refused : {R : Rules} {s : List ℕ} (out out' : List ℤ) {c a : ℕ} → PassSays R s out out' (passed.Refused c a) → checks.Refused (fault-at c a) ≡ toldFirst (read R s)
 check-refused {R} {s} out out' g = sym (ap toldFirst (pass-refused (read R s) (g .says)))
 
 -- one entry: the first ordinate is what stands in it
@@ -89,7 +89,7 @@ unfolding stored
 read-refused {f} {l} {n} {s} {out} {r} e = go (readTable f l n s (length out)) e refl
   where
     go : (x : Answer) → checks.Refused r ≡ toldFirst x → readTable f l n s (length out) ≡ x → TableSays f l n s out out (tables.Refused r)
-    go (refuse c a) e h = let z : r ≡ refusal c a = cc in record { answers = rw (h, z) refl; leaves = rw h refl }
+    go (refuse c a) e h = let z : r ≡ fault-at c a = cc in record { answers = rw (h, z) refl; leaves = rw h refl }
     go (accept ys) e h = zero-one cc
 
 pub first-accepts : (x : Answer) {y : ℤ} → checks.First y ≡ toldFirst x → Accepts x

@@ -4,7 +4,7 @@ use mathlib.Core.List.{List}
 use Prim.Native.Nat.{ℕ}
 use lib.IntN.{ℤ}
 use lib.ListN.{length, getD}
-use Rattle.terms.specs.Refusals.{refusal}
+use Rattle.terms.specs.Refusals.{fault-at}
 use Rattle.terms.specs.declared.TableRead.{TableRead}
 use Rattle.terms.specs.declared.TableRead.the-variants as tables
 use Rattle.table_read.specs.declared.Checked.{Checked}
@@ -14,12 +14,12 @@ use Rattle.table_spec.specs.Reading.{Answer, refuse, accept, readTable, stored}
 
 -- reading a table: the paper's number and place, or N
 abbrev pub told : ℕ → Answer → TableRead
-told n (refuse c a) = tables.Refused (refusal c a)
+told n (refuse c a) = tables.Refused (fault-at c a)
 told n (accept ys) = tables.Accepted n
 
 -- checking one: the paper's number and place, or the first ordinate as it would stand in the slice
 abbrev pub toldFirst : Answer → Checked
-toldFirst (refuse c a) = checks.Refused (refusal c a)
+toldFirst (refuse c a) = checks.Refused (fault-at c a)
 toldFirst (accept ys) = checks.First (entry-for (getD ys 0 0))
 
 -- an answer that accepts

@@ -21,7 +21,7 @@ use table_lines::row_start;
 use table_values::LineRead;
 use table_values::Row;
 use table_values::values;
-use terms::Refusal;
+use terms::Fault;
 use terms::TableRead;
 
 // What a pass over a body answers: all points are there, or a refusal number and place.
@@ -33,7 +33,7 @@ pub enum Passed {
 // What checking a table answers: its first ordinate, or a refusal.
 pub enum Checked {
     First(i32),
-    Refused(Refusal),
+    Refused(Fault),
 }
 
 // The index that a head belongs to: the last point given on a check line, else the next (01, "Checks").
@@ -144,7 +144,7 @@ fn check_body(body: &[u8], fr: Frame) -> Checked
     let t = TABLE;
     let mut one = [0i32; 1];
     match pass(&t, body, fr, &mut one) {
-        Passed::Refused(n, p) => Checked::Refused(Refusal::new(n, p)),
+        Passed::Refused(n, p) => Checked::Refused(Fault::new(n, p)),
         Passed::All => Checked::First(one[0]),
     }
 }
@@ -163,13 +163,13 @@ pub fn check_table(first: i64, last: i64, points: usize, body: &[u8], room: usiz
     ensures { λ r. ⌜ r ≡ toldFirst (readTable first last points (now (body .entry)) room) ⌝ }
 {
     if body.len() > Frame::LONGEST_BODY {
-        return Checked::Refused(Refusal::new(1, 0));
+        return Checked::Refused(Fault::new(1, 0));
     }
     match Frame::new(first, last, points) {
-        Framed::Outside => Checked::Refused(Refusal::new(1, 0)),
+        Framed::Outside => Checked::Refused(Fault::new(1, 0)),
         Framed::Legal(fr) => {
             if room < points {
-                return Checked::Refused(Refusal::new(2, 0));
+                return Checked::Refused(Fault::new(2, 0));
             }
             check_body(body, fr)
         }

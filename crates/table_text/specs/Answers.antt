@@ -5,7 +5,7 @@ use Prim.Native.Nat.{ℕ, _-_, _≤_, _<_}
 use lib.Dec.{ltb}
 use lib.IntN.{ℤ}
 use lib.ListN.{length, take}
-use Rattle.terms.specs.Refusals.{refusal}
+use Rattle.terms.specs.Refusals.{fault-at}
 use Rattle.terms.specs.declared.TableWritten.{TableWritten}
 use Rattle.terms.specs.declared.TableWritten.the-variants.{Length, Refused}
 use Rattle.frame.specs.declared.Frame.{Frame}
@@ -15,7 +15,7 @@ use Rattle.table_spec.specs.Writing.{Outcome, declined, wrote, fitted, written,
 
 -- a refusal of the writer stands at place 0
 abbrev pub refused : ℕ → TableWritten
-refused c = Refused (refusal c 0)
+refused c = Refused (fault-at c 0)
 
 -- this paper's number and values for each case of the answer
 abbrev pub told : Outcome → TableWritten

@@ -1,7 +1,7 @@
 // What a writer puts into the lent bytes (01, "The written text"): digits, heads and line ends, and the answer of a writer.
 ghost use mathlib.Core.Path.{_≡_};
 ghost use Rattle.table_text.specs.Answers;
-use terms::Refusal;
+use terms::Fault;
 use terms::TableWritten;
 
 pub mod digits;
@@ -11,5 +11,5 @@ pub mod heads;
 pub fn refused(number: u64) -> TableWritten
     ensures { λ r. ⌜ r ≡ Answers.refused number ⌝ }
 {
-    TableWritten::Refused(Refusal::new(number, 0))
+    TableWritten::Refused(Fault::new(number, 0))
 }
