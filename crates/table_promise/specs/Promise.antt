@@ -59,7 +59,7 @@ module _ (f l : ℤ) (n : ℕ) (body : List ℕ) (out out' : List ℤ) where
         slice = o ∙ accepted-stored f l n body out ys e;
       }
 
-  promised-by : (x : Answer) → readTable f l n body (length out) ≡ x → (r : TableRead) → r ≡ told n x → out' ≡ stored out x → Promised r
+  promised-by : (x : Answer) → readTable f l n body (length out) ≡ x → (r : TableRead) → r ≡ told n body x → out' ≡ stored out x → Promised r
   unfolding stored
   promised-by (refuse c a) e r h o = subst Promised (sym h) (record { unaltered = o; none = λ a. refused-none f l n body (length out) c _ a e })
   promised-by (accept ys) e r h o = subst Promised (sym h) (held ys e o)
@@ -70,7 +70,7 @@ module _ (f l : ℤ) (n : ℕ) (body : List ℕ) (out out' : List ℤ) where
 
   -- demand 3: a table is accepted exactly when some list of as many ordinates as the frame names, spelled by the published forms under the frame's checks, gives precisely these bytes
   pub accepted-exactly : {r : TableRead} → TableSays f l n body out out' r → Fits → (r ≡ Accepted n) ↔ ((ys : List ℕ) × (length ys ≡ n) × Spelled ys)
-  accepted-exactly {r} g a = (λ e. shown (subst Promised e (promise g)), λ s. g .answers ∙ ap (told n) (spells-accepted f l n body (length out) (s .0) a (s .2)))
+  accepted-exactly {r} g a = (λ e. shown (subst Promised e (promise g)), λ s. g .answers ∙ ap (told n body) (spells-accepted f l n body (length out) (s .0) a (s .2)))
     where
       shown : Holds n → (ys : List ℕ) × (length ys ≡ n) × Spelled ys
       shown h = (h .list, h .long, h .spelled)

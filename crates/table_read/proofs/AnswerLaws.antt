@@ -9,7 +9,9 @@ use lib.IntN.{ℤ, pos}
 use lib.ListN.{length, getD, set}
 use lib.Seq.{sets}
 use borrow.Author.Tests.{le-leb, lt-leb, lt-ltb, le-ltb, leb-true, leb-false, ltb-true, ltb-false}
-use Rattle.terms.specs.Refusals.{fault-at}
+use Rattle.terms.specs.Refusals.{fault-at, refusalIn}
+use Rattle.terms.specs.declared.Fault.{Fault}
+use Rattle.terms.specs.declared.Refusal.{Refusal}
 use Rattle.terms.specs.declared.TableRead.the-variants as tables
 use Rattle.terms.specs.Logic.{both, by-case, zero-one}
 use Rattle.table_spec.specs.Frame.{Rules, frame-legal, longest-body, entry-for}
@@ -84,12 +86,13 @@ module _ (f l : ℤ) (n : ℕ) (s : List ℕ) (space : ℕ) where
 
 -- ---- the public answers
 
-pub read-refused : {f l : ℤ} {n : ℕ} {s : List ℕ} {out : List ℤ} {r : _} → checks.Refused r ≡ toldFirst (readTable f l n s (length out)) → TableSays f l n s out out (tables.Refused r)
+pub read-refused : {f l : ℤ} {n : ℕ} {s : List ℕ} {out : List ℤ} {r : Fault} {q : Refusal} → checks.Refused r ≡ toldFirst (readTable f l n s (length out))
+    → q ≡ refusalIn s (r .number) (r .place) → TableSays f l n s out out (tables.Refused q)
 unfolding stored
-read-refused {f} {l} {n} {s} {out} {r} e = go (readTable f l n s (length out)) e refl
+read-refused {f} {l} {n} {s} {out} {r} {q} e p = go (readTable f l n s (length out)) e refl
   where
-    go : (x : Answer) → checks.Refused r ≡ toldFirst x → readTable f l n s (length out) ≡ x → TableSays f l n s out out (tables.Refused r)
-    go (refuse c a) e h = let z : r ≡ fault-at c a = cc in record { answers = rw (h, z) refl; leaves = rw h refl }
+    go : (x : Answer) → checks.Refused r ≡ toldFirst x → readTable f l n s (length out) ≡ x → TableSays f l n s out out (tables.Refused q)
+    go (refuse c a) e h = let z : r ≡ fault-at c a = cc in record { answers = rw (h, p, z) refl; leaves = rw h refl }
     go (accept ys) e h = zero-one cc
 
 pub first-accepts : (x : Answer) {y : ℤ} → checks.First y ≡ toldFirst x → Accepts x
@@ -100,7 +103,7 @@ pub read-accepted : {f l : ℤ} {n : ℕ} {s : List ℕ} {out out' : List ℤ} �
     → TableSays f l n s out out' (tables.Accepted n)
 read-accepted {f} {l} {n} {s} {out} {out'} a o = record { answers = go (readTable f l n s (length out)) a; leaves = o }
   where
-    go : (x : Answer) → Accepts x → tables.Accepted n ≡ told n x
+    go : (x : Answer) → Accepts x → tables.Accepted n ≡ told n s x
     go (refuse c b) h = absurd h
     go (accept ys) h = refl
 

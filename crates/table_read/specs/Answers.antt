@@ -4,7 +4,7 @@ use mathlib.Core.List.{List}
 use Prim.Native.Nat.{ℕ}
 use lib.IntN.{ℤ}
 use lib.ListN.{length, getD}
-use Rattle.terms.specs.Refusals.{fault-at}
+use Rattle.terms.specs.Refusals.{fault-at, refusalIn}
 use Rattle.terms.specs.declared.TableRead.{TableRead}
 use Rattle.terms.specs.declared.TableRead.the-variants as tables
 use Rattle.table_read.specs.declared.Checked.{Checked}
@@ -12,10 +12,10 @@ use Rattle.table_read.specs.declared.Checked.the-variants as checks
 use Rattle.table_spec.specs.Frame.{entry-for}
 use Rattle.table_spec.specs.Reading.{Answer, refuse, accept, readTable, stored}
 
--- reading a table: the paper's number and place, or N
-abbrev pub told : ℕ → Answer → TableRead
-told n (refuse c a) = tables.Refused (fault-at c a)
-told n (accept ys) = tables.Accepted n
+-- reading a table of N points with the body s: the paper's number and place, with its line and column in the body; or N
+abbrev pub told : ℕ → List ℕ → Answer → TableRead
+told n s (refuse c a) = tables.Refused (refusalIn s c a)
+told n s (accept ys) = tables.Accepted n
 
 -- checking one: the paper's number and place, or the first ordinate as it would stand in the slice
 abbrev pub toldFirst : Answer → Checked
@@ -29,5 +29,5 @@ Accepts (accept ys) = Unit {0}
 
 -- the public contract of reading: F, L and N as they come, the body, the slice before and after, and the answer
 pub record TableSays (f l : ℤ) (n : ℕ) (body : List ℕ) (out out' : List ℤ) (r : TableRead) : Type 0 where
-  pub answers : r ≡ told n (readTable f l n body (length out))
+  pub answers : r ≡ told n body (readTable f l n body (length out))
   pub leaves : out' ≡ stored out (readTable f l n body (length out))

@@ -23,6 +23,7 @@ use table_values::Row;
 use table_values::values;
 use terms::Fault;
 use terms::TableRead;
+use text::refusal_in;
 
 // What a pass over a body answers: all points are there, or a refusal number and place.
 pub enum Passed {
@@ -194,7 +195,7 @@ pub fn read_table(first: i64, last: i64, points: usize, body: &[u8], out: &mut [
     ensures { λ r. ⌜ TableSays first last points (now (body .entry)) (now (out .entry)) (now (out .exit)) r ⌝ }
 {
     match check_table(first, last, points, body, out.len()) {
-        Checked::Refused(r) => TableRead::Refused(r),
+        Checked::Refused(f) => TableRead::Refused(refusal_in(body, f.number, f.place)),
         Checked::First(_) => {
             store_table(first, last, points, body, out);
             TableRead::Accepted(points)

@@ -10,7 +10,7 @@ use Rattle.table_read.proofs.check_table.Reads as reads
 use Rattle.table_read.proofs.check_table.Lts as lts
 use Rattle.frame.proofs.Frame.new.Reads as Frame-new-reads
 use Rattle.table_read.proofs.check_body.Reads as check-body-reads
-use Rattle.terms.proofs.Refusal.new.Reads as Refusal-new-reads
+use Rattle.terms.proofs.Fault.new.Reads as Refusal-new-reads
 
 new-requires : tie.Need-new-requires
 new-requires c κs = search needs

@@ -1,3 +1,4 @@
+-- `table_read::read_table` meets its contract: what checking answered, with line and column; or all ordinates are stored.
 use mathlib.Core.Path.{sym, _∙_}
 use lib.ListN.{length}
 use borrow.Author.Needs.{needs}
@@ -6,16 +7,15 @@ use Rattle.table_spec.specs.Reading.{readTable}
 use Rattle.table_read.proofs.AnswerLaws.{read-refused, first-accepts, read-accepted}
 use Rattle.table_read.proofs.read_table.Statement.{statement}
 use Rattle.table_read.proofs.read_table.Tie as tie
-use Rattle.table_read.proofs.read_table.Reads as reads
-use Rattle.table_read.proofs.read_table.Lts as lts
-use Rattle.table_read.proofs.check_table.Reads as check-table-reads
-use Rattle.table_read.proofs.store_table.Reads as store-table-reads
 
 check-table-requires : tie.Need-check-table-requires
 check-table-requires c κs = search needs
 
-enum-known-r : tie.Need-enum-known-r
-enum-known-r c = search needs
+enum-known-f : tie.Need-enum-known-f
+enum-known-f c = search needs
+
+refusal-in-requires : tie.Need-refusal-in-requires
+refusal-in-requires c κs = search needs
 
 enum-told : tie.Need-enum-told
 enum-told c = search needs
@@ -28,8 +28,9 @@ store-table-requires c κs =
 
 returns : tie.Need-returns
 returns c =
-    let S = c .before .before .before .before .before in
-    let z = rw (toZ-ofZ (S .fits .first), toZ-ofZ (S .fits .last)) at (sym (c .before .r .given .1) ∙ c .before .before .before .check-table .ensures) in read-refused z
+    let S = c .before .before .before .before .before .before in
+    let z = rw (toZ-ofZ (S .fits .first), toZ-ofZ (S .fits .last)) at (sym (c .before .before .f .given .1) ∙ c .before .before .before .before .check-table .ensures) in
+    read-refused z (c .refusal-in .ensures)
 
 same-length : tie.Need-same-length
 same-length c = search needs
@@ -46,7 +47,8 @@ read-table-spec =
     tie.close
     (tie.spec
     check-table-requires
-    enum-known-r
+    enum-known-f
+    refusal-in-requires
     enum-told
     store-table-requires
     returns
