@@ -4,7 +4,7 @@ use Prim.Native.Nat.{_-_}
 use lib.ListN.{length}
 use borrow.Author.Needs.{needs}
 use Rattle.table_values.specs.States.{Went}
-use Rattle.table_values.proofs.Walks.{went-none, went-went, line-start, went-line, went-refused}
+use Rattle.table_values.proofs.Walks.{went-none, went-went, first-state, went-line, went-refused}
 use Rattle.table_values.proofs.values.Statement.{statement}
 use Rattle.table_values.proofs.values.Tie as tie
 use Rattle.table_values.proofs.values.Reads as reads
@@ -14,7 +14,7 @@ use Rattle.table_values.proofs.row_after.Reads as row-after-reads
 use Rattle.table_values.proofs.token.Reads as token-reads
 
 abbrev Inv-loop : tie.InvT-loop
-Inv-loop t s points out₀ at e k want c₀ out c = Went points s (line-start at e k want) c out₀ out × (length out ≡ length out₀)
+Inv-loop t s points out₀ at e k want c₀ out c = Went points s (first-state at e k want) c out₀ out × (length out ≡ length out₀)
 
 abbrev μ-loop : tie.MeasureT-loop
 μ-loop t s points out₀ at e k want c₀ out c = length s - c .at
