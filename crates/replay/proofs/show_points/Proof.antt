@@ -9,10 +9,10 @@ use Rattle.report.proofs.end_line.Reads as end-line-reads
 use Rattle.report.proofs.print_ordinate.Reads as print-ordinate-reads
 
 abbrev Inv-loop : tie.InvT-loop
-Inv-loop out n i₀ t4 i = i ≤ 1024
+Inv-loop out n i₀ t4 i = i ≤ 4096
 
 abbrev μ-loop : tie.MeasureT-loop
-μ-loop out n i₀ t4 i = 1024 - i
+μ-loop out n i₀ t4 i = 4096 - i
 
 loop-holds : tie.Need-loop-holds Inv-loop μ-loop
 loop-holds c = search needs

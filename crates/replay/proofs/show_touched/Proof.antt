@@ -7,10 +7,10 @@ use Rattle.replay.proofs.show_touched.Lts as lts
 use Rattle.io.proofs.write_all.Reads as write-all-reads
 
 abbrev Inv-loop : tie.InvT-loop
-Inv-loop out n i₀ t4 i = i ≤ 1024
+Inv-loop out n i₀ t4 i = i ≤ 4096
 
 abbrev μ-loop : tie.MeasureT-loop
-μ-loop out n i₀ t4 i = 1024 - i
+μ-loop out n i₀ t4 i = 4096 - i
 
 loop-holds : tie.Need-loop-holds Inv-loop μ-loop
 loop-holds c = search needs
