@@ -1,12 +1,8 @@
+-- `replay::show_points` meets its contract: the first n ordinates, and the line's end.
 use Prim.Native.Nat.{_≤_, _-_}
 use borrow.Author.Needs.{needs}
 use Rattle.replay.proofs.show_points.Statement.{statement}
 use Rattle.replay.proofs.show_points.Tie as tie
-use Rattle.replay.proofs.show_points.Reads as reads
-use Rattle.replay.proofs.show_points.Lts as lts
-use Rattle.io.proofs.write_all.Reads as write-all-reads
-use Rattle.report.proofs.end_line.Reads as end-line-reads
-use Rattle.report.proofs.print_ordinate.Reads as print-ordinate-reads
 
 abbrev Inv-loop : tie.InvT-loop
 Inv-loop out n i₀ t4 i = i ≤ 4096
