@@ -1,5 +1,5 @@
-"""A separate writer after the rules of document 01 ("The written text"), for the texts of tables.txt: it uses no output of
-the one in Rattle. tools/samples runs it."""
+"""A separate writer after the rules of document 01 ("The written text"), for the texts of tables.txt: it uses no output
+of the one in Rattle. tools/samples runs it."""
 from fractions import Fraction
 from math import floor
 

@@ -1,5 +1,5 @@
-# For scripts that link the proved library: sets LIB, its archive, unless the caller has set it. The archive is made anew,
-# so that it is never an old one. To be sourced in the repository's root.
+# For scripts that link the proved library: sets LIB, its archive, unless the caller has set it. The archive is made
+# anew, so that it is never an old one. To be sourced in the repository's root.
 if [ -z "${LIB:-}" ]; then
     rt staticlib host >&2
     LIB=target/staticlib/libhost.a

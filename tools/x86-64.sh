@@ -1,5 +1,5 @@
-# For scripts that build C hosts: sets CC, a compiler for static x86-64 programs, CFLAGS, and RUN, what runs them (nothing
-# on x86-64, an emulator on Arm). Installs a missing compiler. To be sourced in the repository's root.
+# For scripts that build C hosts: sets CC and CFLAGS, a compiler of static x86-64 programs, and RUN, what runs them
+# (nothing on x86-64, an emulator on Arm). Installs a missing compiler. To be sourced in the repository's root.
 . tools/kit.sh
 
 # Installs Debian packages, quietly; says so if that fails.

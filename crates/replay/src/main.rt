@@ -1,6 +1,6 @@
-// Runs the samples of samples/ and the stored cases of the second reader (second/README.md, "The stored cases"): tables to
-// read, tables to write and read back, and files to read. Standard input has the cases, the file stdout their answers.
-// Lent memory is filled first; a line `touched` tells that an entry past the answer was altered.
+// Runs the samples of samples/ and the stored cases of the second reader (second/README.md, "The stored cases"): tables
+// to read, tables to write and read back, and files to read. Standard input has the cases, the file stdout their
+// answers. Lent memory is filled first; a line `touched` tells that an entry past the answer was altered.
 use file_spec::FileRead;
 use file_spec::FileTable;
 use terms::Refusal;
