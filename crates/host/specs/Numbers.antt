@@ -7,7 +7,7 @@ use native.Mathlib.Omega.{arith}
 use lib.Dec.{leb}
 use lib.ListN.{length}
 use Rattle.terms.specs.declared.Refusal.{Refusal}
-use Rattle.label_spec.specs.Shared.{picked}
+use Rattle.label_spec.specs.SharedLaws.{picked}
 use Rattle.label_spec.specs.Names.{sames, TITLE, END}
 use Rattle.label_spec.specs.Labels.{Walk, over, bad, label, from, hashed}
 use Rattle.label_spec.specs.Space.{pastSpace}
