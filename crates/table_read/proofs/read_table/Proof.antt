@@ -6,10 +6,6 @@ use Rattle.table_spec.specs.Reading.{readTable}
 use Rattle.table_read.proofs.AnswerLaws.{read-refused, first-accepts, read-accepted}
 use Rattle.table_read.proofs.read_table.Statement.{statement}
 use Rattle.table_read.proofs.read_table.Tie as tie
-use Rattle.table_read.proofs.read_table.Reads as reads
-use Rattle.table_read.proofs.read_table.Lts as lts
-use Rattle.table_read.proofs.check_table.Reads as check-table-reads
-use Rattle.table_read.proofs.store_table.Reads as store-table-reads
 
 check-table-requires : tie.Need-check-table-requires
 check-table-requires c κs = search needs
