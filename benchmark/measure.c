@@ -17,9 +17,7 @@ static const struct {
     const char *name;
     table_reader *function;
 } readers[] = {
-#ifdef HAVE_READ_TABLE
     {"read-library", lastarunc_read_table},
-#endif
     {"read-two", c_read_table},
     {"read-decode", c_read_table_then_decode},
     {"read-one", c_read_table_scratch},
@@ -32,10 +30,8 @@ static const struct {
     table_writer *function;
     bool roomy;
 } writers[] = {
-#ifdef HAVE_WRITE_TABLE
     {"write-library", lastarunc_write_table, false},
     {"write-library-roomy", lastarunc_write_table, true},
-#endif
     {"write-two", c_write_table, false},
     {"write-unchecked", c_write_table_unchecked, false},
 };
@@ -71,7 +67,7 @@ static void run_writer(const char *name, table_writer *write, const struct table
         wrong(name);
 }
 
-#ifdef HAVE_READ_FILE
+/* Reads a file TIMES times. */
 static void run_file(const uint8_t *file, size_t length, size_t wanted, long times)
 {
     int32_t *out = malloc(wanted * sizeof *out);
@@ -93,7 +89,6 @@ static void run_labels(size_t length, long times)
         if (lastarunc_read_file(file, length, &out, 1, &place, &points, &first, &last) != 25)
             wrong("labels");
 }
-#endif
 
 /* Runs the named function; false if there is none of that name. */
 static bool run(const char *name, const char *table, const char *times)
@@ -104,20 +99,14 @@ static bool run(const char *name, const char *table, const char *times)
         uint8_t *file = make_file(points, &length);
         if (size)
             printf("%zu %zu\n", length, points);
-#ifdef HAVE_READ_FILE
         else if (!strcmp(name, "read-library-table"))
             run_reader(name, lastarunc_read_table, make_file_table(points), atol(times));
         else
             run_file(file, length, points, atol(times));
         return true;
-#endif
-        (void)file;
-        return size;
     }
-#ifdef HAVE_READ_FILE
     if (!strncmp(table, "labels-", 7))
         return run_labels(strtoul(table + 7, NULL, 10), atol(times)), true;
-#endif
     struct table *t = make_table(table);
     if (!t)
         return false;

@@ -3,9 +3,8 @@
  * (second/README.md), gives each case to the functions of include/lastarunc.h, and compares number, place, count, every
  * entry of lent memory, and that what is only lent to be read is unaltered.
  *
- * -DHAVE_READ_TABLE, -DHAVE_WRITE_TABLE, -DHAVE_READ_FILE, -DHAVE_FIND_RECORD say which functions the library has; cases
- * for others are counted as not compared. -DCOMPARE_C compares the C reader and writer of benchmark/c_table.c instead, and
- * -DREADER=NAME takes another reader of it.
+ * -DCOMPARE_C compares the C reader and writer of benchmark/c_table.c instead, which have tables only, and -DREADER=NAME
+ * takes another reader of it.
  */
 #include "lastarunc.h"
 
@@ -21,8 +20,6 @@
 #define READER c_read_table
 #endif
 #define WRITER c_write_table
-#define HAVE_READ_TABLE
-#define HAVE_WRITE_TABLE
 #else
 #define READER lastarunc_read_table
 #define WRITER lastarunc_write_table
@@ -121,7 +118,7 @@ static uint8_t *filled_bytes(size_t n)
 /* ---- Counting and telling ---- */
 
 static unsigned long passed, failed;
-static unsigned long counts[256][MOST_NUMBERS], not_compared[256];
+static unsigned long counts[256][MOST_NUMBERS];
 static unsigned long case_number;
 
 /* Says a text that may hold any byte, cut to a readable length. */
@@ -209,7 +206,7 @@ static void compare_body(void)
     uint32_t number = take_u32();
     uint64_t place = take_u64(), count = take_u64();
     int32_t *expected = take_ordinates(count);
-#ifdef HAVE_READ_TABLE
+
     uint8_t *lent = copy_of(body, length);
     int32_t *out = filled_ordinates(room);
     uint64_t answer_place = UINT64_MAX;
@@ -234,10 +231,6 @@ static void compare_body(void)
     }
     free(lent);
     free(out);
-#else
-    (void)first, (void)last, (void)points, (void)room, (void)number, (void)place;
-    not_compared['B']++;
-#endif
     free(body);
     free(expected);
 }
@@ -251,7 +244,7 @@ static void compare_write(void)
     uint32_t room = take_u32(), number = take_u32();
     uint64_t place = take_u64(), length = take_u64();
     uint8_t *expected = take_bytes(length);
-#ifdef HAVE_WRITE_TABLE
+
     int32_t *lent = copy_of(ordinates, n * sizeof *ordinates);
     uint8_t *text = filled_bytes(room);
     uint64_t answer_length = UINT64_MAX;
@@ -276,14 +269,11 @@ static void compare_write(void)
     }
     free(lent);
     free(text);
-#else
-    (void)first, (void)last, (void)points, (void)room, (void)number, (void)place;
-    not_compared['W']++;
-#endif
     free(ordinates);
     free(expected);
 }
 
+#ifndef COMPARE_C
 static void compare_file(void)
 {
     uint32_t room = take_u32(), length = take_u32();
@@ -292,7 +282,7 @@ static void compare_file(void)
     uint64_t place = take_u64(), points = take_u64();
     int64_t first = (int64_t)take_u64(), last = (int64_t)take_u64();
     int32_t *expected = take_ordinates(points);
-#ifdef HAVE_READ_FILE
+
     uint8_t *lent = copy_of(file, length);
     int32_t *out = filled_ordinates(room);
     uint64_t answer_place = UINT64_MAX, answer_points = UINT64_MAX;
@@ -323,10 +313,6 @@ static void compare_file(void)
     }
     free(lent);
     free(out);
-#else
-    (void)room, (void)number, (void)place, (void)first, (void)last;
-    not_compared['F']++;
-#endif
     free(file);
     free(expected);
 }
@@ -341,7 +327,7 @@ static void compare_record(void)
     if (number == UINT32_MAX)
         number = LASTARUNC_ABSENT;
     uint64_t from = take_u64(), to = take_u64();
-#ifdef HAVE_FIND_RECORD
+
     uint8_t *lent = copy_of(file, length), *lent_name = copy_of(name, name_length);
     uint64_t answer_from = UINT64_MAX, answer_to = UINT64_MAX;
     uint64_t answer = lastarunc_find_record(lent, length, lent_name, name_length, &answer_from, &answer_to);
@@ -361,13 +347,10 @@ static void compare_record(void)
     }
     free(lent);
     free(lent_name);
-#else
-    (void)number, (void)from, (void)to;
-    not_compared['R']++;
-#endif
     free(file);
     free(name);
 }
+#endif
 
 /* Says how often each answer was expected, by kind of case. */
 static void show_counts(void)
@@ -380,8 +363,6 @@ static void show_counts(void)
         unsigned long all = 0;
         for (int number = 0; number < MOST_NUMBERS; number++)
             all += counts[kinds[k].kind][number];
-        if (not_compared[kinds[k].kind])
-            printf("%s: %lu cases not compared\n", kinds[k].name, not_compared[kinds[k].kind]);
         if (!all)
             continue;
         printf("%s: %lu cases;", kinds[k].name, all);
@@ -408,12 +389,14 @@ int main(void)
         case 'W':
             compare_write();
             break;
+#ifndef COMPARE_C
         case 'F':
             compare_file();
             break;
         case 'R':
             compare_record();
             break;
+#endif
         default:
             fprintf(stderr, "compare: no such kind of case: %d\n", kind);
             return 2;

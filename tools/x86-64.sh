@@ -1,5 +1,6 @@
-# For scripts that build C hosts: sets CC, a compiler for static x86-64 programs, and RUN, what runs them (nothing on
-# x86-64, the kit's emulator on Arm). Installs a missing compiler. To be sourced.
+# For scripts that build C hosts: sets CC and CFLAGS, a compiler of static x86-64 programs, and RUN, what runs them
+# (nothing on x86-64, an emulator on Arm). Installs a missing compiler. To be sourced in the repository's root.
+. tools/kit.sh
 
 # Installs Debian packages, quietly; says so if that fails.
 install_packages() {
@@ -20,12 +21,11 @@ if [ "$(uname -m)" = x86_64 ]; then
     command -v gcc > /dev/null || install_packages gcc libc6-dev
 else
     CC=x86_64-linux-gnu-gcc
-    RUN=/opt/rattle/on/$(uname -m)/toolchain/bin/qemu-x86_64
     command -v "$CC" > /dev/null || install_packages gcc-x86-64-linux-gnu libc6-dev-amd64-cross
-    if [ ! -x "$RUN" ]; then
-        RUN=$(command -v qemu-x86_64 || true)
-        [ -n "$RUN" ] || install_packages qemu-user
-        RUN=$(command -v qemu-x86_64)
+    if [ -z "$emulator" ]; then
+        command -v qemu-x86_64 > /dev/null || install_packages qemu-user
+        emulator=$(command -v qemu-x86_64)
     fi
+    RUN=$emulator
 fi
 CFLAGS="-std=gnu11 -O3 -Wall -Wextra -Werror -static"

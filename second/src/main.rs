@@ -17,15 +17,15 @@ use std::process::exit;
 
 /// Most bytes and points that 01's program takes (01, Bench samples).
 const PROGRAM_BYTES: usize = 49_152;
-const PROGRAM_POINTS: usize = 4_096;
+const PROGRAM_POINTS: u64 = 4_096;
 
 /// Prints how the program is used, and ends it.
 fn usage() -> ! {
     eprintln!("second cases --seed S --bodies A --writes B --files C > stream");
     eprintln!("second stored --seed S --bodies A --writes B --files C --cases PATH --answers PATH");
     eprintln!("second count < stream");
-    eprintln!("second body F L N < body");
-    eprintln!("second file [--whole] < file    (--whole: the library's limits, not the program's)");
+    eprintln!("second body F L N [--room R] < body");
+    eprintln!("second file [--whole] [--room R] < file    (--whole: the library's limits, not the program's)");
     eprintln!("second selftest");
     exit(2)
 }
@@ -82,9 +82,10 @@ fn stored_command(arguments: &[String]) -> io::Result<()> {
 
 /// Reads a body from standard input.
 fn body_command(arguments: &[String]) -> io::Result<()> {
-    let [first, last, points] = arguments else { usage() };
+    let [first, last, points, ..] = arguments else { usage() };
     let (Ok(first), Ok(last), Ok(points)) = (first.parse(), last.parse(), points.parse()) else { usage() };
-    let ordinates = body::read_body(first, last, points, &input()?, usize::MAX);
+    let room = option(arguments, "--room", u64::MAX) as usize;
+    let ordinates = body::read_body(first, last, points, &input()?, room);
     print_answer(ordinates.map(|list| (points, first, last, list)));
     Ok(())
 }
@@ -97,7 +98,7 @@ fn file_command(arguments: &[String]) -> io::Result<()> {
         print_answer(Err(frame::refusal(19, 0)));
         return Ok(());
     }
-    let room = if whole { usize::MAX } else { PROGRAM_POINTS };
+    let room = option(arguments, "--room", if whole { u64::MAX } else { PROGRAM_POINTS }) as usize;
     print_answer(file::read_file(&file, room).map(|t| (t.points, t.first, t.last, t.ordinates)));
     Ok(())
 }

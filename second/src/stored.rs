@@ -9,7 +9,8 @@ use crate::stream::{BodyCase, FileCase, WriteCase};
 use crate::text::write_body;
 use std::io::{self, Write};
 
-/// Most bytes of a body, a text or a file, and most ordinates lent and given, that crates/replay has room for.
+/// Most bytes of a body, a text or a file, and most ordinates lent and given, of a stored case; crates/replay has room
+/// for them.
 const MOST_BYTES: usize = 4_096;
 const MOST_LENT: u32 = 1_024;
 const MOST_GIVEN: usize = 256;
@@ -58,7 +59,7 @@ impl<C: Write, A: Write> Stored<C, A> {
         }
     }
 
-    /// A table to write and its answer.
+    /// A table to write and its answer; crates/replay reads each text back, and it is always the same table.
     fn table(&mut self, case: &WriteCase) -> io::Result<()> {
         self.put_header(2, &case.frame, case.room, case.ordinates.len())?;
         for y in &case.ordinates {
@@ -67,7 +68,7 @@ impl<C: Write, A: Write> Stored<C, A> {
         let Frame { first, last, points } = case.frame;
         match write_body(first, last, points, &case.ordinates, case.room as usize) {
             Ok(text) => {
-                writeln!(self.answers, "ok {}", text.len())?;
+                writeln!(self.answers, "ok {} same", text.len())?;
                 self.answers.write_all(&text)?;
                 writeln!(self.answers)
             }

@@ -1,16 +1,15 @@
 -- What reading a run of digits ensures, and what that says of the run. Assumes nothing.
 use mathlib.Core.Path.{_≡_, refl, sym, ap, _∙_}
-use mathlib.Core.Bool.{Bool, true, false}
-use mathlib.Core.List.{List, [], _∷_}
-use Prim.Native.Nat.{ℕ, zero, suc, _+_, _-_, _*_, _^_, _≤_, _<_}
+use mathlib.Core.List.{List}
+use Prim.Native.Nat.{ℕ, suc, _+_, _-_, _*_, _^_, _≤_, _<_}
 use native.Mathlib.Omega.{arith}
 use native.Mathlib.Numerals.{add-one}
 use native.Mathlib.Nat.{add-zero, zero-add, add-suc, suc-add, pow-suc, pow-le-pow-right, mul-le-mul-left, mul-assoc}
 use lib.Dec.{ltb, lit<}
 use lib.ListN.{length, drop}
-use borrow.Author.Tests.{lt-ltb, le-ltb, ltb-true, ltb-false}
+use borrow.Author.Tests.{ltb-true, ltb-false}
 use Rattle.terms.specs.Logic.{pick, by-case}
-use Rattle.alphabet_spec.specs.Digits.{Run, long, run, oneMore, digits}
+use Rattle.alphabet_spec.specs.Digits.{long, run, digits}
 use Rattle.alphabet_spec.specs.Entries.{entryAt}
 use Rattle.alphabet_spec.specs.DigitLaws.{digits-stop, digits-on, digit-at}
 

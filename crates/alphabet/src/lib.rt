@@ -1,7 +1,7 @@
 // The alphabet of a table (01, "Values"): the byte table and the one loop that reads digits. The functions here are inner ones: they are lent the table, which the outermost
 // function builds once.
 ghost use mathlib.Core.Path.{_≡_};
-ghost use Prim.Native.Nat.{ℕ, _+_, _*_, _^_, _<_, _≤_};
+ghost use Prim.Native.Nat.{_+_, _*_, _^_, _<_, _≤_};
 ghost use lib.ListN.{length};
 ghost use Rattle.alphabet_spec.specs.Entries.{«entry», entryAt, table};
 ghost use Rattle.alphabet.specs.Ran.{Ran};

@@ -13,7 +13,8 @@ use Rattle.alphabet_spec.specs.Kinds.{tabs-too}
 use Rattle.alphabet_spec.specs.Digits.{run, oneMore, digits}
 use Rattle.alphabet_spec.specs.Bytes.{Byte, digit, lead, sign, quest, blank, point, lf, cr, dollar, other, kind}
 use Rattle.alphabet_spec.specs.KindLaws.{Back, kind-back, isDigit, back-digit, digit-within}
-use Rattle.alphabet_spec.specs.Entries.{code, entry, entryAt, kindOf, at-kind, at-entry, entry-in}
+use Rattle.alphabet_spec.specs.Entries.{code, entry, entryAt, kindOf}
+use Rattle.alphabet_spec.specs.EntryLaws.{at-kind, at-entry, entry-in}
 
 -- the entry of a digit is the digit
 pub digit-at : (s : List ℕ) (i : ℕ) → entryAt s i < 16 → (i < length s) × (getD s i 0 ≡ 48 + entryAt s i) × (entryAt s i < 10)

@@ -4,6 +4,7 @@ pub mod Bytes
 pub mod SpelledDigits
 pub mod KindLaws
 pub mod SpelledDigitLaws
-pub mod Every
+pub mod EveryLaws
 pub mod Entries
+pub mod EntryLaws
 pub mod DigitLaws

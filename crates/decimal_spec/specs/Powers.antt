@@ -5,7 +5,7 @@ use mathlib.Core.List.{List, [], _∷_}
 use Prim.Native.Nat.{ℕ, _^_, _<_}
 use lib.Dec.{eqb, eqb→eq}
 use lib.ListN.{getD}
-use Rattle.alphabet_spec.specs.Every.{at}
+use Rattle.alphabet_spec.specs.EveryLaws.{at}
 
 -- the table: the powers that the division needs, ten to the 0 to ten to the 18
 unfoldable pub powers : List ℕ

@@ -19,7 +19,6 @@ use Rattle.file_spec.specs.declared.Needed.{Needed}
 use Rattle.file_spec.specs.declared.Decimal.{Decimal}
 use Rattle.file_spec.specs.declared.Given.{Given}
 use Rattle.file_spec.specs.declared.Given.the-variants as given
-use Rattle.file_spec.specs.declared.Numbers.{Numbers}
 use Rattle.file_spec.specs.declared.Figures.{Figures}
 use Rattle.file_spec.specs.declared.Figures.the-variants as figures
 use Rattle.file_spec.specs.Texts.{markOf}

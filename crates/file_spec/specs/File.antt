@@ -1,10 +1,9 @@
 -- 01, "The file": what a file says. "Order: 19; 21; then 20, 22, 23, 24 in one walk; 25; 26 in the order that 25 lists; 27; 28 (F first); 1 to 13 on the body; 29." Assumes nothing.
-use mathlib.Core.Bool.{Bool, true, false}
-use mathlib.Core.List.{List, [], _∷_, map}
+use mathlib.Core.List.{List, map}
 use Prim.Native.Nat.{ℕ, suc, _+_, _-_}
-use lib.Dec.{ltb, leb}
+use lib.Dec.{leb}
 use lib.IntN.{ℤ}
-use lib.ListN.{length, getD, take, drop}
+use lib.ListN.{getD, take, drop}
 use lib.Seq.{sets}
 use Rattle.terms.specs.Logic.{pick}
 use Rattle.terms.specs.Refusals.{refusal}
@@ -13,7 +12,6 @@ use Rattle.table_spec.specs.Reading.{Answer, refuse, accept, readTable}
 use Rattle.label_spec.specs.File.{labelled}
 use Rattle.label_spec.specs.declared.Labelled.{Labelled}
 use Rattle.decimal_spec.specs.declared.Rounded.{Rounded}
-use Rattle.file_spec.specs.declared.Span.{Span}
 use Rattle.file_spec.specs.declared.Needed.{Needed}
 use Rattle.file_spec.specs.declared.Gathered.{Gathered}
 use Rattle.file_spec.specs.declared.Gathered.the-variants as gathered
@@ -22,7 +20,6 @@ use Rattle.file_spec.specs.declared.Figures.{Figures}
 use Rattle.file_spec.specs.declared.Figures.the-variants as figures
 use Rattle.file_spec.specs.declared.Listed.{Listed}
 use Rattle.file_spec.specs.declared.Listed.the-variants as listed
-use Rattle.file_spec.specs.declared.FileTable.{FileTable}
 use Rattle.file_spec.specs.declared.FileRead.{FileRead}
 use Rattle.file_spec.specs.declared.FileRead.the-variants as reads
 use Rattle.file_spec.specs.Texts.{gatheredFrom, markOf, listedIn}

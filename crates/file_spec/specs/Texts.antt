@@ -1,7 +1,7 @@
 -- 01, "The file": the seven records, where a fault in one stands, and the list of XYDATA. Assumes nothing.
 use mathlib.Core.Bool.{Bool, true, false}
 use mathlib.Core.List.{List, [], _∷_}
-use Prim.Native.Nat.{ℕ, suc, _+_}
+use Prim.Native.Nat.{ℕ, suc}
 use lib.Dec.{eqb}
 use lib.ListN.{length, getD, drop, take}
 use Rattle.terms.specs.Logic.{pick, both}
@@ -10,7 +10,6 @@ use Rattle.label_spec.specs.Labels.{from}
 use Rattle.label_spec.specs.Records.{recordOf}
 use Rattle.label_spec.specs.declared.Found.{Found}
 use Rattle.file_spec.specs.declared.Span.{Span}
-use Rattle.file_spec.specs.declared.Needed.{Needed}
 use Rattle.file_spec.specs.declared.Gathered.{Gathered}
 use Rattle.file_spec.specs.declared.Gathered.the-variants as gathered
 use Rattle.file_spec.specs.declared.Listed.{Listed}

@@ -10,7 +10,7 @@ use lib.ListN.{length, getD, drop, drop-of-length-le}
 use lib.Seq.{drop-cons}
 use borrow.Author.Tests.{eq-eqb, ne-eqb, leb-true, leb-false}
 use Rattle.terms.specs.Logic.{pick, by-case}
-use Rattle.label_spec.specs.Shared.{first-byte}
+use Rattle.label_spec.specs.SharedLaws.{first-byte}
 use Rattle.file_spec.specs.Texts.{spacing, firstMark, LIST, ended, matched, listedAs}
 use Rattle.file_spec.specs.declared.Listed.the-variants as listed
 use Rattle.file_texts.specs.Spans.{listStep, listedWithin}

@@ -1,20 +1,19 @@
 -- From the tests of the code to the limits of the frame, and that the head check holds in 64 bits. No place of the code is named here. Assumes nothing.
-use mathlib.Core.Path.{_≡_, refl, sym, ap, _∙_, subst}
+use mathlib.Core.Path.{_≡_, refl, sym}
 use mathlib.Core.Bool.{Bool, true, false, not, Bool·beq}
-use Prim.Native.Nat.{ℕ, zero, suc, _+_, _-_, _*_, _<_, _≤_}
+use Prim.Native.Nat.{ℕ, suc, _+_, _-_, _*_, _<_, _≤_}
 use native.Mathlib.Omega.{arith}
 use native.Mathlib.Nat.{mul-le-mul, mul-comm}
-use lib.Dec.{ltb, leb, eqb}
-use lib.IntN.{ℤ, pos, negsuc, natAbs}
+use lib.Dec.{ltb, eqb}
+use lib.IntN.{ℤ, pos, negsuc}
 use lib.Signed.{mag, ltZ}
 use mir.Syntax.{w64}
 use mir.Val.{SFits}
-use borrow.Author.Tests.{ltb-true, ltb-false, leb-true, leb-false, le-leb, lt-leb, lt-ltb, eq-eqb, ne-eqb}
-use Rattle.terms.specs.Logic.{pick, both, by-case, no-way}
-use Rattle.table_spec.specs.Frame.{frame-legal, abscissa, abscissa-legal, points-legal, lift, zero-abscissa, passes, apart}
+use borrow.Author.Tests.{ltb-true, ltb-false, le-leb, lt-leb, eq-eqb, ne-eqb}
+use Rattle.terms.specs.Logic.{pick, by-case, no-way}
+use Rattle.table_spec.specs.Frame.{frame-legal, abscissa, abscissa-legal, zero-abscissa, passes, apart}
 use Rattle.signed.specs.Scale.{lift-small}
 use Rattle.frame.specs.declared.Frame.{Frame}
-use Rattle.frame.specs.declared.Framed.{Framed}
 use Rattle.frame.specs.declared.Framed.the-variants.{Legal, Outside}
 use Rattle.frame.specs.Legal.{framed, lifted, Sound}
 use Rattle.frame.specs.FrameLaws.{legal-abscissa}

@@ -1,15 +1,14 @@
 -- What the answer of the frame's constructor says of F, L and N. Assumes nothing.
-use mathlib.Core.Path.{_≡_, refl, sym, ap, _∙_, subst}
-use mathlib.Core.Bool.{Bool, true, false}
-use Prim.Native.Nat.{ℕ, suc, _+_, _<_, _≤_}
+use mathlib.Core.Path.{_≡_, refl}
+use mathlib.Core.Bool.{true, false}
+use Prim.Native.Nat.{ℕ, suc, _<_}
 use native.Mathlib.Omega.{arith}
 use lib.Dec.{leb}
 use lib.IntN.{ℤ, pos, negsuc}
 use borrow.Author.Tests.{leb-true}
 use Rattle.terms.specs.Logic.{pick, by-case, zero-one, both-true}
-use Rattle.table_spec.specs.Frame.{frame-legal, abscissa, abscissa-legal, points-legal}
+use Rattle.table_spec.specs.Frame.{frame-legal, abscissa, abscissa-legal}
 use Rattle.frame.specs.declared.Frame.{Frame}
-use Rattle.frame.specs.declared.Framed.{Framed}
 use Rattle.frame.specs.declared.Framed.the-variants.{Legal, Outside}
 use Rattle.frame.specs.Legal.{framed, Sound}
 

@@ -1,6 +1,6 @@
 // The frame of a table (01, "The frame of a table"): its limits, the constructor that refuses, and the check of a head.
 ghost use mathlib.Core.Path.{_≡_};
-ghost use Prim.Native.Nat.{ℕ, _<_, _≤_};
+ghost use Prim.Native.Nat.{_<_, _≤_};
 ghost use Rattle.table_spec.specs.Frame.{passes, apart};
 ghost use Rattle.frame.specs.Legal.{framed, lifted, Sound};
 

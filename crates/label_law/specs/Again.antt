@@ -10,7 +10,7 @@ use borrow.Author.Tests.{lt-ltb, le-ltb}
 use Rattle.label_spec.specs.declared.Spot.{Spot}
 use Rattle.label_spec.specs.declared.Spot.the-variants.{Place, Nowhere}
 use Rattle.terms.specs.Logic.{pick}
-use Rattle.label_spec.specs.Shared.{picked}
+use Rattle.label_spec.specs.SharedLaws.{picked}
 use Rattle.label_spec.specs.Names.{norm, blank}
 use Rattle.label_spec.specs.Labels.{Walk, over, bad, label, longestName, eqIn, headed, step, walk, from}
 use Rattle.label_spec.specs.File.{member, twice, judged}

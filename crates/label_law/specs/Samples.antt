@@ -302,5 +302,6 @@ unfolding labelled afterTitle opened openedAt titled hashed placed judged twice 
 samples-hold = refl
 
 pub searches-hold : findings searches ≡ results searches
-unfolding recordFor recordIn asRecord recordOf markOf labelled afterTitle opened openedAt titled hashed placed judged twice member from walk step headed eqIn past pastAt space opens blank ignored upper norm sames TITLE END
+unfolding recordFor recordIn asRecord recordOf markOf labelled afterTitle opened openedAt titled hashed placed judged twice member from walk step headed eqIn past pastAt space
+    opens blank ignored upper norm sames TITLE END
 searches-hold = refl

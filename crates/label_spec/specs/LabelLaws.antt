@@ -15,7 +15,7 @@ use Rattle.label_spec.specs.declared.Spot.the-variants.{Place, Nowhere}
 use Rattle.label_spec.specs.declared.Label.{Label}
 use Rattle.label_spec.specs.declared.Label.the-variants.{At, Bad, None}
 use Rattle.terms.specs.Logic.{pick, no-way, both-true}
-use Rattle.label_spec.specs.Shared.{pick-same, first-byte}
+use Rattle.label_spec.specs.SharedLaws.{pick-same, first-byte}
 use Rattle.label_spec.specs.Names.{blank, nameIn}
 use Rattle.label_spec.specs.Labels.{Walk, over, bad, label, longestName, eqIn, headed, step, walk, from, hashed}
 

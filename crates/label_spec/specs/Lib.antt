@@ -4,7 +4,7 @@ pub mod Space
 pub mod File
 pub mod Records
 pub mod Scans
-pub mod Shared
+pub mod SharedLaws
 pub mod NameLaws
 pub mod LabelLaws
 pub mod SpaceLaws

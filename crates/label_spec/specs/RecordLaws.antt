@@ -7,7 +7,7 @@ use lib.Dec.{leb}
 use lib.ListN.{length, take, drop}
 use Rattle.label_spec.specs.declared.Spot.{Spot}
 use Rattle.label_spec.specs.declared.Spot.the-variants.{Place, Nowhere}
-use Rattle.label_spec.specs.Shared.{picked}
+use Rattle.label_spec.specs.SharedLaws.{picked}
 use Rattle.label_spec.specs.Names.{norm}
 use Rattle.label_spec.specs.Labels.{Walk, longestName, headed, from, hashed}
 use Rattle.label_spec.specs.LabelLaws.{eqAt, label-is}

@@ -10,7 +10,7 @@ use lib.ListN.{length, getD, drop, drop-of-length-le}
 use lib.Seq.{drop-cons}
 use borrow.Author.Tests.{eq-eqb, ne-eqb}
 use Rattle.terms.specs.Logic.{pick}
-use Rattle.label_spec.specs.Shared.{first-byte}
+use Rattle.label_spec.specs.SharedLaws.{first-byte}
 use Rattle.label_spec.specs.Names.{blank}
 use Rattle.label_spec.specs.Space.{space, opens, past, pastAt}
 

@@ -1,10 +1,20 @@
-// Replays stored cases (second/README.md, "The stored cases"): tables to read, tables to write and files to read, with the answers of the second reader as the expected output.
-// Lent memory is filled first; a line `touched` tells that an entry past the answer was altered.
+// Runs the samples of samples/ and the stored cases of the second reader (second/README.md, "The stored cases"): tables
+// to read, tables to write and read back, and files to read. Standard input has the cases, the file stdout their
+// answers. Lent memory is filled first; a line `touched` tells that an entry past the answer was altered.
 use file_spec::FileRead;
 use file_spec::FileTable;
 use terms::Refusal;
 use terms::TableRead;
 use terms::TableWritten;
+
+// Room for the ordinates of a table or a file that is read.
+const READ: usize = 4096;
+
+// Room for the ordinates of a table that is written.
+const WRITTEN: usize = 20000;
+
+// What ordinates are filled with first; no case has it.
+const FILL: i32 = -1234567891;
 
 // What stands before each case: F, L and N, the room that is lent, and how many bytes or ordinates follow.
 struct Asked {
@@ -68,9 +78,9 @@ fn take_ordinates(ys: &mut [i32], n: usize) {
 }
 
 // The first n ordinates, and the line's end.
-fn show_points(out: &[i32; 1024], n: usize) {
+fn show_points(out: &[i32; READ], n: usize) {
     let mut i = 0;
-    while i < 1024 {
+    while i < READ {
         if i < n {
             io::write_all(1, b" ");
             report::print_ordinate(out[i]);
@@ -81,11 +91,11 @@ fn show_points(out: &[i32; 1024], n: usize) {
 }
 
 // A line if an ordinate from index n on is not what the slice was filled with.
-fn show_touched(out: &[i32; 1024], n: usize) {
+fn show_touched(out: &[i32; READ], n: usize) {
     let mut i = 0;
-    while i < 1024 {
+    while i < READ {
         if i >= n {
-            if out[i] != -1234567891 {
+            if out[i] != FILL {
                 io::write_all(1, b"touched\n");
                 return;
             }
@@ -108,16 +118,45 @@ fn show_touched_text(text: &[u8], n: usize) {
     }
 }
 
-// The first n bytes of a text, and a line's end.
-fn show_text(text: &[u8], n: usize) {
+// Are the first n ordinates those read back?
+fn same(ys: &[i32], back: &[i32], n: usize) -> bool {
+    let mut i = 0;
+    while i < n {
+        if i >= ys.len() || i >= back.len() {
+            return false;
+        }
+        if ys[i] != back[i] {
+            return false;
+        }
+        i += 1;
+    }
+    true
+}
+
+// Does reading the text in the frame it was written in give back the ordinates?
+fn reads_back(a: Asked, ys: &[i32], text: &[u8]) -> bool {
+    let mut back = [FILL; WRITTEN];
+    match table_read::read_table(a.first, a.last, a.points, text, &mut back) {
+        TableRead::Accepted(n) => n == a.points && same(ys, &back, n),
+        TableRead::Refused(_) => false,
+    }
+}
+
+// The text in the first n bytes: whether it reads back, and from the next line on itself.
+fn show_text(a: Asked, ys: &[i32], text: &[u8], n: usize) {
     if n <= text.len() {
+        if reads_back(a, ys, &text[0..n]) {
+            io::write_all(1, b" same\n");
+        } else {
+            io::write_all(1, b" differs\n");
+        }
         io::write_all(1, &text[0..n]);
     }
     report::end_line();
 }
 
 // The answer to a body: `ok`, the points and the ordinates, or the refusal.
-fn show_read(answer: TableRead, out: &[i32; 1024]) {
+fn show_read(answer: TableRead, out: &[i32; READ]) {
     match answer {
         TableRead::Accepted(n) => {
             io::write_all(1, b"ok ");
@@ -132,14 +171,13 @@ fn show_read(answer: TableRead, out: &[i32; 1024]) {
     }
 }
 
-// The answer to a table: `ok`, the length and the text from the next line on, or the refusal.
-fn show_written(answer: TableWritten, text: &[u8]) {
+// The answer to a table: `ok`, the length and the text, or the refusal.
+fn show_written(a: Asked, answer: TableWritten, ys: &[i32], text: &[u8]) {
     match answer {
         TableWritten::Length(n) => {
             io::write_all(1, b"ok ");
             io::print_decimal(1, n as u64);
-            report::end_line();
-            show_text(text, n);
+            show_text(a, ys, text, n);
             show_touched_text(text, n);
         }
         TableWritten::Refused(r) => {
@@ -150,7 +188,7 @@ fn show_written(answer: TableWritten, text: &[u8]) {
 }
 
 // An accepted file: `ok`, the points, F and L, and the ordinates.
-fn show_table(table: FileTable, out: &[i32; 1024]) {
+fn show_table(table: FileTable, out: &[i32; READ]) {
     io::write_all(1, b"ok ");
     io::print_decimal(1, table.points as u64);
     io::write_all(1, b" ");
@@ -162,7 +200,7 @@ fn show_table(table: FileTable, out: &[i32; 1024]) {
 }
 
 // The answer to a file: its table, or the refusal.
-fn show_file(answer: FileRead, out: &[i32; 1024]) {
+fn show_file(answer: FileRead, out: &[i32; READ]) {
     match answer {
         FileRead::Accepted(table) => show_table(table, out),
         FileRead::Refused(r) => {
@@ -247,25 +285,25 @@ fn read_file(a: Asked, file: &[u8], out: &mut [i32]) -> FileRead {
 fn body_case(a: Asked) {
     let mut body = [0u8; 4096];
     take_bytes(&mut body, a.count);
-    let mut out = [-1234567891i32; 1024];
+    let mut out = [FILL; READ];
     let answer = read_table(a, &body, &mut out);
     show_read(answer, &out);
 }
 
 // A table to write: its ordinates follow.
 fn write_case(a: Asked) {
-    let mut ys = [0i32; 256];
+    let mut ys = [0i32; WRITTEN];
     take_ordinates(&mut ys, a.count);
-    let mut text = [b'~'; 4096];
+    let mut text = [b'~'; 65536];
     let answer = write_table(a, &ys, &mut text);
-    show_written(answer, &text);
+    show_written(a, answer, &ys, &text);
 }
 
 // A file to read: its bytes follow.
 fn file_case(a: Asked) {
     let mut file = [0u8; 4096];
     take_bytes(&mut file, a.count);
-    let mut out = [-1234567891i32; 1024];
+    let mut out = [FILL; READ];
     let answer = read_file(a, &file, &mut out);
     show_file(answer, &out);
 }

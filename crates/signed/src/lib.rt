@@ -1,7 +1,7 @@
 // Ordinates between the lent slice and the code (01, "The frame of a table"): an entry y of the slice is the ordinate y + 2^31, and -2,147,483,648, the mark of a missing one, is 0.
 ghost use mathlib.Core.Path.{_≡_};
 ghost use mathlib.Core.List.{map};
-ghost use Prim.Native.Nat.{ℕ, _<_};
+ghost use Prim.Native.Nat.{_<_};
 ghost use lib.ListN.{length, getD};
 ghost use Rattle.table_spec.specs.Frame.{ordinate-of, entry-for};
 

@@ -14,8 +14,10 @@ use Rattle.table_spec.specs.Frame.{Rules}
 use Rattle.table_spec.specs.Values.{Value, Form, Own, isDif, Spot, first, after, index}
 use Rattle.table_spec.specs.Reading.{fresh, inner, opening, inside, step, stop, tokens, accept, push, bare, difBefore, took, checked, finish, judge, read}
 use Rattle.table_spec.specs.ReadingLaws.{push-none, push-push}
-use Rattle.table_law.specs.Spelling.{Spelled, plus, minus, plain, sqz-zero, sqz-more, dif-zero, dif-more, dup-more, missing, LineEnd, over as end-over, lf as end-lf, cr-lf, comment as end-comment, Line, done}
-use Rattle.table_law.specs.Spelling.{blank as with-blank, value as with-value, EndsInDif, own-not, gap-not, dif-does, dup-as, Belongs, last-given, next-point, Body, end, indent, passed, row, Spells}
+use Rattle.table_law.specs.Spelling.{Spelled, plus, minus, plain, sqz-zero, sqz-more, dif-zero, dif-more, dup-more, missing, LineEnd, over as end-over, lf as end-lf, cr-lf}
+use Rattle.table_law.specs.Spelling.{comment as end-comment, Line, done}
+use Rattle.table_law.specs.Spelling.{blank as with-blank, value as with-value, EndsInDif, own-not, gap-not, dif-does, dup-as, Belongs, last-given, next-point, Body, end}
+use Rattle.table_law.specs.Spelling.{indent, passed, row, Spells}
 use Rattle.table_law.specs.Heads.{lengthens, Apart, head-read}
 use Rattle.table_law.specs.Tokens.{end-fresh, end-inner, value-read}
 use Rattle.table_law.specs.Meaning.{stands-says}

@@ -11,7 +11,8 @@ use Rattle.alphabet_spec.specs.Digits.{Run, long, run, digits, some}
 use Rattle.alphabet_spec.specs.Bytes.{Byte, digit, lead, sign, quest, blank, point, lf, cr, dollar, other, kind}
 use Rattle.table_spec.specs.Frame.{Rules, rules, abscissa, longest-body, frame-legal}
 use Rattle.table_spec.specs.Values.{Value, own, Form, Spot, first, after, lastOr, room, valueOf, index}
-use Rattle.table_spec.specs.Reading.{Tokens, over, fault, head, value, line, Ending, ends, none, ending, Mode, fresh, inner, ended, headed, valued, thousandths, opening, inside, step, stop, tokens, Says, adds, refuses, says, Answer, refuse, accept, push, bare, difBefore, took, checked, finish, judge, read, readTable}
+use Rattle.table_spec.specs.Reading.{Tokens, over, fault, head, value, line, Ending, ends, none, ending, Mode, fresh, inner, ended, headed, valued, thousandths, opening, inside}
+use Rattle.table_spec.specs.Reading.{step, stop, tokens, Says, adds, refuses, says, Answer, refuse, accept, push, bare, difBefore, took, checked, finish, judge, read, readTable}
 
 -- every place is at most z
 abbrev pub Low : ℕ → Tokens → Type 0

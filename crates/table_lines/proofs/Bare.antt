@@ -8,7 +8,8 @@ use lib.ListN.{getD}
 use Rattle.alphabet_spec.specs.Kinds.{tabs-too}
 use Rattle.alphabet_spec.specs.Digits.{Run, long, run, digits, some}
 use Rattle.alphabet_spec.specs.Bytes.{Byte, digit, lead, sign, quest, blank, point, lf, cr, dollar, other, kind}
-use Rattle.alphabet_spec.specs.Entries.{code, entryAt, entry, entry-in, at-entry}
+use Rattle.alphabet_spec.specs.Entries.{code, entryAt, entry}
+use Rattle.alphabet_spec.specs.EntryLaws.{entry-in, at-entry}
 use Rattle.table_spec.specs.Values.{Value, own, valueOf, room}
 use Rattle.table_spec.specs.Reading.{Tokens, Mode, inner, valued, inside, step, bare}
 use Rattle.table_lines.specs.Seen.{behind, here, seen-step}

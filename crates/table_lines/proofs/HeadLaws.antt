@@ -13,7 +13,8 @@ use borrow.Author.Tests.{ne-eqb, lt-ltb, le-ltb, lt-leb, le-leb, ltb-true, ltb-f
 use Rattle.terms.specs.Logic.{pick, by-case}
 use Rattle.alphabet_spec.specs.Digits.{long, run, digits, some}
 use Rattle.alphabet_spec.specs.Bytes.{Byte, digit, lead, sign, quest, blank, point, lf, cr, dollar, other, kind}
-use Rattle.alphabet_spec.specs.Entries.{code, entryAt, entry, kindOf, at-entry, at-kind}
+use Rattle.alphabet_spec.specs.Entries.{code, entryAt, entry, kindOf}
+use Rattle.alphabet_spec.specs.EntryLaws.{at-entry, at-kind}
 use Rattle.alphabet_spec.specs.Kinds.{tabs-too}
 use Rattle.alphabet_spec.specs.KindLaws.{Back, kind-back}
 use Rattle.alphabet_spec.specs.DigitLaws.{digit-at}

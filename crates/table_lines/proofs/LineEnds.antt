@@ -13,7 +13,8 @@ use Rattle.terms.specs.Logic.{pick, by-case}
 use Rattle.alphabet_spec.specs.Kinds.{tabs-too}
 use Rattle.alphabet_spec.specs.Bytes.{Byte, blank, point, lf, cr, dollar, other, kind}
 use Rattle.alphabet_spec.specs.KindLaws.{Back}
-use Rattle.alphabet_spec.specs.Entries.{entryAt, entry, kindOf, entry-in, entry-end, at-entry, at-kind}
+use Rattle.alphabet_spec.specs.Entries.{entryAt, entry, kindOf}
+use Rattle.alphabet_spec.specs.EntryLaws.{entry-in, entry-end, at-entry, at-kind}
 use Rattle.table_spec.specs.Reading.{Tokens, over, fault, line, comment, starts, Ending as EndRead, ends, none, ending, Mode, fresh, inner, ended, opening, inside, step, stop}
 use Rattle.table_lines.specs.Seen.{seen, later, behind, here, seen-end, later-seen, later-none, seen-kind, byte-back}
 use Rattle.table_lines.specs.Ends.{Commented, endOf, endAt, Ended}

@@ -13,7 +13,8 @@ use Rattle.terms.specs.Logic.{pick}
 use Rattle.alphabet_spec.specs.Kinds.{tabs-too}
 use Rattle.alphabet_spec.specs.Bytes.{Byte, kind}
 use Rattle.alphabet_spec.specs.KindLaws.{Back, kind-back}
-use Rattle.alphabet_spec.specs.Entries.{entryAt, kindOf, at-kind}
+use Rattle.alphabet_spec.specs.Entries.{entryAt, kindOf}
+use Rattle.alphabet_spec.specs.EntryLaws.{at-kind}
 use Rattle.table_spec.specs.Reading.{Tokens, Mode, inner, step, stop, tokens}
 
 -- what is left to read from the place i

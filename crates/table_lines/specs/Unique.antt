@@ -9,7 +9,8 @@ use Rattle.terms.specs.Logic.{zero-one}
 use Rattle.alphabet_spec.specs.Kinds.{tabs-too}
 use Rattle.alphabet_spec.specs.Digits.{Run, long, run, digits, some}
 use Rattle.alphabet_spec.specs.Bytes.{Byte, digit, lead, sign, quest, blank, point, lf, cr, dollar, other, kind}
-use Rattle.alphabet_spec.specs.Entries.{code, entry, at-entry}
+use Rattle.alphabet_spec.specs.Entries.{code, entry}
+use Rattle.alphabet_spec.specs.EntryLaws.{at-entry}
 use Rattle.table_spec.specs.Reading.{Tokens, over, fault, head, value, line, Mode, fresh, headed, thousandths, opening, step}
 use Rattle.table_lines.specs.Seen.{seen, seen-step}
 use Rattle.table_lines.specs.Ends.{Blanked, Ended, Started}

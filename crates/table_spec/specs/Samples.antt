@@ -7,7 +7,8 @@ use lib.IntN.{pos}
 use Rattle.alphabet_spec.specs.Digits.{digits}
 use Rattle.alphabet_spec.specs.Bytes.{kind}
 use Rattle.table_spec.specs.Frame.{frame-legal, passes, exact, nearest, entry-for}
-use Rattle.table_spec.specs.Reading.{Answer, refuse, accept, readTable, read, judge, tokens, comment, ending, scaled, pointed, thousandths, opening, inside, step, stop, again, says, push, took, checked, finish}
+use Rattle.table_spec.specs.Reading.{Answer, refuse, accept, readTable, read, judge, tokens, comment, ending, scaled, pointed, thousandths, opening, inside, step, stop}
+use Rattle.table_spec.specs.Reading.{again, says, push, took, checked, finish}
 use Rattle.table_spec.specs.Numerals.{top, low, numeral, fraction, magnitude, headText}
 use Rattle.table_spec.specs.Groups.{form, sqzText, tokenText, many, dupText, group}
 use Rattle.table_spec.specs.Writing.{wrote, writeTable, written, lines-of, text, put, check, open-line, go-on, close}

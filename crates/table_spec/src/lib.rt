@@ -1,1 +1,2 @@
-// No code: what the body of a table says (Reading), and the text that is written (Writing). How ordinates are spelled stands in table_law, beside the theorems about it. Read them in the order of specs/Lib.antt.
+// No code: what the body of a table says (Reading), and the text that is written (Writing). How ordinates are spelled stands in table_law, beside the theorems about it.
+// Read them in the order of specs/Lib.antt.

@@ -1,16 +1,15 @@
 -- From the tests of the writer to its outcomes. No place of the code is named here. Assumes nothing.
-use mathlib.Core.Path.{_≡_, refl, sym, ap, _∙_}
-use mathlib.Core.Bool.{Bool, true, false}
-use mathlib.Core.List.{List, [], _∷_, _++_, map}
-use Prim.Native.Nat.{ℕ, zero, suc, _+_, _-_, _*_, _≤_, _<_}
+use mathlib.Core.Path.{_≡_, refl, ap, _∙_}
+use mathlib.Core.Bool.{true}
+use mathlib.Core.List.{List, map}
+use Prim.Native.Nat.{ℕ, _+_, _-_, _*_, _≤_, _<_}
 use native.Mathlib.Omega.{arith}
-use lib.Dec.{ltb, leb}
+use lib.Dec.{leb}
 use lib.IntN.{ℤ}
 use lib.ListN.{length, take, length-map}
 use borrow.Author.Tests.{lt-ltb, le-ltb, le-leb}
 use Rattle.terms.specs.declared.TableWritten.{TableWritten}
 use Rattle.terms.specs.declared.TableWritten.the-variants.{Length}
-use Rattle.terms.specs.Logic.{pick}
 use Rattle.frame.specs.declared.Frame.{Frame}
 use Rattle.frame.specs.declared.Framed.the-variants.{Legal, Outside}
 use Rattle.frame.specs.Legal.{framed, Sound}
@@ -59,7 +58,8 @@ pub always-room : (fr : Frame) (ys : List ℤ) {room : ℕ} → Sound fr → len
     → 15 * fr .points + 44 ≤ room → leb (length (lines-of (headOf fr) (ordinates ys))) room ≡ true
 unfolding written headOf
 always-room fr ys {room} s e far enough =
-    let t : Takes (fr .first) (fr .last) (fr .points) = record { low-first = s .low-first; low-last = s .low-last; high-first = s .first; high-last = s .last; some = s .some; few = s .few; apart-enough = far } in
+    let t : Takes (fr .first) (fr .last)
+    (fr .points) = record { low-first = s .low-first; low-last = s .low-last; high-first = s .first; high-last = s .last; some = s .some; few = s .few; apart-enough = far } in
     let m = written-most (fr .first) (fr .last) (fr .points) (ordinates ys) t (length-map ys ordinate-of ∙ e) in
     le-leb (length (lines-of (headOf fr) (ordinates ys))) room (omega (arith, m, enough))
 

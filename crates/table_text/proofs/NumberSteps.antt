@@ -1,7 +1,7 @@
 -- What the writing of a number needs. No place of the code is named here. Assumes nothing.
-use mathlib.Core.Path.{_≡_, refl, sym, ap, _∙_}
-use mathlib.Core.List.{List, [], _∷_, _++_}
-use Prim.Native.Nat.{ℕ, zero, suc, _+_, _≤_, _<_}
+use mathlib.Core.Path.{_≡_, refl, _∙_}
+use mathlib.Core.List.{List, [], _∷_}
+use Prim.Native.Nat.{ℕ, zero, suc, _+_, _≤_}
 use native.Mathlib.Omega.{arith}
 use native.Mathlib.Numerals.{add-one}
 use lib.ListN.{length, set}
@@ -9,7 +9,8 @@ use lib.Seq.{sets}
 use Rattle.alphabet_spec.specs.Kinds.{dup}
 use Rattle.table_spec.specs.Numerals.{top, low, leadByte, numeral}
 use Rattle.table_spec.specs.Groups.{dupText}
-use Rattle.table_text.specs.Digits.{further, length-low, further-le}
+use Rattle.table_text.specs.Digits.{further}
+use Rattle.table_text.specs.DigitLaws.{length-low, further-le}
 use Rattle.table_text.specs.Pieces.{Put, number, set-sets}
 
 -- a first byte, stored after the digits that follow it

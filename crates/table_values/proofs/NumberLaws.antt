@@ -15,7 +15,8 @@ use Rattle.alphabet_spec.specs.Kinds.{Lead, sqz, dif, dup, tabs-too, Pseudo, sq
 use Rattle.alphabet_spec.specs.Digits.{long, run}
 use Rattle.alphabet_spec.specs.Bytes.{Byte, digit, lead, sign, quest, blank, point, lf, cr, dollar, other, kind}
 use Rattle.alphabet_spec.specs.KindLaws.{Back, kind-back}
-use Rattle.alphabet_spec.specs.Entries.{code, entry, entryAt, kindOf, entry-in, at-entry}
+use Rattle.alphabet_spec.specs.Entries.{code, entry, entryAt, kindOf}
+use Rattle.alphabet_spec.specs.EntryLaws.{entry-in, at-entry}
 use Rattle.alphabet_spec.specs.DigitLaws.{digit-at}
 use Rattle.alphabet.specs.Ran.{AllDigits, Ran, ran-below}
 use Rattle.table_spec.specs.Values.{Value, own, gap, by, times, valueOf, room}

@@ -63,10 +63,10 @@ went-went {N} {s} {c} {b} {r} {out} {mid} {out'} g h =
     record { low = omega arith; clear = clear-then s (g .clear) (h .clear); sits = h .sits; law = λ p w z. gone-gone N s (c .at) (c .k) p w out mid b (g .law p w z) out' r (h .law) }
 
 -- the state at a line's first value
-abbrev pub line-start : ℕ → ℕ → ℕ → ℕ → Cur
-line-start at e k want = record { at = at; e = e; k = k; q = 0; want = want; step = 0; form = 0 }
+abbrev pub first-state : ℕ → ℕ → ℕ → ℕ → Cur
+first-state at e k want = record { at = at; e = e; k = k; q = 0; want = want; step = 0; form = 0 }
 
-module _ {N : ℕ} {s : List ℕ} {at e k want : ℕ} {b : Cur} {out mid : List ℤ} (out' : List ℤ) (g : Went N s (line-start at e k want) b out mid) where
+module _ {N : ℕ} {s : List ℕ} {at e k want : ℕ} {b : Cur} {out mid : List ℤ} (out' : List ℤ) (g : Went N s (first-state at e k want) b out mid) where
   pub went-line : {j : ℕ} → Stepped N s b mid out' (step.Line j) → Lined N s at k want out out' (linewise.Next (rowAfter b j))
   went-line {j} h =
       let x = g .low in let y = h .0 in let z = g .sits in let l = h .3 in let q = z .stands in (

@@ -16,7 +16,8 @@ use Rattle.table_spec.specs.Values.{Own, Gap, By}
 use Rattle.table_spec.specs.Numerals.{top, low, leadByte, numeral}
 use Rattle.table_spec.specs.Groups.{form, sqzText, tokenText, alike, many, dupText, group}
 use Rattle.text_groups.specs.declared.Token.{Token}
-use Rattle.table_text.specs.Digits.{further, length-low, further-le}
+use Rattle.table_text.specs.Digits.{further}
+use Rattle.table_text.specs.DigitLaws.{length-low, further-le}
 use Rattle.table_text.specs.Pieces.{number}
 use Rattle.text_groups.specs.Tokens.{again, run, TokenFor, Found, count-at, group-at}
 

@@ -1,14 +1,13 @@
 -- What the functions on tokens and groups ensure (01, "The written text"). Assumes nothing.
 use mathlib.Core.Path.{_≡_}
-use mathlib.Core.Bool.{Bool, true, false, Bool·beq}
-use mathlib.Core.List.{List, [], _∷_, _++_, map}
-use Prim.Native.Nat.{ℕ, zero, suc, _+_, _≤_, _<_}
+use mathlib.Core.Bool.{Bool, true, Bool·beq}
+use mathlib.Core.List.{List, [], _∷_, _++_}
+use Prim.Native.Nat.{ℕ, suc, _+_, _≤_, _<_}
 use lib.Dec.{ltb, eqb}
-use lib.IntN.{ℤ}
 use lib.ListN.{length, getD, drop}
 use Rattle.terms.specs.Logic.{pick, both}
-use Rattle.table_spec.specs.Frame.{ordinate-of, apart}
-use Rattle.table_spec.specs.Values.{Form, isDif}
+use Rattle.table_spec.specs.Frame.{apart}
+use Rattle.table_spec.specs.Values.{isDif}
 use Rattle.table_spec.specs.Groups.{form, tokenText, alike, many, dupText, group}
 use Rattle.text_groups.specs.declared.Token.{Token}
 use Rattle.text_groups.specs.declared.Group.{Group}

@@ -102,13 +102,24 @@ module _ (ys : List ℕ) where
   pub counted-then : {s t r : State} → Counted ys s t → Counted ys t r → Counted ys s r
   counted-then a b =
       let a₁ = a .later in let b₁ = b .later in let a₂ = a .on in let b₂ = b .on in let a₃ = a .most in let b₃ = b .most in let a₄ = a .line in let b₄ = b .line in
-      record { law = λ hd. b .law hd ∙ a .law hd; later = omega arith; on = omega arith; inside = b .inside; most = omega arith; line = omega arith; column-most = b .column-most; started = b .started }
+      record {
+        law = λ hd. b .law hd
+            ∙ a .law hd;
+        later = omega arith;
+        on = omega arith;
+        inside = b .inside;
+        most = omega arith;
+        line = omega arith;
+        column-most = b .column-most;
+        started = b .started;
+      }
 
   pub counted-near : {s r : State} → Counted ys s r → length ys ≤ 65536 → r .at ≤ s .at + 1310720
   counted-near c l = let most = c .most in let inside = c .inside in omega arith
 
   -- a group that fits
-  module _ (s : State) (g : Group) (h : Found ys (s .given) (s .last) g) (l : s .column + g .width ≤ 80) (c : s .column ≤ s .at) (last : ℕ) (f : last ≡ getD ys (s .given + g .more) 0) (b : last < 4294967296) where
+  module _ (s : State) (g : Group) (h : Found ys (s .given) (s .last) g) (l : s .column + g .width ≤ 80) (c : s .column ≤ s .at) (last : ℕ)
+      (f : last ≡ getD ys (s .given + g .more) 0) (b : last < 4294967296) where
     abbrev group-state : State
     group-state = record { given = s .given + g .more + 1; at = s .at + g .width; column = s .column + g .width; last = last; dif = g .dif }
 

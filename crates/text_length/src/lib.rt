@@ -141,7 +141,8 @@ fn count_line(ys: &[i32], s: State) -> State
 // The groups that fit on the line, and the start of a new line if points are left.
 fn count_turn(ys: &[i32], none: &mut [u8], fr: Frame, s: State) -> State
     requires { ⌜ Sound fr × (length (now ys) ≡ fr .points) × Started s × (s .given < length (now ys)) × (s .column ≤ s .at) × (s .at < 2 ^ 56) × (s .column ≤ 60) × (length (now none) ≡ 0) ⌝ }
-    ensures { λ r. ⌜ Wrote (headOf fr) (ordinates (now (ys .entry))) (s .given) (s .at) (from (headOf fr) (ordinates (now (ys .entry))) s) (now (none .entry)) (now (none .exit)) r × (r .given < length (now (ys .entry)) → r .column ≤ 60) ⌝ }
+    ensures { λ r. ⌜ Wrote (headOf fr) (ordinates (now (ys .entry))) (s .given) (s .at) (from (headOf fr) (ordinates (now (ys .entry))) s) (now (none .entry)) (now (none .exit)) r
+        × (r .given < length (now (ys .entry)) → r .column ≤ 60) ⌝ }
 {
     let t = count_line(ys, s);
     if t.given >= ys.len() {

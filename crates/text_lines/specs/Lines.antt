@@ -1,8 +1,8 @@
 -- The written text from a point on, and what the functions on lines ensure (01, "The written text"). Assumes nothing.
 use mathlib.Core.Path.{_≡_}
 use mathlib.Core.Bool.{Bool, true, false}
-use mathlib.Core.List.{List, [], _∷_, _++_}
-use Prim.Native.Nat.{ℕ, zero, suc, _+_, _-_, _*_, _≤_, _<_}
+use mathlib.Core.List.{List, _∷_, _++_}
+use Prim.Native.Nat.{ℕ, _+_, _-_, _*_, _≤_, _<_}
 use lib.ListN.{length, getD, drop}
 use Rattle.terms.specs.Logic.{pick}
 use Rattle.table_spec.specs.Writing.{check, text}

@@ -146,7 +146,8 @@ pub fn new_line(out: &mut [u8], fr: Frame, s: State) -> State
 
 // The next group on a new line: as it was found on a check line, found afresh on another.
 fn break_line(ys: &[i32], out: &mut [u8], fr: Frame, s: State, g: Group) -> State
-    requires { ⌜ Sound fr × (length (now ys) ≡ fr .points) × Started s × (s .given < length (now ys)) × Found (ordinates (now ys)) (s .given) (s .last) g × (80 < s .column + g .width) × (s .at < 2 ^ 57) ⌝ }
+    requires { ⌜ Sound fr × (length (now ys) ≡ fr .points) × Started s × (s .given < length (now ys)) × Found (ordinates (now ys)) (s .given) (s .last) g
+        × (80 < s .column + g .width) × (s .at < 2 ^ 57) ⌝ }
     ensures { λ r. ⌜ Wrote (headOf fr) (ordinates (now (ys .entry))) (s .given) (s .at) (from (headOf fr) (ordinates (now (ys .entry))) s) (now (out .entry)) (now (out .exit)) r ⌝ }
 {
     let i = s.given;

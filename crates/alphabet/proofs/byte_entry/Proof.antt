@@ -1,11 +1,9 @@
+-- `alphabet::byte_entry` meets its contract: the entry of any byte, with a table of its own.
 use mathlib.Core.Path.{refl}
 use Rattle.alphabet_spec.specs.Entries.{table}
 use borrow.Author.Needs.{needs}
 use Rattle.alphabet.proofs.byte_entry.Statement.{statement}
 use Rattle.alphabet.proofs.byte_entry.Tie as tie
-use Rattle.alphabet.proofs.byte_entry.Reads as reads
-use Rattle.alphabet.proofs.byte_entry.Lts as lts
-use Rattle.alphabet.proofs.entry_of.Reads as entry-of-reads
 
 entry-of-requires : tie.Need-entry-of-requires
 unfolding table

@@ -1,5 +1,6 @@
-use mathlib.Core.Path.{_≡_, refl, sym, ap, _∙_}
-use Prim.Native.Nat.{ℕ, _+_, _-_, _<_, _≤_}
+-- `alphabet::digits` meets its contract: the digits from a place on, after the number v.
+use mathlib.Core.Path.{_≡_}
+use Prim.Native.Nat.{_-_}
 use native.Mathlib.Omega.{arith}
 use lib.ListN.{length}
 use borrow.Author.Needs.{needs}
@@ -8,9 +9,6 @@ use Rattle.alphabet_spec.specs.DigitLaws.{digit-at}
 use Rattle.alphabet.specs.Ran.{Running, start, fits, step, stop}
 use Rattle.alphabet.proofs.digits.Statement.{statement}
 use Rattle.alphabet.proofs.digits.Tie as tie
-use Rattle.alphabet.proofs.digits.Reads as reads
-use Rattle.alphabet.proofs.digits.Lts as lts
-use Rattle.alphabet.proofs.entry_at.Reads as entry-at-reads
 
 abbrev Inv-loop : tie.InvT-loop
 Inv-loop t s from v most w₀ i₀ e₀ w i e = Running s from v most w i × (e ≡ entryAt s i)
@@ -43,7 +41,8 @@ entry-at-requires-2 : tie.Need-entry-at-requires-2 Inv-loop μ-loop
 entry-at-requires-2 c κs = search needs
 
 loop-less : tie.Need-loop-less Inv-loop μ-loop
-loop-less c = let l = c .before .before .before .loop .inv in let h = digit-at (c .before .before .before .before .before .before .args .s .now) (c .before .before .before .loop .i) (omega (arith, l .1)) in omega (arith, h .0)
+loop-less c = let l = c .before .before .before .loop .inv in let h = digit-at (c .before .before .before .before .before .before .args .s .now)
+    (c .before .before .before .loop .i) (omega (arith, l .1)) in omega (arith, h .0)
 
 loop-again : tie.Need-loop-again Inv-loop μ-loop
 loop-again c = let l = c .before .before .before .loop .inv in (step (l .0) (l .1) (c .before .before .loop-test .taken) (omega arith), c .entry-at2 .ensures)

@@ -1,11 +1,9 @@
-use mathlib.Core.Path.{_≡_, refl, sym, ap, _∙_}
-use Rattle.alphabet_spec.specs.Entries.{entry, entryAt, at-entry, past-end}
+-- `alphabet::entry_at` meets its contract: the entry of the byte at a place, 256 at the end of the text.
+use mathlib.Core.Path.{sym, _∙_}
+use Rattle.alphabet_spec.specs.EntryLaws.{at-entry, past-end}
 use borrow.Author.Needs.{needs}
 use Rattle.alphabet.proofs.entry_at.Statement.{statement}
 use Rattle.alphabet.proofs.entry_at.Tie as tie
-use Rattle.alphabet.proofs.entry_at.Reads as reads
-use Rattle.alphabet.proofs.entry_at.Lts as lts
-use Rattle.alphabet.proofs.entry_of.Reads as entry-of-reads
 
 shared-slice-read-entry-of : tie.Need-shared-slice-read-entry-of
 shared-slice-read-entry-of c = search needs

@@ -1,14 +1,12 @@
-use mathlib.Core.Path.{_≡_, refl, sym, ap, _∙_}
+-- `alphabet::entry_of` meets its contract: the entry of a byte.
+use mathlib.Core.Path.{ap, _∙_}
 use mathlib.Core.List.{List}
 use Prim.Native.Nat.{ℕ, _<_}
 use lib.ListN.{getD}
-use Rattle.alphabet_spec.specs.Entries.{entry, is-entry, table}
+use Rattle.alphabet_spec.specs.EntryLaws.{is-entry}
 use borrow.Author.Needs.{needs}
 use Rattle.alphabet.proofs.entry_of.Statement.{statement}
 use Rattle.alphabet.proofs.entry_of.Tie as tie
-use Rattle.alphabet.proofs.entry_of.Reads as reads
-use Rattle.alphabet.proofs.entry_of.Lts as lts
-use Rattle.alphabet.proofs.wide.Reads as wide-reads
 
 element-copy-out-wide : tie.Need-element-copy-out-wide
 element-copy-out-wide c = search needs

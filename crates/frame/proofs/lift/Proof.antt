@@ -1,4 +1,5 @@
-use mathlib.Core.Path.{_≡_, refl, sym, ap, _∙_}
+-- `frame::lift` meets its contract: x plus 10,000,000,000, or 0 where x is beyond the largest abscissa.
+use mathlib.Core.Path.{sym}
 use native.Mathlib.Omega.{arith}
 use mir.Facts.{toZ-ofZ}
 use Rattle.table_spec.specs.Frame.{zero-abscissa}
@@ -7,8 +8,6 @@ use Rattle.frame.proofs.Limits.{too-low, too-high, within-mag, within-l
 use borrow.Author.Needs.{needs}
 use Rattle.frame.proofs.lift.Statement.{statement}
 use Rattle.frame.proofs.lift.Tie as tie
-use Rattle.frame.proofs.lift.Reads as reads
-use Rattle.frame.proofs.lift.Lts as lts
 
 sub-if1 : tie.Need-sub-if1
 sub-if1 c = search needs

@@ -1,3 +1,4 @@
+-- `host::lastarunc_find_record` meets its contract: finds the text of a record.
 use mathlib.Core.Path.{sym, ap, _∙_}
 use Rattle.host.specs.Answers.{recordNumber, recordFrom, recordTo}
 use borrow.Author.Needs.{needs}

@@ -1,3 +1,4 @@
+-- `host::lastarunc_read_file` meets its contract: reads a file.
 use mir.Facts.{toZ-ofZ}
 use mir.Syntax.{w64}
 use borrow.Author.Needs.{sfits-of}

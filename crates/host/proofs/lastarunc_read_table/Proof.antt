@@ -1,3 +1,4 @@
+-- `host::lastarunc_read_table` meets its contract: reads a table.
 use mir.Facts.{toZ-ofZ}
 use Rattle.host.proofs.Tellings.{told-accepted, told-refused}
 use borrow.Author.Needs.{needs}

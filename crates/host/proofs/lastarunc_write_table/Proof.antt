@@ -1,3 +1,4 @@
+-- `host::lastarunc_write_table` meets its contract: writes a table.
 use mir.Facts.{toZ-ofZ}
 use Rattle.host.proofs.Tellings.{told-wrote, told-declined}
 use borrow.Author.Needs.{needs}

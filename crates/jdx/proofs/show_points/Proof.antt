@@ -1,11 +1,8 @@
+-- `jdx::show_points` meets its contract: the first n ordinates, a line each.
 use Prim.Native.Nat.{_≤_, _-_}
 use borrow.Author.Needs.{needs}
 use Rattle.jdx.proofs.show_points.Statement.{statement}
 use Rattle.jdx.proofs.show_points.Tie as tie
-use Rattle.jdx.proofs.show_points.Reads as reads
-use Rattle.jdx.proofs.show_points.Lts as lts
-use Rattle.report.proofs.end_line.Reads as end-line-reads
-use Rattle.report.proofs.print_ordinate.Reads as print-ordinate-reads
 
 abbrev Inv-loop : tie.InvT-loop
 Inv-loop out n i₀ i = i ≤ 4096

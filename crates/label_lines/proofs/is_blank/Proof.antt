@@ -1,4 +1,4 @@
--- `label::lines::is_blank` meets its contract: by the keys of its `match`.
+-- `label_lines::is_blank` meets its contract: by the keys of its `match`.
 use Rattle.label_spec.specs.NameLaws.{blank-yes, blank-no}
 use Rattle.label_lines.proofs.is_blank.Statement.{statement}
 use Rattle.label_lines.proofs.is_blank.Tie as tie

@@ -1,4 +1,4 @@
--- `label::lines::is_hashed` meets its contract: by the tests.
+-- `label_lines::is_hashed` meets its contract: by the tests.
 use Rattle.label_spec.specs.LabelLaws.{hash-no, hash-end, hash-next}
 use borrow.Author.Needs.{needs}
 use Rattle.label_lines.proofs.is_hashed.Statement.{statement}

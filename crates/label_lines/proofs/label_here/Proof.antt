@@ -1,4 +1,4 @@
--- `label::lines::label_here` meets its contract: by the tests of the name's end and of its length.
+-- `label_lines::label_here` meets its contract: by the tests of the name's end and of its length.
 use mathlib.Core.Path.{sym, _∙_}
 use native.Mathlib.Omega.{arith}
 use Rattle.label_spec.specs.LabelLaws.{hash-in}

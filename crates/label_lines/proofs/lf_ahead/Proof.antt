@@ -1,4 +1,4 @@
--- `label::lines::lf_ahead` meets its contract: no LF has come up to i, and one is ahead.
+-- `label_lines::lf_ahead` meets its contract: no LF has come up to i, and one is ahead.
 use mathlib.Core.Path.{refl}
 use Prim.Native.Nat.{_-_}
 use lib.ListN.{length}

@@ -1,4 +1,4 @@
--- `label::lines::lf_near` meets its contract: one byte after the other is looked at, eight in all.
+-- `label_lines::lf_near` meets its contract: one byte after the other is looked at, eight in all.
 use borrow.Author.Needs.{needs}
 use Rattle.label_lines.proofs.LineTurns.{within-eight}
 use Rattle.label_lines.proofs.lf_near.Statement.{statement}

@@ -1,4 +1,4 @@
--- `label::lines::line_end` meets its contract: no LF has come up to i.
+-- `label_lines::line_end` meets its contract: no LF has come up to i.
 use mathlib.Core.Path.{refl}
 use Prim.Native.Nat.{_-_}
 use lib.ListN.{length}

@@ -1,4 +1,4 @@
--- `label::lines::name_end` meets its contract: neither `=` nor LF has come up to i.
+-- `label_lines::name_end` meets its contract: neither `=` nor LF has come up to i.
 use Prim.Native.Nat.{_-_}
 use lib.ListN.{length}
 use mathlib.Core.Path.{refl}

@@ -1,4 +1,4 @@
--- `label::lines::next_label` meets its contract: the next `##`, and the label there.
+-- `label_lines::next_label` meets its contract: the next `##`, and the label there.
 use Rattle.label_lines.proofs.LineTurns.{next-none, next-here}
 use borrow.Author.Needs.{needs}
 use Rattle.label_lines.proofs.next_label.Statement.{statement}

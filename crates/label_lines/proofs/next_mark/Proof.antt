@@ -1,4 +1,4 @@
--- `label::lines::next_mark` meets its contract: the lines passed have no `##` first.
+-- `label_lines::next_mark` meets its contract: the lines passed have no `##` first.
 use mathlib.Core.Path.{refl, sym, _∙_}
 use Prim.Native.Nat.{_-_}
 use lib.ListN.{length}
@@ -30,7 +30,8 @@ past-blanks-requires : tie.Need-past-blanks-requires Inv-loop μ-loop
 past-blanks-requires c κs = search needs
 
 returns-2 : tie.Need-returns-2 Inv-loop μ-loop
-returns-2 c = mark-none _ _ _ _ (c .before .before .before .before .loop .inv) (c .before .before .before .line-end .ensures) (c .before .before .if1 .left) _ (c .before .past-blanks .ensures) (c .if2 .taken)
+returns-2 c = mark-none _ _ _ _ (c .before .before .before .before .loop .inv) (c .before .before .before .line-end .ensures) (c .before .before .if1 .left) _
+    (c .before .past-blanks .ensures) (c .if2 .taken)
 
 is-hashed-requires : tie.Need-is-hashed-requires Inv-loop μ-loop
 is-hashed-requires c κs = search needs

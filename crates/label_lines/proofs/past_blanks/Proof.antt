@@ -1,4 +1,4 @@
--- `label::lines::past_blanks` meets its contract: only blanks were passed.
+-- `label_lines::past_blanks` meets its contract: only blanks were passed.
 use mathlib.Core.Path.{refl}
 use Prim.Native.Nat.{_-_}
 use lib.ListN.{length}

@@ -1,4 +1,4 @@
--- `label::lines::rest_of_line` meets its contract: no LF has come up to i.
+-- `label_lines::rest_of_line` meets its contract: no LF has come up to i.
 use mathlib.Core.Path.{refl}
 use Prim.Native.Nat.{_-_}
 use lib.ListN.{length}

@@ -1,4 +1,4 @@
--- `label::names::differ` meets its contract: by the two tests.
+-- `label_names::differ` meets its contract: by the two tests.
 use Rattle.label_names.proofs.NameTurns.{none-left, none-right, both-first}
 use Rattle.label_names.proofs.differ.Statement.{statement}
 use Rattle.label_names.proofs.differ.Tie as tie

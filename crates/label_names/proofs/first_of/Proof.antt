@@ -1,4 +1,4 @@
--- `label::names::first_of` meets its contract: by whether the byte is left out.
+-- `label_names::first_of` meets its contract: by whether the byte is left out.
 use Rattle.label_names.proofs.NameTurns.{first-left, first-kept}
 use borrow.Author.Needs.{needs}
 use Rattle.label_names.proofs.first_of.Statement.{statement}

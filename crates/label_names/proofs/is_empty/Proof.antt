@@ -1,4 +1,4 @@
--- `label::names::is_empty` meets its contract: no byte counts exactly if the next one that does is at the end.
+-- `label_names::is_empty` meets its contract: no byte counts exactly if the next one that does is at the end.
 use native.Mathlib.Omega.{arith}
 use Rattle.label_names.proofs.NameTurns.{empty-is}
 use borrow.Author.Needs.{needs}

@@ -1,4 +1,4 @@
--- `label::names::is_end` meets its contract: END is its own name as it is compared.
+-- `label_names::is_end` meets its contract: END is its own name as it is compared.
 use Rattle.label_spec.specs.Names.{norm, ignored, blank, upper}
 use Rattle.label_spec.specs.Names.{END}
 use borrow.Author.Needs.{needs}

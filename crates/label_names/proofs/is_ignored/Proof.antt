@@ -1,4 +1,4 @@
--- `label::names::is_ignored` meets its contract: by the keys of its `match`.
+-- `label_names::is_ignored` meets its contract: by the keys of its `match`.
 use Rattle.label_spec.specs.NameLaws.{ignored-yes, ignored-no}
 use Rattle.label_names.proofs.is_ignored.Statement.{statement}
 use Rattle.label_names.proofs.is_ignored.Tie as tie

@@ -1,4 +1,4 @@
--- `label::names::is_title` meets its contract: TITLE is its own name as it is compared.
+-- `label_names::is_title` meets its contract: TITLE is its own name as it is compared.
 use Rattle.label_spec.specs.Names.{norm, ignored, blank, upper}
 use Rattle.label_spec.specs.Names.{TITLE}
 use borrow.Author.Needs.{needs}

@@ -1,4 +1,4 @@
--- `label::names::is_word` meets its contract: a word is the whole of itself.
+-- `label_names::is_word` meets its contract: a word is the whole of itself.
 use mathlib.Core.Path.{_∙_, ap}
 use Rattle.label_spec.specs.Names.{sames}
 use Rattle.label_spec.specs.NameLaws.{whole}

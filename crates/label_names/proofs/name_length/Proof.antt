@@ -1,4 +1,4 @@
--- `label::names::name_length` meets its contract: the bytes counted and those that are left make the whole length.
+-- `label_names::name_length` meets its contract: the bytes counted and those that are left make the whole length.
 use borrow.Author.Needs.{needs}
 use mathlib.Core.Path.{_≡_}
 use Prim.Native.Nat.{_+_, _-_, _≤_}

@@ -1,4 +1,4 @@
--- `label::names::next_kept` meets its contract: the bytes passed do not count in the name.
+-- `label_names::next_kept` meets its contract: the bytes passed do not count in the name.
 use mathlib.Core.Path.{refl}
 use Prim.Native.Nat.{_-_}
 use native.Mathlib.Omega.{arith}
@@ -33,7 +33,8 @@ loop-less : tie.Need-loop-less Inv-loop μ-loop
 loop-less c = search needs
 
 loop-again : tie.Need-loop-again Inv-loop μ-loop
-loop-again c = idle-on _ _ _ _ (c .before .before .before .before .loop .inv) (c .before .before .before .loop-test .taken) (omega arith) _ (c .before .is-ignored .ensures) (not-false _ (c .if1 .left))
+loop-again c = idle-on _ _ _ _ (c .before .before .before .before .loop .inv) (c .before .before .before .loop-test .taken) (omega arith) _
+    (c .before .is-ignored .ensures) (not-false _ (c .if1 .left))
 
 returns-2 : tie.Need-returns-2 Inv-loop μ-loop
 returns-2 c = idle-end _ _ _ _ (c .before .loop .inv) (c .loop-test .left)

@@ -1,4 +1,4 @@
--- `label::names::same_name` meets its contract: what is left of one name equals what is left of the other exactly if the whole names are equal.
+-- `label_names::same_name` meets its contract: what is left of one name equals what is left of the other exactly if the whole names are equal.
 use borrow.Author.Needs.{needs}
 use mathlib.Core.Path.{_≡_, sym, _∙_}
 use Prim.Native.Nat.{_-_, _≤_}

@@ -1,4 +1,4 @@
--- `label::names::upper_of` meets its contract: by the two tests.
+-- `label_names::upper_of` meets its contract: by the two tests.
 use Rattle.label_spec.specs.NameLaws.{upper-low, upper-high, upper-small}
 use borrow.Author.Needs.{needs}
 use Rattle.label_names.proofs.upper_of.Statement.{statement}

@@ -1,10 +1,8 @@
+-- `replay::main` meets its contract.
 use Prim.Native.Nat.{_≤_, _-_}
 use borrow.Author.Needs.{needs}
 use Rattle.replay.proofs.main.Statement.{statement}
 use Rattle.replay.proofs.main.Tie as tie
-use Rattle.replay.proofs.main.Reads as reads
-use Rattle.replay.proofs.main.Lts as lts
-use Rattle.replay.proofs.next_case.Reads as next-case-reads
 
 abbrev Inv-loop : tie.InvT-loop
 Inv-loop i₀ i = i ≤ 100000

@@ -1,18 +1,14 @@
+-- `replay::show_points` meets its contract: the first n ordinates, and the line's end.
 use Prim.Native.Nat.{_≤_, _-_}
 use borrow.Author.Needs.{needs}
 use Rattle.replay.proofs.show_points.Statement.{statement}
 use Rattle.replay.proofs.show_points.Tie as tie
-use Rattle.replay.proofs.show_points.Reads as reads
-use Rattle.replay.proofs.show_points.Lts as lts
-use Rattle.io.proofs.write_all.Reads as write-all-reads
-use Rattle.report.proofs.end_line.Reads as end-line-reads
-use Rattle.report.proofs.print_ordinate.Reads as print-ordinate-reads
 
 abbrev Inv-loop : tie.InvT-loop
-Inv-loop out n i₀ t4 i = i ≤ 1024
+Inv-loop out n i₀ t4 i = i ≤ 4096
 
 abbrev μ-loop : tie.MeasureT-loop
-μ-loop out n i₀ t4 i = 1024 - i
+μ-loop out n i₀ t4 i = 4096 - i
 
 loop-holds : tie.Need-loop-holds Inv-loop μ-loop
 loop-holds c = search needs

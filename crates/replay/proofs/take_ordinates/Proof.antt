@@ -1,12 +1,10 @@
+-- `replay::take_ordinates` meets its contract: the next n ordinates of the input.
 use mathlib.Core.Path.{_≡_}
-use Prim.Native.Nat.{_≤_, _-_}
+use Prim.Native.Nat.{_-_}
 use borrow.Author.Needs.{needs}
 use lib.ListN.{length}
 use Rattle.replay.proofs.take_ordinates.Statement.{statement}
 use Rattle.replay.proofs.take_ordinates.Tie as tie
-use Rattle.replay.proofs.take_ordinates.Reads as reads
-use Rattle.replay.proofs.take_ordinates.Lts as lts
-use Rattle.replay.proofs.next_ordinate.Reads as next-ordinate-reads
 
 abbrev Inv-loop : tie.InvT-loop
 Inv-loop ys₀ n i₀ ys i = length ys ≡ length ys₀

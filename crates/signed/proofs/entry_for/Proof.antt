@@ -1,16 +1,10 @@
-use mathlib.Core.Path.{_≡_, refl, sym, ap, _∙_}
-use Prim.Native.Nat.{ℕ, _<_}
-use native.Mathlib.Omega.{arith}
-use lib.IntN.{pos}
-use mir.Syntax.{w32, w64}
-use mir.Val.{toZ, ofZ}
-use mir.Facts.{toZ-pos, toZ-ofZ}
+-- `signed::entry_for` meets its contract: the entry of the slice for an ordinate.
+use mathlib.Core.Path.{refl}
+use mir.Facts.{toZ-ofZ}
 use Rattle.signed.specs.Scale.{entry-fits, entry-wide, wide}
 use borrow.Author.Needs.{needs}
 use Rattle.signed.proofs.entry_for.Statement.{statement}
 use Rattle.signed.proofs.entry_for.Tie as tie
-use Rattle.signed.proofs.entry_for.Reads as reads
-use Rattle.signed.proofs.entry_for.Lts as lts
 
 cast-v : tie.Need-cast-v
 cast-v c = search needs

@@ -1,3 +1,4 @@
+-- `signed::ordinate_at` meets its contract: the ordinate at an index of the slice.
 use mathlib.Core.Path.{sym, ap, _∙_}
 use borrow.Author.Needs.{needs, sfits-of}
 use mir.Syntax.{w32}
@@ -8,9 +9,6 @@ use Rattle.table_spec.specs.Frame.{ordinate-of}
 use Rattle.signed.specs.Scale.{ordinate-at}
 use Rattle.signed.proofs.ordinate_at.Statement.{statement}
 use Rattle.signed.proofs.ordinate_at.Tie as tie
-use Rattle.signed.proofs.ordinate_at.Reads as reads
-use Rattle.signed.proofs.ordinate_at.Lts as lts
-use Rattle.signed.proofs.ordinate_of.Reads as ordinate-of-reads
 
 mul-ordinate-of : tie.Need-mul-ordinate-of
 mul-ordinate-of c = search needs

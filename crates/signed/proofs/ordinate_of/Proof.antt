@@ -1,3 +1,4 @@
+-- `signed::ordinate_of` meets its contract: the ordinate that an entry of the slice is.
 use mathlib.Core.Path.{refl}
 use native.Mathlib.Omega.{arith}
 use mir.Facts.{toZ-ofZ}
@@ -5,8 +6,6 @@ use Rattle.table_spec.specs.Frame.{zero-ordinate}
 use Rattle.signed.specs.Scale.{lift-sum, lift-small, lift-fits, wider}
 use Rattle.signed.proofs.ordinate_of.Statement.{statement}
 use Rattle.signed.proofs.ordinate_of.Tie as tie
-use Rattle.signed.proofs.ordinate_of.Reads as reads
-use Rattle.signed.proofs.ordinate_of.Lts as lts
 
 cast-a : tie.Need-cast-a
 cast-a c = rw (toZ-ofZ (c .fits .y)) (wider (c .fits .y))

@@ -1,9 +1,8 @@
+-- `table_lines::abscissa` meets its contract: a head of so many thousandths.
 use mathlib.Core.Path.{refl}
 use borrow.Author.Needs.{needs}
 use Rattle.table_lines.proofs.abscissa.Statement.{statement}
 use Rattle.table_lines.proofs.abscissa.Tie as tie
-use Rattle.table_lines.proofs.abscissa.Reads as reads
-use Rattle.table_lines.proofs.abscissa.Lts as lts
 
 sub-t6 : tie.Need-sub-t6
 sub-t6 c = search needs

@@ -1,13 +1,9 @@
+-- `table_lines::bare_line` meets its contract: only blanks or a comment between a head and its line's end?
 use Rattle.table_lines.proofs.Bare.{bare-value, bare-end, bare-bad}
 use Prim.Native.Nat.{_-_}
 use borrow.Author.Needs.{needs}
 use Rattle.table_lines.proofs.bare_line.Statement.{statement}
 use Rattle.table_lines.proofs.bare_line.Tie as tie
-use Rattle.table_lines.proofs.bare_line.Reads as reads
-use Rattle.table_lines.proofs.bare_line.Lts as lts
-use Rattle.alphabet.proofs.entry_at.Reads as entry-at-reads
-use Rattle.table_lines.proofs.blanks.Reads as blanks-reads
-use Rattle.table_lines.proofs.line_end.Reads as line-end-reads
 
 blanks-requires : tie.Need-blanks-requires
 blanks-requires c κs = search needs

@@ -1,3 +1,4 @@
+-- `table_lines::blanks` meets its contract: the first place from here on where no blank stands.
 use mathlib.Core.Path.{_≡_, refl, sym, _∙_}
 use Prim.Native.Nat.{ℕ, _-_, _<_, _≤_}
 use native.Mathlib.Omega.{arith}
@@ -9,9 +10,6 @@ use Rattle.table_lines.specs.Seen.{seen, behind}
 use Rattle.table_lines.proofs.LineEnds.{blank-in, blank-fresh, blank-within, place-more}
 use Rattle.table_lines.proofs.blanks.Statement.{statement}
 use Rattle.table_lines.proofs.blanks.Tie as tie
-use Rattle.table_lines.proofs.blanks.Reads as reads
-use Rattle.table_lines.proofs.blanks.Lts as lts
-use Rattle.alphabet.proofs.entry_at.Reads as entry-at-reads
 
 abbrev Inv-loop : tie.InvT-loop
 Inv-loop t s from i₀ i =

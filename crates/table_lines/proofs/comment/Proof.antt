@@ -1,3 +1,4 @@
+-- `table_lines::comment` meets its contract: the place after a comment.
 use mathlib.Core.Path.{_≡_, _∙_}
 use Prim.Native.Nat.{_+_, _-_, _≤_}
 use native.Mathlib.Omega.{arith}
@@ -7,8 +8,6 @@ use Rattle.table_spec.specs.Reading.{comment}
 use Rattle.table_lines.proofs.LineEnds.{comment-end, comment-lf, comment-on}
 use Rattle.table_lines.proofs.comment.Statement.{statement}
 use Rattle.table_lines.proofs.comment.Tie as tie
-use Rattle.table_lines.proofs.comment.Reads as reads
-use Rattle.table_lines.proofs.comment.Lts as lts
 
 abbrev Inv-loop : tie.InvT-loop
 Inv-loop s from i₀ i = (from ≤ i) × (i ≤ length s) × (comment (drop from s) ≡ i - from + comment (drop i s))

@@ -1,3 +1,4 @@
+-- `table_lines::fraction` meets its contract: after the whole number of a head, which was read as w.
 use mathlib.Core.Bool.{true}
 use mathlib.Core.Path.{sym, _∙_}
 use native.Mathlib.Omega.{arith}
@@ -6,11 +7,6 @@ use Rattle.table_lines.proofs.HeadLaws.{whole-only, fraction-long, frac
 use borrow.Author.Needs.{needs}
 use Rattle.table_lines.proofs.fraction.Statement.{statement}
 use Rattle.table_lines.proofs.fraction.Tie as tie
-use Rattle.table_lines.proofs.fraction.Reads as reads
-use Rattle.table_lines.proofs.fraction.Lts as lts
-use Rattle.alphabet.proofs.digits.Reads as digits-reads
-use Rattle.table_lines.proofs.abscissa.Reads as abscissa-reads
-use Rattle.table_lines.proofs.worth.Reads as worth-reads
 
 mul-abscissa : tie.Need-mul-abscissa
 mul-abscissa c = search needs

@@ -1,12 +1,9 @@
+-- `table_lines::head` meets its contract: the head at a place whose entry is e.
 use native.Mathlib.Omega.{arith}
 use Rattle.table_lines.proofs.HeadLaws.{value-first, digit-small, digit-long, digit-headed, sign-alone, sign-small, sign-long, sign-headed}
 use borrow.Author.Needs.{needs}
 use Rattle.table_lines.proofs.head.Statement.{statement}
 use Rattle.table_lines.proofs.head.Tie as tie
-use Rattle.table_lines.proofs.head.Reads as reads
-use Rattle.table_lines.proofs.head.Lts as lts
-use Rattle.alphabet.proofs.digits.Reads as digits-reads
-use Rattle.table_lines.proofs.fraction.Reads as fraction-reads
 
 add-next : tie.Need-add-next
 add-next c = search needs

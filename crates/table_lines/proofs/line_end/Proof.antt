@@ -1,16 +1,13 @@
+-- `table_lines::line_end` meets its contract: what stands at a place whose entry e is a point's or above.
 use mathlib.Core.Path.{sym, _∙_}
 use Prim.Native.Nat.{_+_, _-_}
 use native.Mathlib.Omega.{arith}
-use Rattle.alphabet_spec.specs.Entries.{entry-in}
+use Rattle.alphabet_spec.specs.EntryLaws.{entry-in}
 use Rattle.table_spec.specs.Reading.{comment}
 use Rattle.table_lines.proofs.LineEnds.{end-over, end-lf, end-cr, end-comment, end-no-cr, end-no-dollar, end-bad}
 use borrow.Author.Needs.{needs}
 use Rattle.table_lines.proofs.line_end.Statement.{statement}
 use Rattle.table_lines.proofs.line_end.Tie as tie
-use Rattle.table_lines.proofs.line_end.Reads as reads
-use Rattle.table_lines.proofs.line_end.Lts as lts
-use Rattle.alphabet.proofs.entry_at.Reads as entry-at-reads
-use Rattle.table_lines.proofs.comment.Reads as comment-reads
 
 returns : tie.Need-returns
 returns c = end-over _ _ (c .before .before .pre .1) (sym (c .before .before .pre .2) ∙ c .if1 .taken)

@@ -1,19 +1,15 @@
+-- `table_lines::row_start` meets its contract: the start of the next line that is not passed over.
 use mathlib.Core.Path.{_≡_, sym, _∙_}
 use Prim.Native.Nat.{_-_, _≤_}
 use native.Mathlib.Omega.{arith}
 use lib.ListN.{length}
 use borrow.Author.Needs.{needs}
-use Rattle.alphabet_spec.specs.Entries.{entry-in}
+use Rattle.alphabet_spec.specs.EntryLaws.{entry-in}
 use Rattle.table_spec.specs.Reading.{fresh}
 use Rattle.table_lines.specs.Seen.{seen}
 use Rattle.table_lines.proofs.LineEnds.{start-end}
 use Rattle.table_lines.proofs.row_start.Statement.{statement}
 use Rattle.table_lines.proofs.row_start.Tie as tie
-use Rattle.table_lines.proofs.row_start.Reads as reads
-use Rattle.table_lines.proofs.row_start.Lts as lts
-use Rattle.alphabet.proofs.entry_at.Reads as entry-at-reads
-use Rattle.table_lines.proofs.blanks.Reads as blanks-reads
-use Rattle.table_lines.proofs.line_end.Reads as line-end-reads
 
 abbrev Inv-loop : tie.InvT-loop
 Inv-loop t s from at₀ at = (from ≤ at) × (at ≤ length s) × (seen s from fresh ≡ seen s at fresh)

@@ -1,9 +1,8 @@
+-- `table_lines::worth` meets its contract: thousandths.
 use mathlib.Core.Path.{_≡_, refl}
 use native.Mathlib.Omega.{arith}
 use Rattle.table_lines.proofs.worth.Statement.{statement}
 use Rattle.table_lines.proofs.worth.Tie as tie
-use Rattle.table_lines.proofs.worth.Reads as reads
-use Rattle.table_lines.proofs.worth.Lts as lts
 
 returns : tie.Need-returns
 returns c = rw (c .match .keys1) refl

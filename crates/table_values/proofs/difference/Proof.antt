@@ -1,3 +1,4 @@
+-- `table_values::difference` meets its contract: a difference.
 use mathlib.Core.Path.{refl, sym, _∙_}
 use mathlib.Core.List.{[], _∷_}
 use Prim.Native.Nat.{_-_}
@@ -11,10 +12,6 @@ use Rattle.table_values.proofs.Walks.{sits-next}
 use borrow.Author.Needs.{needs}
 use Rattle.table_values.proofs.difference.Statement.{statement}
 use Rattle.table_values.proofs.difference.Tie as tie
-use Rattle.table_values.proofs.difference.Reads as reads
-use Rattle.table_values.proofs.difference.Lts as lts
-use Rattle.table_values.proofs.put.Reads as put-reads
-use Rattle.table_values.proofs.shifted.Reads as shifted-reads
 
 returns : tie.Need-returns
 returns c = let p = c .before .before .pre in (refl, λ y w h. value-not _ _ (p .4) _ y w 8 (dif-none _ _ h (c .if1 .taken)))

@@ -1,3 +1,4 @@
+-- `table_values::differences` meets its contract: THE HOT LOOP.
 use mathlib.Core.Path.{_≡_, refl}
 use Prim.Native.Nat.{_-_, _<_, _≤_}
 use native.Mathlib.Omega.{arith}
@@ -10,11 +11,6 @@ use Rattle.table_values.proofs.Moves.{shift-some}
 use Rattle.table_values.proofs.Walks.{went-none, went-on}
 use Rattle.table_values.proofs.differences.Statement.{statement}
 use Rattle.table_values.proofs.differences.Tie as tie
-use Rattle.table_values.proofs.differences.Reads as reads
-use Rattle.table_values.proofs.differences.Lts as lts
-use Rattle.table_values.proofs.packed.Reads as packed-reads
-use Rattle.table_values.proofs.put.Reads as put-reads
-use Rattle.table_values.proofs.shifted.Reads as shifted-reads
 
 abbrev Inv-loop : tie.InvT-loop
 Inv-loop t s points out₀ c at₀ e₀ k₀ q₀ step₀ form₀ out at e k q step form =

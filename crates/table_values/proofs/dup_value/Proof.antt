@@ -1,3 +1,4 @@
+-- `table_values::dup_value` meets its contract: a DUP with the count v (01, "c is at least 2").
 use mathlib.Core.Path.{_≡_, refl, subst}
 use Prim.Native.Nat.{ℕ, _+_, _-_}
 use native.Mathlib.Omega.{arith}
@@ -8,10 +9,6 @@ use Rattle.table_values.proofs.Meanings.{dup-nowhere, dup-few}
 use borrow.Author.Needs.{needs}
 use Rattle.table_values.proofs.dup_value.Statement.{statement}
 use Rattle.table_values.proofs.dup_value.Tie as tie
-use Rattle.table_values.proofs.dup_value.Reads as reads
-use Rattle.table_values.proofs.dup_value.Lts as lts
-use Rattle.table_values.proofs.same_again.Reads as same-again-reads
-use Rattle.table_values.proofs.steps_again.Reads as steps-again-reads
 
 returns : tie.Need-returns
 returns c = let p = c .before .before .pre in (refl, λ y w h. value-not _ _ (p .3) _ y w 8 (dup-nowhere _ h (c .if1 .taken)))

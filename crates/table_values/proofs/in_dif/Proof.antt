@@ -1,9 +1,8 @@
+-- `table_values::in_dif` meets its contract: is a form DIF?
 use mathlib.Core.Path.{refl}
 use borrow.Author.Tests.{ne-eqb}
 use Rattle.table_values.proofs.in_dif.Statement.{statement}
 use Rattle.table_values.proofs.in_dif.Tie as tie
-use Rattle.table_values.proofs.in_dif.Reads as reads
-use Rattle.table_values.proofs.in_dif.Lts as lts
 
 returns : tie.Need-returns
 returns c = rw (c .if1 .taken) refl

@@ -1,3 +1,4 @@
+-- `table_values::missing` meets its contract: a missing ordinate.
 use mathlib.Core.Path.{refl, sym, _∙_}
 use mathlib.Core.List.{[], _∷_}
 use Prim.Native.Nat.{_-_}
@@ -10,10 +11,6 @@ use Rattle.table_values.proofs.Meanings.{gap-asked, gap-free}
 use borrow.Author.Needs.{needs}
 use Rattle.table_values.proofs.missing.Statement.{statement}
 use Rattle.table_values.proofs.missing.Tie as tie
-use Rattle.table_values.proofs.missing.Reads as reads
-use Rattle.table_values.proofs.missing.Lts as lts
-use Rattle.alphabet.proofs.entry_at.Reads as entry-at-reads
-use Rattle.table_values.proofs.put.Reads as put-reads
 
 add-next : tie.Need-add-next
 add-next c = search needs

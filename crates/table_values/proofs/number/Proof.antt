@@ -1,14 +1,10 @@
+-- `table_values::number` meets its contract: the number of the value at a place whose entry is e, below a point's, and neither `?` nor a blank.
 use mathlib.Core.Logic.{_⊎_, ⊎-elim}
 use Prim.Native.Nat.{_-_}
 use native.Mathlib.Omega.{arith}
 use borrow.Author.Needs.{needs}
 use Rattle.table_values.proofs.number.Statement.{statement}
 use Rattle.table_values.proofs.number.Tie as tie
-use Rattle.table_values.proofs.number.Reads as reads
-use Rattle.table_values.proofs.number.Lts as lts
-use Rattle.table_values.proofs.packed.Reads as packed-reads
-use Rattle.table_values.proofs.plain_number.Reads as plain-number-reads
-use Rattle.table_values.proofs.signed_number.Reads as signed-number-reads
 
 plain-number-requires : tie.Need-plain-number-requires
 plain-number-requires c κs = search needs

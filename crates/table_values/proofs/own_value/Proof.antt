@@ -1,3 +1,4 @@
+-- `table_values::own_value` meets its contract: an ordinate of its own; on a check line's start it is compared, and adds no point.
 use mathlib.Core.Path.{refl, sym, _∙_}
 use mathlib.Core.List.{[]}
 use Prim.Native.Nat.{_-_}
@@ -11,10 +12,6 @@ use Rattle.table_values.proofs.Walks.{sits-next}
 use borrow.Author.Needs.{needs}
 use Rattle.table_values.proofs.own_value.Statement.{statement}
 use Rattle.table_values.proofs.own_value.Tie as tie
-use Rattle.table_values.proofs.own_value.Reads as reads
-use Rattle.table_values.proofs.own_value.Lts as lts
-use Rattle.table_values.proofs.moved_by.Reads as moved-by-reads
-use Rattle.table_values.proofs.put.Reads as put-reads
 
 returns : tie.Need-returns
 returns c = let p = c .before .before .pre in (refl, λ y w h. value-not _ _ (p .1) _ y w 9 (own-large _ _ h (c .if1 .taken)))

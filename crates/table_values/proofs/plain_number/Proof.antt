@@ -1,13 +1,10 @@
+-- `table_values::plain_number` meets its contract: digits directly after a blank, at a place whose entry is the digit e.
 use mathlib.Core.Path.{sym, _∙_}
 use native.Mathlib.Omega.{arith}
 use Rattle.table_values.proofs.NumberLaws.{digit-here, digit-late, plain-long, plain-token}
 use borrow.Author.Needs.{needs}
 use Rattle.table_values.proofs.plain_number.Statement.{statement}
 use Rattle.table_values.proofs.plain_number.Tie as tie
-use Rattle.table_values.proofs.plain_number.Reads as reads
-use Rattle.table_values.proofs.plain_number.Lts as lts
-use Rattle.alphabet.proofs.digits.Reads as digits-reads
-use Rattle.alphabet.proofs.entry_at.Reads as entry-at-reads
 
 sub-entry-at : tie.Need-sub-entry-at
 sub-entry-at c = search needs

@@ -1,3 +1,4 @@
+-- `table_values::put` meets its contract: stores an ordinate, if there is room for it.
 use mathlib.Core.Path.{refl, sym}
 use borrow.Author.Needs.{needs, sfits-of}
 use mir.Syntax.{w32}
@@ -5,9 +6,6 @@ use mir.Facts.{toZ-ofZ}
 use lib.Seq.{set-out}
 use Rattle.table_values.proofs.put.Statement.{statement}
 use Rattle.table_values.proofs.put.Tie as tie
-use Rattle.table_values.proofs.put.Reads as reads
-use Rattle.table_values.proofs.put.Lts as lts
-use Rattle.signed.proofs.entry_for.Reads as entry-for-reads
 
 entry-for-requires : tie.Need-entry-for-requires
 entry-for-requires c κs = search needs

@@ -1,10 +1,8 @@
+-- `table_values::row_after` meets its contract: the state after a line, from the last one within it; the next line stands at the place.
 use mathlib.Core.Path.{refl}
 use borrow.Author.Needs.{needs}
 use Rattle.table_values.proofs.row_after.Statement.{statement}
 use Rattle.table_values.proofs.row_after.Tie as tie
-use Rattle.table_values.proofs.row_after.Reads as reads
-use Rattle.table_values.proofs.row_after.Lts as lts
-use Rattle.table_values.proofs.in_dif.Reads as in-dif-reads
 
 in-dif-requires : tie.Need-in-dif-requires
 in-dif-requires c κs = search needs

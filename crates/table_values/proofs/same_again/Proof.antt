@@ -1,3 +1,4 @@
+-- `table_values::same_again` meets its contract: a DUP of a value of its own, or of a missing one.
 use mathlib.Core.Bool.{false}
 use mathlib.Core.Path.{refl}
 use Prim.Native.Nat.{_-_}
@@ -11,9 +12,6 @@ use Rattle.table_values.proofs.Walks.{sits-next}
 use borrow.Author.Needs.{needs}
 use Rattle.table_values.proofs.same_again.Statement.{statement}
 use Rattle.table_values.proofs.same_again.Tie as tie
-use Rattle.table_values.proofs.same_again.Reads as reads
-use Rattle.table_values.proofs.same_again.Lts as lts
-use Rattle.table_values.proofs.repeat.Reads as repeat-reads
 
 add-end : tie.Need-add-end
 add-end c = search needs

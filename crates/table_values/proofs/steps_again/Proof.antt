@@ -1,3 +1,4 @@
+-- `table_values::steps_again` meets its contract: a DUP of a difference.
 use mathlib.Core.Path.{refl, sym, _∙_}
 use Prim.Native.Nat.{_-_, _*_}
 use native.Mathlib.Omega.{arith}
@@ -11,10 +12,6 @@ use Rattle.table_values.proofs.Walks.{sits-next}
 use borrow.Author.Needs.{needs}
 use Rattle.table_values.proofs.steps_again.Statement.{statement}
 use Rattle.table_values.proofs.steps_again.Tie as tie
-use Rattle.table_values.proofs.steps_again.Reads as reads
-use Rattle.table_values.proofs.steps_again.Lts as lts
-use Rattle.table_values.proofs.repeat.Reads as repeat-reads
-use Rattle.table_values.proofs.shifted.Reads as shifted-reads
 
 mul-far : tie.Need-mul-far
 mul-far c = let p = c .before .pre in let a = c .before .args in let z = far-small (a .c .step) (a .n) (p .0 .size) (p .4) in omega arith

@@ -1,3 +1,4 @@
+-- `table_values::token` meets its contract: whatever stands next on a line.
 use Rattle.table_values.proofs.NumberLaws.{kinds}
 use mathlib.Core.Path.{refl}
 use Prim.Native.Nat.{_-_}
@@ -6,14 +7,6 @@ use Rattle.table_values.proofs.Turns.{fault-token, gone-same, blank-mov
 use borrow.Author.Needs.{needs}
 use Rattle.table_values.proofs.token.Statement.{statement}
 use Rattle.table_values.proofs.token.Tie as tie
-use Rattle.table_values.proofs.token.Reads as reads
-use Rattle.table_values.proofs.token.Lts as lts
-use Rattle.alphabet.proofs.entry_at.Reads as entry-at-reads
-use Rattle.table_lines.proofs.blanks.Reads as blanks-reads
-use Rattle.table_lines.proofs.line_end.Reads as line-end-reads
-use Rattle.table_values.proofs.missing.Reads as missing-reads
-use Rattle.table_values.proofs.number.Reads as number-reads
-use Rattle.table_values.proofs.value.Reads as value-reads
 
 line-end-requires : tie.Need-line-end-requires
 line-end-requires c κs = search needs

@@ -1,14 +1,10 @@
+-- `table_values::value` meets its contract: the value at the place, whose number is v.
 use Prim.Native.Nat.{_-_, _<_, _≤_}
 use native.Mathlib.Omega.{arith}
 use Rattle.table_values.proofs.NumberLaws.{below-ten, dup-at, dif-at, own-at-all}
 use borrow.Author.Needs.{needs}
 use Rattle.table_values.proofs.value.Statement.{statement}
 use Rattle.table_values.proofs.value.Tie as tie
-use Rattle.table_values.proofs.value.Reads as reads
-use Rattle.table_values.proofs.value.Lts as lts
-use Rattle.table_values.proofs.difference.Reads as difference-reads
-use Rattle.table_values.proofs.dup_value.Reads as dup-value-reads
-use Rattle.table_values.proofs.own_value.Reads as own-value-reads
 
 dup-value-requires : tie.Need-dup-value-requires
 dup-value-requires c κs =

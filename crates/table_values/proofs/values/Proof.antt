@@ -1,20 +1,16 @@
+-- `table_values::values` meets its contract: the values of a line, from a place with the entry e on, with k points given; the first must equal `want`, if that is not 0.
 use mathlib.Core.Path.{_≡_, refl}
 use native.Mathlib.Omega.{arith}
 use Prim.Native.Nat.{_-_}
 use lib.ListN.{length}
 use borrow.Author.Needs.{needs}
 use Rattle.table_values.specs.States.{Went}
-use Rattle.table_values.proofs.Walks.{went-none, went-went, line-start, went-line, went-refused}
+use Rattle.table_values.proofs.Walks.{went-none, went-went, first-state, went-line, went-refused}
 use Rattle.table_values.proofs.values.Statement.{statement}
 use Rattle.table_values.proofs.values.Tie as tie
-use Rattle.table_values.proofs.values.Reads as reads
-use Rattle.table_values.proofs.values.Lts as lts
-use Rattle.table_values.proofs.differences.Reads as differences-reads
-use Rattle.table_values.proofs.row_after.Reads as row-after-reads
-use Rattle.table_values.proofs.token.Reads as token-reads
 
 abbrev Inv-loop : tie.InvT-loop
-Inv-loop t s points out₀ at e k want c₀ out c = Went points s (line-start at e k want) c out₀ out × (length out ≡ length out₀)
+Inv-loop t s points out₀ at e k want c₀ out c = Went points s (first-state at e k want) c out₀ out × (length out ≡ length out₀)
 
 abbrev μ-loop : tie.MeasureT-loop
 μ-loop t s points out₀ at e k want c₀ out c = length s - c .at

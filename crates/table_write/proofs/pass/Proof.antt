@@ -1,3 +1,4 @@
+-- `table_write::pass` meets its contract: the whole text from the start of the lent bytes.
 use mathlib.Core.Path.{_∙_}
 use Prim.Native.Nat.{_-_}
 use native.Mathlib.Omega.{arith}
@@ -9,11 +10,6 @@ use Rattle.text_lines.specs.Lines.{Going}
 use Rattle.text_lines.proofs.LineSteps.{starts, goes, going-near, finish}
 use Rattle.table_write.proofs.pass.Statement.{statement}
 use Rattle.table_write.proofs.pass.Tie as tie
-use Rattle.table_write.proofs.pass.Reads as reads
-use Rattle.table_write.proofs.pass.Lts as lts
-use Rattle.text_lines.proofs.begin.Reads as begin-reads
-use Rattle.text_lines.proofs.turn.Reads as turn-reads
-use Rattle.text_lines.proofs.finish.Reads as finish-reads
 
 abbrev Inv-loop : tie.InvT-loop
 Inv-loop ys text₀ fr n s₀ i₀ text s i = Going (headOf fr) (ordinates ys) text₀ s₀ text s i

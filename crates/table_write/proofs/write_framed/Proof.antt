@@ -1,3 +1,4 @@
+-- `table_write::write_framed` meets its contract: writing in a legal frame.
 use mathlib.Core.Path.{refl, sym, _∙_}
 use native.Mathlib.Omega.{arith}
 use lib.Seq.{length-take-le}
@@ -6,12 +7,6 @@ use Rattle.table_text.proofs.AnswerSteps.{too-few, too-near, too-long, in-room}
 use borrow.Author.Needs.{needs}
 use Rattle.table_write.proofs.write_framed.Statement.{statement}
 use Rattle.table_write.proofs.write_framed.Tie as tie
-use Rattle.table_write.proofs.write_framed.Reads as reads
-use Rattle.table_write.proofs.write_framed.Lts as lts
-use Rattle.text_length.proofs.fits.Reads as fits-reads
-use Rattle.table_write.proofs.pass.Reads as pass-reads
-use Rattle.table_text.proofs.refused.Reads as refused-reads
-use Rattle.frame.proofs.distance.Reads as distance-reads
 
 refused-requires : tie.Need-refused-requires
 refused-requires c κs = search needs
@@ -40,7 +35,11 @@ fits-requires c κs = let s = c .before .before .before .before .before in
     (s .pre, length-take-le (s .args .fr .points) (s .args .ordinates .now) (c .before .before .before .if1 .left), omega (arith, c .before .if2 .left, c .before .before .distance .ensures))
 
 pass-requires : tie.Need-pass-requires
-pass-requires c κs = let s = c .before .before .before .before .before .before .before .before in (s .pre, length-take-le (s .args .fr .points) (s .args .ordinates .now) (c .before .before .before .before .before .before .if1 .left))
+pass-requires c κs = let s = c .before .before .before .before .before .before .before .before in (
+  s .pre,
+  length-take-le (s .args .fr .points)
+      (s .args .ordinates .now) (c .before .before .before .before .before .before .if1 .left),
+)
 
 same-length : tie.Need-same-length
 same-length c = search needs

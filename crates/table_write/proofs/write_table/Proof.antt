@@ -1,3 +1,4 @@
+-- `table_write::write_table` meets its contract: writes the table of a frame, its numbers as they come, and its ordinates into the lent bytes; or refuses and leaves them as they were.
 use mathlib.Core.Path.{refl, sym, _∙_}
 use mir.Facts.{toZ-ofZ}
 use Rattle.frame.specs.FrameLaws.{framed-legal}
@@ -5,11 +6,6 @@ use Rattle.table_text.proofs.AnswerSteps.{outside, inside}
 use borrow.Author.Needs.{needs}
 use Rattle.table_write.proofs.write_table.Statement.{statement}
 use Rattle.table_write.proofs.write_table.Tie as tie
-use Rattle.table_write.proofs.write_table.Reads as reads
-use Rattle.table_write.proofs.write_table.Lts as lts
-use Rattle.frame.proofs.Frame.new.Reads as new-reads
-use Rattle.table_text.proofs.refused.Reads as refused-reads
-use Rattle.table_write.proofs.write_framed.Reads as write-framed-reads
 
 new-requires : tie.Need-new-requires
 new-requires c κs = search needs

@@ -1,3 +1,4 @@
+-- `text_groups::copies_of` meets its contract: how many ordinates from a place on have the token again, after p.
 use Prim.Native.Nat.{_-_}
 use native.Mathlib.Omega.{arith}
 use borrow.Author.Needs.{needs}
@@ -9,10 +10,6 @@ use Rattle.table_text.specs.Pieces.{ordinates}
 use Rattle.text_groups.proofs.TokenSteps.{Copies, copies-start, copies-more, copies-stop, copies-out}
 use Rattle.text_groups.proofs.copies_of.Statement.{statement}
 use Rattle.text_groups.proofs.copies_of.Tie as tie
-use Rattle.text_groups.proofs.copies_of.Reads as reads
-use Rattle.text_groups.proofs.copies_of.Lts as lts
-use Rattle.signed.proofs.ordinate_at.Reads as ordinate-at-reads
-use Rattle.text_groups.proofs.is_again.Reads as is-again-reads
 
 abbrev Inv-loop : tie.InvT-loop
 Inv-loop ys start t p n q₀ k₀ q k = Copies (ordinates ys) start t p q k

@@ -1,10 +1,9 @@
+-- `text_groups::dif_token` meets its contract: the DIF token of the ordinate y after p.
 use Rattle.text_groups.proofs.TokenSteps.{dif-up, dif-same, dif-down}
 use native.Mathlib.Omega.{arith}
 use borrow.Author.Needs.{needs}
 use Rattle.text_groups.proofs.dif_token.Statement.{statement}
 use Rattle.text_groups.proofs.dif_token.Tie as tie
-use Rattle.text_groups.proofs.dif_token.Reads as reads
-use Rattle.text_groups.proofs.dif_token.Lts as lts
 
 sub-down : tie.Need-sub-down
 sub-down c = search needs

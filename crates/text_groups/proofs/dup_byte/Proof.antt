@@ -1,10 +1,9 @@
+-- `text_groups::dup_byte` meets its contract: the byte of a DUP's first digit.
 use mathlib.Core.Path.{refl}
 use borrow.Author.Tests.{eq-eqb, ne-eqb}
 use borrow.Author.Needs.{needs}
 use Rattle.text_groups.proofs.dup_byte.Statement.{statement}
 use Rattle.text_groups.proofs.dup_byte.Tie as tie
-use Rattle.text_groups.proofs.dup_byte.Reads as reads
-use Rattle.text_groups.proofs.dup_byte.Lts as lts
 
 returns : tie.Need-returns
 returns c = rw (eq-eqb _ _ (c .if1 .taken)) refl

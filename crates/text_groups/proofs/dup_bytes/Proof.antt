@@ -1,3 +1,4 @@
+-- `text_groups::dup_bytes` meets its contract: the bytes of the DUP for m more of a token.
 use mathlib.Core.Path.{sym, ap}
 use lib.ListN.{length}
 use native.Mathlib.Omega.{arith}
@@ -5,9 +6,6 @@ use Rattle.table_text.proofs.NumberSteps.{dup-none, dup-length}
 use borrow.Author.Needs.{needs}
 use Rattle.text_groups.proofs.dup_bytes.Statement.{statement}
 use Rattle.text_groups.proofs.dup_bytes.Tie as tie
-use Rattle.text_groups.proofs.dup_bytes.Reads as reads
-use Rattle.text_groups.proofs.dup_bytes.Lts as lts
-use Rattle.table_text.proofs.digits.further_digits.Reads as further-digits-reads
 
 returns : tie.Need-returns
 returns c = (sym (ap length (dup-none _ (c .if1 .taken))), omega arith)

@@ -1,3 +1,4 @@
+-- `text_groups::find` meets its contract: the group that starts with the ordinate at i, after p.
 use native.Mathlib.Omega.{arith}
 use lib.ListN.{length-map}
 use Rattle.table_spec.specs.Frame.{ordinate-of}
@@ -6,13 +7,6 @@ use Rattle.text_groups.proofs.TokenSteps.{found}
 use borrow.Author.Needs.{needs}
 use Rattle.text_groups.proofs.find.Statement.{statement}
 use Rattle.text_groups.proofs.find.Tie as tie
-use Rattle.text_groups.proofs.find.Reads as reads
-use Rattle.text_groups.proofs.find.Lts as lts
-use Rattle.signed.proofs.ordinate_at.Reads as ordinate-at-reads
-use Rattle.table_text.proofs.digits.further_digits.Reads as further-digits-reads
-use Rattle.text_groups.proofs.copies_of.Reads as copies-of-reads
-use Rattle.text_groups.proofs.dup_bytes.Reads as dup-bytes-reads
-use Rattle.text_groups.proofs.token_of.Reads as token-of-reads
 
 ordinate-at-requires : tie.Need-ordinate-at-requires
 ordinate-at-requires c κs = search needs

@@ -1,10 +1,8 @@
+-- `text_groups::is_again` meets its contract: has the ordinate z after q the same token again?
 use Rattle.text_groups.proofs.TokenSteps.{again-not, again-so}
-use native.Mathlib.Omega.{arith}
 use borrow.Author.Needs.{needs}
 use Rattle.text_groups.proofs.is_again.Statement.{statement}
 use Rattle.text_groups.proofs.is_again.Tie as tie
-use Rattle.text_groups.proofs.is_again.Reads as reads
-use Rattle.text_groups.proofs.is_again.Lts as lts
 
 add-if1 : tie.Need-add-if1
 add-if1 c = search needs

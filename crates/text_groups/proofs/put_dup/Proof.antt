@@ -1,16 +1,10 @@
+-- `text_groups::put_dup` meets its contract: the DUP for m more of a token.
 use mathlib.Core.Path.{refl}
-use native.Mathlib.Omega.{arith}
 use Rattle.table_text.specs.Pieces.{put-as, put-none}
 use Rattle.table_text.proofs.NumberSteps.{dup-none, dup-put}
 use borrow.Author.Needs.{needs}
 use Rattle.text_groups.proofs.put_dup.Statement.{statement}
 use Rattle.text_groups.proofs.put_dup.Tie as tie
-use Rattle.text_groups.proofs.put_dup.Reads as reads
-use Rattle.text_groups.proofs.put_dup.Lts as lts
-use Rattle.table_text.proofs.digits.further_digits.Reads as further-digits-reads
-use Rattle.table_text.proofs.digits.put.Reads as put-reads
-use Rattle.table_text.proofs.digits.put_digits.Reads as put-digits-reads
-use Rattle.text_groups.proofs.dup_byte.Reads as dup-byte-reads
 
 returns : tie.Need-returns
 returns c = put-as (dup-none _ (c .if1 .taken)) (put-none _ _)

@@ -1,3 +1,4 @@
+-- `text_groups::put_group` meets its contract: the bytes of a group; where the first is past the end there is nothing to do.
 use mathlib.Core.List.{_++_}
 use Rattle.table_spec.specs.Groups.{dupText}
 use Rattle.table_text.specs.Pieces.{number}
@@ -6,10 +7,6 @@ use Rattle.table_text.specs.Pieces.{sets-past, put-then}
 use borrow.Author.Needs.{needs}
 use Rattle.text_groups.proofs.put_group.Statement.{statement}
 use Rattle.text_groups.proofs.put_group.Tie as tie
-use Rattle.text_groups.proofs.put_group.Reads as reads
-use Rattle.text_groups.proofs.put_group.Lts as lts
-use Rattle.table_text.proofs.digits.put_number.Reads as put-number-reads
-use Rattle.text_groups.proofs.put_dup.Reads as put-dup-reads
 
 returns : tie.Need-returns
 returns c = let g = c .before .before .args .g in sym (sets-past _ _ (number (g .base) (g .size) ++ dupText (g .more)) (c .if1 .taken))

@@ -1,11 +1,8 @@
+-- `text_groups::token_of` meets its contract: the token of the ordinate y after p; 0.
 use Rattle.text_groups.proofs.TokenSteps.{gap-token}
 use borrow.Author.Needs.{needs}
 use Rattle.text_groups.proofs.token_of.Statement.{statement}
 use Rattle.text_groups.proofs.token_of.Tie as tie
-use Rattle.text_groups.proofs.token_of.Reads as reads
-use Rattle.text_groups.proofs.token_of.Lts as lts
-use Rattle.text_groups.proofs.dif_token.Reads as dif-token-reads
-use Rattle.text_groups.proofs.own_token.Reads as own-token-reads
 
 returns : tie.Need-returns
 returns c = gap-token _ _ (c .if1 .taken)

@@ -1,3 +1,4 @@
+-- `text_length::count_differences` meets its contract: the same from any state.
 use native.Mathlib.Omega.{arith}
 use lib.ListN.{length-map}
 use Rattle.table_spec.specs.Frame.{ordinate-of}
@@ -5,9 +6,6 @@ use Rattle.text_length.proofs.CountSteps.{counted-none}
 use borrow.Author.Needs.{needs}
 use Rattle.text_length.proofs.count_differences.Statement.{statement}
 use Rattle.text_length.proofs.count_differences.Tie as tie
-use Rattle.text_length.proofs.count_differences.Reads as reads
-use Rattle.text_length.proofs.count_differences.Lts as lts
-use Rattle.text_length.proofs.lone_differences.Reads as lone-differences-reads
 
 returns : tie.Need-returns
 returns c =

@@ -1,3 +1,4 @@
+-- `text_length::count_group` meets its contract: the state after the group g.
 use native.Mathlib.Omega.{arith}
 use lib.ListN.{length-map}
 use Rattle.table_spec.specs.Frame.{ordinate-of}
@@ -6,9 +7,6 @@ use Rattle.text_length.proofs.CountSteps.{counted-group}
 use borrow.Author.Needs.{needs}
 use Rattle.text_length.proofs.count_group.Statement.{statement}
 use Rattle.text_length.proofs.count_group.Tie as tie
-use Rattle.text_length.proofs.count_group.Reads as reads
-use Rattle.text_length.proofs.count_group.Lts as lts
-use Rattle.signed.proofs.ordinate_at.Reads as ordinate-at-reads
 
 add-index : tie.Need-add-index
 add-index c = let a = c .args in let inside = c .pre .0 .inside in omega (arith, c .pre .2, length-map (a .ys .now) ordinate-of)

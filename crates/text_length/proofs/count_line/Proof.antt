@@ -1,3 +1,4 @@
+-- `text_length::count_line` meets its contract: the groups that fit on the line.
 use mathlib.Core.Path.{_≡_, refl}
 use Prim.Native.Nat.{_-_}
 use native.Mathlib.Omega.{arith}
@@ -8,11 +9,6 @@ use Rattle.text_lines.specs.Lines.{Counted}
 use Rattle.text_length.proofs.CountSteps.{counted-none, counted-then, counted-near, full-here, full-end}
 use Rattle.text_length.proofs.count_line.Statement.{statement}
 use Rattle.text_length.proofs.count_line.Tie as tie
-use Rattle.text_length.proofs.count_line.Reads as reads
-use Rattle.text_length.proofs.count_line.Lts as lts
-use Rattle.text_length.proofs.count_differences.Reads as count-differences-reads
-use Rattle.text_length.proofs.count_group.Reads as count-group-reads
-use Rattle.text_groups.proofs.find.Reads as find-reads
 
 abbrev Inv-loop : tie.InvT-loop
 Inv-loop ys n r₀ i₀ r i = Counted (ordinates ys) r₀ r × (i ≡ r .given)

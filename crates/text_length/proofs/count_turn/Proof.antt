@@ -1,3 +1,4 @@
+-- `text_length::count_turn` meets its contract: the groups that fit on the line, and the start of a new line if points are left.
 use native.Mathlib.Omega.{arith}
 use lib.ListN.{length-map}
 use Rattle.table_spec.specs.Frame.{ordinate-of}
@@ -5,10 +6,6 @@ use Rattle.text_length.proofs.CountSteps.{counted-all, counted-line, li
 use borrow.Author.Needs.{needs}
 use Rattle.text_length.proofs.count_turn.Statement.{statement}
 use Rattle.text_length.proofs.count_turn.Tie as tie
-use Rattle.text_length.proofs.count_turn.Reads as reads
-use Rattle.text_length.proofs.count_turn.Lts as lts
-use Rattle.text_length.proofs.count_line.Reads as count-line-reads
-use Rattle.text_lines.proofs.new_line.Reads as new-line-reads
 
 count-line-requires : tie.Need-count-line-requires
 count-line-requires c κs = search needs

@@ -1,3 +1,4 @@
+-- `text_length::fits` meets its contract: whether the text fits into so many bytes.
 use mathlib.Core.Path.{sym, ap}
 use Prim.Native.Nat.{ℕ}
 use lib.Dec.{leb}
@@ -5,9 +6,6 @@ use Rattle.table_text.proofs.AnswerSteps.{always-room}
 use borrow.Author.Needs.{needs}
 use Rattle.text_length.proofs.fits.Statement.{statement}
 use Rattle.text_length.proofs.fits.Tie as tie
-use Rattle.text_length.proofs.fits.Reads as reads
-use Rattle.text_length.proofs.fits.Lts as lts
-use Rattle.text_length.proofs.measure.Reads as measure-reads
 
 mul-if1 : tie.Need-mul-if1
 mul-if1 c = search needs

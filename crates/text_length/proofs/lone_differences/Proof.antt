@@ -1,3 +1,4 @@
+-- `text_length::lone_differences` meets its contract: points in DIF form without DUP, after one in DIF form, as long as they fit on the line.
 use Prim.Native.Nat.{_-_}
 use native.Mathlib.Omega.{arith}
 use borrow.Author.Needs.{needs}
@@ -7,11 +8,6 @@ use Rattle.table_text.specs.Pieces.{ordinates}
 use Rattle.text_length.proofs.CountSteps.{LoneTo, lone-start, lone-next}
 use Rattle.text_length.proofs.lone_differences.Statement.{statement}
 use Rattle.text_length.proofs.lone_differences.Tie as tie
-use Rattle.text_length.proofs.lone_differences.Reads as reads
-use Rattle.text_length.proofs.lone_differences.Lts as lts
-use Rattle.signed.proofs.ordinate_at.Reads as ordinate-at-reads
-use Rattle.text_length.proofs.lone_width.Reads as lone-width-reads
-use Rattle.text_length.proofs.state_after.Reads as state-after-reads
 
 abbrev Inv-loop : tie.InvT-loop
 Inv-loop ys s n i₀ p₀ column₀ y₀ next₀ i p column y next = LoneTo (ordinates ys) s i p column y next

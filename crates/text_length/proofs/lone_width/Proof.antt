@@ -1,3 +1,4 @@
+-- `text_length::lone_width` meets its contract: the bytes of the DIF for y after p, if it stands alone before z; else more than a line has.
 use mathlib.Core.Path.{ap, _∙_}
 use Prim.Native.Nat.{ℕ, _+_}
 use native.Mathlib.Omega.{arith}
@@ -6,10 +7,6 @@ use Rattle.table_text.specs.Digits.{further}
 use Rattle.text_length.proofs.CountSteps.{lone-gap, lone-again, lone-alone}
 use Rattle.text_length.proofs.lone_width.Statement.{statement}
 use Rattle.text_length.proofs.lone_width.Tie as tie
-use Rattle.text_length.proofs.lone_width.Reads as reads
-use Rattle.text_length.proofs.lone_width.Lts as lts
-use Rattle.frame.proofs.distance.Reads as distance-reads
-use Rattle.table_text.proofs.digits.further_digits.Reads as further-digits-reads
 
 returns : tie.Need-returns
 returns c = (lone-gap _ _ _ (c .if1 .taken), omega arith)

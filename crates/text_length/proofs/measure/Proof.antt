@@ -1,3 +1,4 @@
+-- `text_length::measure` meets its contract: the text's length.
 use mathlib.Core.Path.{ap, _∙_}
 use Prim.Native.Nat.{_-_, _<_, _≤_}
 use native.Mathlib.Omega.{arith}
@@ -10,11 +11,6 @@ use Rattle.text_lines.specs.Lines.{Going}
 use Rattle.text_lines.proofs.LineSteps.{starts, goes, going-near, finish}
 use Rattle.text_length.proofs.measure.Statement.{statement}
 use Rattle.text_length.proofs.measure.Tie as tie
-use Rattle.text_length.proofs.measure.Reads as reads
-use Rattle.text_length.proofs.measure.Lts as lts
-use Rattle.text_lines.proofs.begin.Reads as begin-reads
-use Rattle.text_length.proofs.count_turn.Reads as count-turn-reads
-use Rattle.text_lines.proofs.finish.Reads as finish-reads
 
 abbrev Inv-loop : tie.InvT-loop
 Inv-loop ys none₀ fr n s₀ i₀ none s i = Going (headOf fr) (ordinates ys) none₀ s₀ none s i × (s .given < length ys → s .column ≤ 60)

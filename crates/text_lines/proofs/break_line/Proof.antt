@@ -1,3 +1,4 @@
+-- `text_lines::break_line` meets its contract: the next group on a new line.
 use mathlib.Core.Path.{refl}
 use native.Mathlib.Omega.{arith}
 use lib.ListN.{length-map}
@@ -7,11 +8,6 @@ use Rattle.text_lines.proofs.LineSteps.{turn-breaks}
 use borrow.Author.Needs.{needs}
 use Rattle.text_lines.proofs.break_line.Statement.{statement}
 use Rattle.text_lines.proofs.break_line.Tie as tie
-use Rattle.text_lines.proofs.break_line.Reads as reads
-use Rattle.text_lines.proofs.break_line.Lts as lts
-use Rattle.text_groups.proofs.find.Reads as find-reads
-use Rattle.text_lines.proofs.fill.Reads as fill-reads
-use Rattle.text_lines.proofs.new_line.Reads as new-line-reads
 
 new-line-requires : tie.Need-new-line-requires
 new-line-requires c κs = search needs

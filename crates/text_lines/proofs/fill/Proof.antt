@@ -1,3 +1,4 @@
+-- `text_lines::fill` meets its contract: the group g at i, after p, is put on the line.
 use native.Mathlib.Omega.{arith}
 use lib.ListN.{length-map}
 use Rattle.table_spec.specs.Frame.{ordinate-of}
@@ -6,10 +7,6 @@ use Rattle.text_lines.proofs.LineSteps.{filled}
 use borrow.Author.Needs.{needs}
 use Rattle.text_lines.proofs.fill.Statement.{statement}
 use Rattle.text_lines.proofs.fill.Tie as tie
-use Rattle.text_lines.proofs.fill.Reads as reads
-use Rattle.text_lines.proofs.fill.Lts as lts
-use Rattle.signed.proofs.ordinate_at.Reads as ordinate-at-reads
-use Rattle.text_groups.proofs.put_group.Reads as put-group-reads
 
 put-group-requires : tie.Need-put-group-requires
 put-group-requires c κs = let a = c .before .before .args in let p = c .before .before .pre in let h = p .0 in let inside = h .inside in let size = h .size in

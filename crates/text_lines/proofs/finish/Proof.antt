@@ -1,11 +1,8 @@
+-- `text_lines::finish` meets its contract: the text's end after the last group, with a check line if one is needed.
 use Rattle.table_text.specs.Pieces.{put-then}
 use borrow.Author.Needs.{needs}
 use Rattle.text_lines.proofs.finish.Statement.{statement}
 use Rattle.text_lines.proofs.finish.Tie as tie
-use Rattle.text_lines.proofs.finish.Reads as reads
-use Rattle.text_lines.proofs.finish.Lts as lts
-use Rattle.text_lines.proofs.put_close.Reads as put-close-reads
-use Rattle.table_text.proofs.digits.put_end.Reads as put-end-reads
 
 put-end-requires : tie.Need-put-end-requires
 put-end-requires c κs = search needs

@@ -1,3 +1,4 @@
+-- `text_lines::new_line` meets its contract: a new line.
 use mathlib.Core.Path.{refl, sym}
 use mathlib.Core.Bool.{true, false}
 use Rattle.table_text.specs.Pieces.{headOf}
@@ -5,10 +6,6 @@ use Rattle.text_lines.proofs.LineSteps.{new-line}
 use borrow.Author.Needs.{needs}
 use Rattle.text_lines.proofs.new_line.Statement.{statement}
 use Rattle.text_lines.proofs.new_line.Tie as tie
-use Rattle.text_lines.proofs.new_line.Reads as reads
-use Rattle.text_lines.proofs.new_line.Lts as lts
-use Rattle.table_text.proofs.digits.put_end.Reads as put-end-reads
-use Rattle.text_lines.proofs.put_opening.Reads as put-opening-reads
 
 put-end-requires : tie.Need-put-end-requires
 put-end-requires c κs = search needs

@@ -1,12 +1,9 @@
+-- `text_lines::put_own` meets its contract: an ordinate in SQZ form.
 use Rattle.table_text.specs.Pieces.{put-as}
 use Rattle.text_lines.proofs.LineSteps.{sqz-up, sqz-down}
 use borrow.Author.Needs.{needs}
 use Rattle.text_lines.proofs.put_own.Statement.{statement}
 use Rattle.text_lines.proofs.put_own.Tie as tie
-use Rattle.text_lines.proofs.put_own.Reads as reads
-use Rattle.text_lines.proofs.put_own.Lts as lts
-use Rattle.table_text.proofs.digits.further_digits.Reads as further-digits-reads
-use Rattle.table_text.proofs.digits.put_number.Reads as put-number-reads
 
 further-digits-requires : tie.Need-further-digits-requires
 further-digits-requires c κs = search needs

@@ -1,3 +1,4 @@
+-- `text_lines::turn` meets its contract: one group more, on this line if it fits whole, else on a new one.
 use native.Mathlib.Omega.{arith}
 use lib.ListN.{length-map}
 use Rattle.table_spec.specs.Frame.{ordinate-of}
@@ -6,11 +7,6 @@ use Rattle.text_lines.proofs.LineSteps.{turn-fits}
 use borrow.Author.Needs.{needs}
 use Rattle.text_lines.proofs.turn.Statement.{statement}
 use Rattle.text_lines.proofs.turn.Tie as tie
-use Rattle.text_lines.proofs.turn.Reads as reads
-use Rattle.text_lines.proofs.turn.Lts as lts
-use Rattle.text_groups.proofs.find.Reads as find-reads
-use Rattle.text_lines.proofs.break_line.Reads as break-line-reads
-use Rattle.text_lines.proofs.fill.Reads as fill-reads
 
 find-requires : tie.Need-find-requires
 find-requires c κs = search needs

@@ -1,13 +1,11 @@
+-- `frame::Frame::new` meets its contract: the frame of any F, L and N, or that they are outside their limits.
 use mir.Facts.{toZ-ofZ}
-use mathlib.Core.Path.{_≡_, refl, sym, ap, _∙_}
+use mathlib.Core.Path.{sym, _∙_}
 use native.Mathlib.Omega.{arith}
 use Rattle.frame.proofs.Limits.{lifted-some, first-outside, last-outside, no-point, too-many, ill-matched, legal-frame}
 use borrow.Author.Needs.{needs}
 use Rattle.frame.proofs.Frame.new.Statement.{statement}
 use Rattle.frame.proofs.Frame.new.Tie as tie
-use Rattle.frame.proofs.Frame.new.Reads as reads
-use Rattle.frame.proofs.Frame.new.Lts as lts
-use Rattle.frame.proofs.lift.Reads as lift-reads
 
 lift-requires : tie.Need-lift-requires
 lift-requires c κs = search needs
@@ -31,20 +29,25 @@ returns-3 c =
 
 returns-4 : tie.Need-returns-4
 returns-4 c =
-    let a = lifted-some _ _ (rw (toZ-ofZ (c .before .before .before .before .before .before .fits .f)) at (c .before .before .before .before .before .lift .ensures)) (c .before .before .before .if1 .left) in
+    let a = lifted-some _ _ (rw (toZ-ofZ (c .before .before .before .before .before .before .fits .f)) at
+    (c .before .before .before .before .before .lift .ensures)) (c .before .before .before .if1 .left) in
     let b = lifted-some _ _ (rw (toZ-ofZ (c .before .before .before .before .before .before .fits .l)) at (c .before .before .before .before .lift2 .ensures)) (c .before .before .if2 .left) in
     too-many _ _ _ a b (c .if4 .taken)
 
 returns-5 : tie.Need-returns-5
 returns-5 c =
-    let a = lifted-some _ _ (rw (toZ-ofZ (c .before .before .before .before .before .before .before .fits .f)) at (c .before .before .before .before .before .before .lift .ensures)) (c .before .before .before .before .if1 .left) in
-    let b = lifted-some _ _ (rw (toZ-ofZ (c .before .before .before .before .before .before .before .fits .l)) at (c .before .before .before .before .before .lift2 .ensures)) (c .before .before .before .if2 .left) in
+    let a = lifted-some _ _ (rw (toZ-ofZ (c .before .before .before .before .before .before .before .fits .f)) at
+    (c .before .before .before .before .before .before .lift .ensures)) (c .before .before .before .before .if1 .left) in
+    let b = lifted-some _ _ (rw (toZ-ofZ (c .before .before .before .before .before .before .before .fits .l)) at
+    (c .before .before .before .before .before .lift2 .ensures)) (c .before .before .before .if2 .left) in
     ill-matched _ _ _ a b (omega arith) (omega arith) (c .if5 .taken)
 
 returns-6 : tie.Need-returns-6
 returns-6 c =
-    let a = lifted-some _ _ (rw (toZ-ofZ (c .before .before .before .before .before .before .before .fits .f)) at (c .before .before .before .before .before .before .lift .ensures)) (c .before .before .before .before .if1 .left) in
-    let b = lifted-some _ _ (rw (toZ-ofZ (c .before .before .before .before .before .before .before .fits .l)) at (c .before .before .before .before .before .lift2 .ensures)) (c .before .before .before .if2 .left) in
+    let a = lifted-some _ _ (rw (toZ-ofZ (c .before .before .before .before .before .before .before .fits .f)) at
+    (c .before .before .before .before .before .before .lift .ensures)) (c .before .before .before .before .if1 .left) in
+    let b = lifted-some _ _ (rw (toZ-ofZ (c .before .before .before .before .before .before .before .fits .l)) at
+    (c .before .before .before .before .before .lift2 .ensures)) (c .before .before .before .if2 .left) in
     legal-frame _ _ _ a b (omega arith) (omega arith) (c .if5 .left)
 
 pub new-spec : {M : Type 1} → statement M

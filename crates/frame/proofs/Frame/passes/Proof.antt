@@ -1,12 +1,9 @@
-use mathlib.Core.Path.{_≡_, refl, sym, ap, _∙_}
+-- `frame::Frame::passes` meets its contract: does the head h, an abscissa plus 10,000,000,000, pass for the point of index i?
 use native.Mathlib.Omega.{arith}
 use Rattle.frame.proofs.Limits.{products, alone, spread}
 use borrow.Author.Needs.{needs}
 use Rattle.frame.proofs.Frame.passes.Statement.{statement}
 use Rattle.frame.proofs.Frame.passes.Tie as tie
-use Rattle.frame.proofs.Frame.passes.Reads as reads
-use Rattle.frame.proofs.Frame.passes.Lts as lts
-use Rattle.frame.proofs.distance.Reads as distance-reads
 
 returns : tie.Need-returns
 returns c = alone (c .before .args .self) _ _ (c .if1 .taken)

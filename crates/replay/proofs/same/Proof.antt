@@ -1,10 +1,8 @@
--- `written_samples::same` stays within both lists of ordinates.
+-- `replay::same` stays within both lists of ordinates.
 use borrow.Author.Needs.{needs}
 use Prim.Native.Nat.{_≤_, _-_}
-use Rattle.written_samples.proofs.same.Statement.{statement}
-use Rattle.written_samples.proofs.same.Tie as tie
-use Rattle.written_samples.proofs.same.Reads as reads
-use Rattle.written_samples.proofs.same.Lts as lts
+use Rattle.replay.proofs.same.Statement.{statement}
+use Rattle.replay.proofs.same.Tie as tie
 
 abbrev Inv-loop : tie.InvT-loop
 Inv-loop ys back n i₀ i = i ≤ n
