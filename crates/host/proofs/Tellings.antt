@@ -12,7 +12,7 @@ use Rattle.terms.specs.declared.TableWritten.the-variants as texts
 use Rattle.table_spec.specs.Reading.{Answer, refuse, accept, readTable}
 use Rattle.table_spec.specs.Writing.{Outcome, declined, wrote, writeTable, laid}
 use Rattle.table_read.specs.Answers.{told, TableSays}
-use Rattle.table_write.specs.Answers as writing
+use Rattle.table_text.specs.Answers as writing
 use Rattle.file_spec.specs.File.{FileAnswer, refuse-file, accept-file, readFile, toldFile}
 use Rattle.file_spec.specs.declared.FileTable.{FileTable}
 use Rattle.file_spec.specs.declared.FileRead.the-variants as files

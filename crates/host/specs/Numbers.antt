@@ -19,6 +19,7 @@ use Rattle.label_spec.specs.declared.Found.{Found}
 use Rattle.label_spec.specs.declared.Labelled.{Labelled}
 use Rattle.label_spec.specs.declared.Record.{Record}
 
+-- the refusal that an answer may be has such a number
 abbrev Ours : Refusal → Type 0
 Ours r = (19 ≤ r .number) × (r .number ≤ 24)
 
@@ -39,6 +40,7 @@ records (Record.Text a b) = Unit
 records Record.Absent = Unit
 records (Record.Refused r) = Ours r
 
+-- 21
 titled-ours : (p : ℕ) (k : Walk) → opens (titled p k)
 unfolding titled
 titled-ours p over = (omega arith, omega arith)
@@ -49,6 +51,7 @@ opened-ours : (s : List ℕ) → opens (opened s)
 unfolding opened openedAt
 opened-ours s = picked opens (hashed s (pastSpace s 0)) (titled-ours (pastSpace s 0) (from s (pastSpace s 0) true)) (omega arith, omega arith)
 
+-- 20, 22, 23, 24
 judged-ours : (len : ℕ) (done : List (List ℕ)) (k : Walk) → walks (judged len done k)
 unfolding judged
 judged-ours len done over = (omega arith, omega arith)
@@ -67,6 +70,7 @@ unfolding afterTitle
 titled-then s (Opened.Title m e) h = placed-ours m e _ (judged-ours (length s) [] (from s (e + 1) false))
 titled-then s (Opened.Refused r) h = h
 
+-- 19
 labelled-ours : (s : List ℕ) → labels (labelled s)
 unfolding labelled
 labelled-ours s = picked labels (leb (length s) longestFile) (titled-then s (opened s) (opened-ours s)) (omega arith, omega arith)
@@ -81,6 +85,7 @@ unfolding recordIn
 record-ours s w (Labelled.Places m e x) h = found-ours (recordOf (length s) x w (from s m true))
 record-ours s w (Labelled.Refused r) h = h
 
+-- the theorem
 pub refused-number : (s w : List ℕ) (r : Refusal) → recordFor s w ≡ Record.Refused r → (19 ≤ r .number) × (r .number ≤ 24)
 unfolding recordFor
 refused-number s w r e = subst records e (record-ours s w (labelled s) (labelled-ours s))

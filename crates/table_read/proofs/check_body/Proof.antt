@@ -6,10 +6,6 @@ use Rattle.alphabet_spec.specs.Entries.{table}
 use Rattle.table_read.proofs.AnswerLaws.{check-refused, check-first}
 use Rattle.table_read.proofs.check_body.Statement.{statement}
 use Rattle.table_read.proofs.check_body.Tie as tie
-use Rattle.table_read.proofs.check_body.Reads as reads
-use Rattle.table_read.proofs.check_body.Lts as lts
-use Rattle.table_read.proofs.pass.Reads as pass-reads
-use Rattle.terms.proofs.Fault.new.Reads as new-reads
 
 slice-aggregate-pass : tie.Need-slice-aggregate-pass
 slice-aggregate-pass c = search needs

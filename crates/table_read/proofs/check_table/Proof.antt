@@ -6,11 +6,6 @@ use Rattle.table_read.specs.Answers.{toldFirst}
 use Rattle.table_read.proofs.AnswerLaws.{body-long, frame-outside, no-room, body-read}
 use Rattle.table_read.proofs.check_table.Statement.{statement}
 use Rattle.table_read.proofs.check_table.Tie as tie
-use Rattle.table_read.proofs.check_table.Reads as reads
-use Rattle.table_read.proofs.check_table.Lts as lts
-use Rattle.frame.proofs.Frame.new.Reads as Frame-new-reads
-use Rattle.table_read.proofs.check_body.Reads as check-body-reads
-use Rattle.terms.proofs.Fault.new.Reads as Refusal-new-reads
 
 new-requires : tie.Need-new-requires
 new-requires c κs = search needs

@@ -6,11 +6,6 @@ use Rattle.table_read.specs.Rows.{frame-rules}
 use Rattle.table_read.proofs.PassLaws.{Reached, reached-same, reached-start, reached-next, reached-fault, reached-refused, reached-end}
 use Rattle.table_read.proofs.pass.Statement.{statement}
 use Rattle.table_read.proofs.pass.Tie as tie
-use Rattle.table_read.proofs.pass.Reads as reads
-use Rattle.table_read.proofs.pass.Lts as lts
-use Rattle.table_lines.proofs.row_start.Reads as row-start-reads
-use Rattle.table_read.proofs.finish.Reads as finish-reads
-use Rattle.table_read.proofs.read_line.Reads as read-line-reads
 
 abbrev Inv-loop : tie.InvT-loop
 Inv-loop t s fr out₀ r₀ out r = Reached (frame-rules fr) s out₀ out r

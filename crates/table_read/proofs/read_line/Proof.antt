@@ -6,14 +6,6 @@ use Rattle.table_read.proofs.LineLaws.{line-four, line-six, line-seven,
 use borrow.Author.Needs.{needs}
 use Rattle.table_read.proofs.read_line.Statement.{statement}
 use Rattle.table_read.proofs.read_line.Tie as tie
-use Rattle.table_read.proofs.read_line.Reads as reads
-use Rattle.table_read.proofs.read_line.Lts as lts
-use Rattle.frame.proofs.Frame.passes.Reads as passes-reads
-use Rattle.table_lines.proofs.bare_line.Reads as bare-line-reads
-use Rattle.table_lines.proofs.head.Reads as head-reads
-use Rattle.table_read.proofs.index_of.Reads as index-of-reads
-use Rattle.table_read.proofs.wanted.Reads as wanted-reads
-use Rattle.table_values.proofs.values.Reads as values-reads
 
 head-requires : tie.Need-head-requires
 head-requires c κs = search needs

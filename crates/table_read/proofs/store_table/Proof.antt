@@ -5,10 +5,6 @@ use Rattle.frame.specs.FrameLaws.{framed-outside, framed-legal}
 use Rattle.table_read.proofs.AnswerLaws.{accepts-not-outside, accepts-body}
 use Rattle.table_read.proofs.store_table.Statement.{statement}
 use Rattle.table_read.proofs.store_table.Tie as tie
-use Rattle.table_read.proofs.store_table.Reads as reads
-use Rattle.table_read.proofs.store_table.Lts as lts
-use Rattle.frame.proofs.Frame.new.Reads as new-reads
-use Rattle.table_read.proofs.store_body.Reads as store-body-reads
 
 new-requires : tie.Need-new-requires
 new-requires c κs = search needs

@@ -1,0 +1,36 @@
+-- Bounds of the seven records and of the six numbers, which callers need. Assumes nothing.
+use Prim.Native.Nat.{ℕ, _<_}
+use Rattle.decimal_spec.specs.Number.{bound}
+use Rattle.figure.specs.Bounds.{Small, Factor}
+use Rattle.file_texts.specs.Spans.{Within}
+use Rattle.file_spec.specs.declared.Needed.{Needed}
+use Rattle.file_spec.specs.declared.Gathered.{Gathered}
+use Rattle.file_spec.specs.declared.Gathered.the-variants as gathered
+use Rattle.file_spec.specs.declared.Numbers.{Numbers}
+use Rattle.file_spec.specs.declared.Figures.{Figures}
+use Rattle.file_spec.specs.declared.Figures.the-variants as figures
+
+pub record AllWithin (len : ℕ) (t : Needed) : Type 0 where
+  pub xfactor : Within len (t .xfactor)
+  pub yfactor : Within len (t .yfactor)
+  pub firstx : Within len (t .firstx)
+  pub lastx : Within len (t .lastx)
+  pub npoints : Within len (t .npoints)
+  pub firsty : Within len (t .firsty)
+  pub xydata : Within len (t .xydata)
+
+abbrev pub gatheredIn : ℕ → Gathered → Type 0
+gatheredIn len (gathered.All t) = AllWithin len t
+gatheredIn len gathered.Lacking = Unit
+
+pub record AllSmall (n : Numbers) : Type 0 where
+  pub xfactor : Factor (n .xfactor)
+  pub yfactor : Factor (n .yfactor)
+  pub firstx : Small (n .firstx)
+  pub lastx : Small (n .lastx)
+  pub npoints : n .npoints < bound
+  pub firsty : Small (n .firsty)
+
+abbrev pub figuresIn : Figures → Type 0
+figuresIn (figures.All n) = AllSmall n
+figuresIn (figures.Wrong a) = Unit

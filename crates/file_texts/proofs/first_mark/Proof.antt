@@ -1,0 +1,63 @@
+use mathlib.Core.Path.{_≡_, sym, _∙_}
+use Prim.Native.Nat.{_-_, _≤_}
+use native.Mathlib.Omega.{arith}
+use lib.ListN.{length, drop}
+use borrow.Author.Needs.{needs}
+use borrow.Author.Tests.{not-true, not-false}
+use Rattle.file_spec.specs.Texts.{firstMark}
+use Rattle.file_texts.proofs.TextLaws.{mark-end, mark-here, mark-on}
+use Rattle.file_texts.proofs.first_mark.Statement.{statement}
+use Rattle.file_texts.proofs.first_mark.Tie as tie
+
+abbrev Inv-loop : tie.InvT-loop
+Inv-loop s from i₀ i = (from ≤ i) × (i ≤ length s) × (firstMark (drop from s) from ≡ firstMark (drop i s) i)
+
+abbrev μ-loop : tie.MeasureT-loop
+μ-loop s from i₀ i = length s - i
+
+loop-holds : tie.Need-loop-holds Inv-loop μ-loop
+loop-holds c = search needs
+
+add-next : tie.Need-add-next Inv-loop μ-loop
+add-next c = search needs
+
+shared-slice-read-spacing : tie.Need-shared-slice-read-spacing Inv-loop μ-loop
+shared-slice-read-spacing c = search needs
+
+byte-at-requires : tie.Need-byte-at-requires Inv-loop μ-loop
+byte-at-requires c κs = search needs
+
+spacing-requires : tie.Need-spacing-requires Inv-loop μ-loop
+spacing-requires c κs = search needs
+
+returns : tie.Need-returns Inv-loop μ-loop
+returns c =
+    let l = c .before .before .before .before .before .loop in let e = rw (c .before .before .byte-at .ensures) at (c .before .spacing .ensures) in
+    sym (l .inv .2 ∙ mark-here (c .before .before .before .before .before .before .before .args .s .now) (l .i) (c .before .before .before .before .loop-test .taken) (sym e ∙ not-true _ (c .if1 .taken)))
+
+loop-less : tie.Need-loop-less Inv-loop μ-loop
+loop-less c = search needs
+
+loop-again : tie.Need-loop-again Inv-loop μ-loop
+loop-again c =
+    let l = c .before .before .before .before .before .loop in let x = l .inv .0 in let e = rw (c .before .before .byte-at .ensures) at (c .before .spacing .ensures) in
+    (omega arith, omega arith, l .inv .2 ∙ mark-on (c .before .before .before .before .before .before .before .args .s .now) (l .i) (c .before .before .before .before .loop-test .taken) (sym e ∙ not-false _ (c .if1 .left)))
+
+returns-2 : tie.Need-returns-2 Inv-loop μ-loop
+returns-2 c = let l = c .before .loop in sym (l .inv .2 ∙ mark-end (c .before .before .before .args .s .now) (l .i) (c .loop-test .left))
+
+pub first-mark-spec : {M : Type 1} → statement M
+first-mark-spec =
+    tie.close
+    (tie.spec
+    Inv-loop
+    μ-loop
+    loop-holds
+    add-next
+    shared-slice-read-spacing
+    byte-at-requires
+    spacing-requires
+    returns
+    loop-less
+    loop-again
+    returns-2)
