@@ -4,9 +4,9 @@ ghost use Prim.Native.Nat.{_+_, _≤_};
 ghost use lib.ListN.{length};
 ghost use Rattle.label_spec.specs.File.{longestFile};
 ghost use Rattle.file_spec.specs.Figures.{figuresOf, ratio};
-ghost use Rattle.terms.specs.Refusals.{refusal};
-ghost use Rattle.file_spec.specs.File.{inFile, byTable, byAbscissas, byFigures};
-ghost use Rattle.file_spec.specs.declared.FileRead.{FileRead};
+ghost use Rattle.terms.specs.Refusals.{fault-at};
+ghost use Rattle.file_spec.specs.File.{inFile, byTable, byAbscissas, byFigures, readFile};
+ghost use Rattle.file_spec.specs.declared.FileStaged.{FileStaged};
 ghost use Rattle.file_records.specs.Bounds.{AllWithin, AllSmall};
 ghost use Rattle.file.specs.Answers.{StageSays, FileSays};
 use alphabet::TABLE;
@@ -18,6 +18,7 @@ use file_records::figures;
 use file_records::gather;
 use file_spec::Figures;
 use file_spec::FileRead;
+use file_spec::FileStaged;
 use file_spec::FileTable;
 use file_spec::Gathered;
 use file_spec::Listed;
@@ -27,19 +28,20 @@ use file_texts::list_in;
 use file_texts::mark_in;
 use label_spec::Labelled;
 use table_read::Checked;
-use terms::Refusal;
+use terms::Fault;
+use text::refusal_in;
 
-// A refusal, with nothing altered.
-fn refused(number: u64, place: usize) -> FileRead
-    ensures { λ r. ⌜ r ≡ FileRead.Refused (refusal number place) ⌝ }
+// A fault, with nothing altered.
+fn refused(number: u64, place: usize) -> FileStaged
+    ensures { λ r. ⌜ r ≡ FileStaged.Refused (fault-at number place) ⌝ }
 {
-    FileRead::Refused(Refusal::new(number, place))
+    FileStaged::Refused(Fault::new(number, place))
 }
 
-// A refusal of the body, with its place counted in the file; 1 and 2 stand at 0.
-fn refused_in(r: Refusal, start: usize) -> FileRead
+// A fault of the body, with its place counted in the file; 1 and 2 stand at 0.
+fn refused_in(r: Fault, start: usize) -> FileStaged
     requires { ⌜ start + r .place ≤ longestFile ⌝ }
-    ensures { λ x. ⌜ x ≡ FileRead.Refused (refusal (r .number) (inFile start (r .number) (r .place))) ⌝ }
+    ensures { λ x. ⌜ x ≡ FileStaged.Refused (fault-at (r .number) (inFile start (r .number) (r .place))) ⌝ }
 {
     let number = r.number;
     if number <= 2 {
@@ -57,7 +59,7 @@ fn read_body(
     start: usize,
     first: i64,
     last: i64,
-) -> FileRead
+) -> FileStaged
     requires { ⌜ AllWithin (length (now file)) x × AllSmall n × (start ≤ x .xydata .to) × (length (now file) ≤ longestFile) ⌝ }
     ensures { λ r. ⌜ StageSays (byTable (now (file .entry)) (length (now (out .entry))) x n start first last) (now (out .entry)) (now (out .exit)) r ⌝ }
 {
@@ -75,7 +77,7 @@ fn read_body(
                 return refused(29, mark_in(file, t));
             }
             table_read::store_table(first, last, points, body, out);
-            FileRead::Accepted(FileTable {
+            FileStaged::Accepted(FileTable {
                 points,
                 first,
                 last,
@@ -85,7 +87,7 @@ fn read_body(
 }
 
 // F and L (28), then the table.
-fn read_abscissas(file: &[u8], out: &mut [i32], x: Needed, n: Numbers, start: usize) -> FileRead
+fn read_abscissas(file: &[u8], out: &mut [i32], x: Needed, n: Numbers, start: usize) -> FileStaged
     requires { ⌜ AllWithin (length (now file)) x × AllSmall n × (start ≤ x .xydata .to) × (length (now file) ≤ longestFile) ⌝ }
     ensures { λ r. ⌜ StageSays (byAbscissas (now (file .entry)) (length (now (out .entry))) x n start (ratio 3 (n .firstx) (n .xfactor))) (now (out .entry)) (now (out .exit)) r ⌝ }
 {
@@ -112,7 +114,7 @@ fn read_abscissas(file: &[u8], out: &mut [i32], x: Needed, n: Numbers, start: us
 }
 
 // The numbers (26), the list (27), then the rest.
-fn read_records(file: &[u8], out: &mut [i32], x: Needed) -> FileRead
+fn read_records(file: &[u8], out: &mut [i32], x: Needed) -> FileStaged
     requires { ⌜ AllWithin (length (now file)) x × (length (now file) ≤ longestFile) ⌝ }
     ensures { λ r. ⌜ StageSays (byFigures (now (file .entry)) (length (now (out .entry))) x (figuresOf (now (file .entry)) x)) (now (out .entry)) (now (out .exit)) r ⌝ }
 {
@@ -129,12 +131,12 @@ fn read_records(file: &[u8], out: &mut [i32], x: Needed) -> FileRead
     }
 }
 
-// Reads a file: any bytes, any slice. Accepted: N, F and L, and the first N entries are the ordinates. Refused: number and place in the file, and every entry is what it was.
-pub fn read_file(file: &[u8], out: &mut [i32]) -> FileRead
-    ensures { λ r. ⌜ FileSays (now (file .entry)) (now (out .entry)) (now (out .exit)) r ⌝ }
+// The labels (19 to 24), the records (25), then the rest.
+fn read_labelled(file: &[u8], out: &mut [i32]) -> FileStaged
+    ensures { λ r. ⌜ StageSays (readFile (now (file .entry)) (length (now (out .entry)))) (now (out .entry)) (now (out .exit)) r ⌝ }
 {
     match label::labels(file) {
-        Labelled::Refused(r) => FileRead::Refused(r),
+        Labelled::Refused(r) => FileStaged::Refused(r),
         Labelled::Places { title: _, eq, end } => {
             let start = eq + 1;
             match gather(file, start, end) {
@@ -142,5 +144,15 @@ pub fn read_file(file: &[u8], out: &mut [i32]) -> FileRead
                 Gathered::All(x) => read_records(file, out, x),
             }
         }
+    }
+}
+
+// Reads a file: any bytes, any slice. Accepted: N, F and L, and the first N entries are the ordinates. Refused: number, place, line and column in the file, and every entry is what it was.
+pub fn read_file(file: &[u8], out: &mut [i32]) -> FileRead
+    ensures { λ r. ⌜ FileSays (now (file .entry)) (now (out .entry)) (now (out .exit)) r ⌝ }
+{
+    match read_labelled(file, out) {
+        FileStaged::Accepted(t) => FileRead::Accepted(t),
+        FileStaged::Refused(f) => FileRead::Refused(refusal_in(file, f.number, f.place)),
     }
 }

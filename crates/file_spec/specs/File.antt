@@ -6,7 +6,7 @@ use lib.IntN.{ℤ}
 use lib.ListN.{getD, take, drop}
 use lib.Seq.{sets}
 use Rattle.terms.specs.Logic.{pick}
-use Rattle.terms.specs.Refusals.{refusal}
+use Rattle.terms.specs.Refusals.{fault-at, refusalIn}
 use Rattle.table_spec.specs.Frame.{entry-for}
 use Rattle.table_spec.specs.Reading.{Answer, refuse, accept, readTable}
 use Rattle.label_spec.specs.File.{labelled}
@@ -20,6 +20,8 @@ use Rattle.file_spec.specs.declared.Figures.{Figures}
 use Rattle.file_spec.specs.declared.Figures.the-variants as figures
 use Rattle.file_spec.specs.declared.Listed.{Listed}
 use Rattle.file_spec.specs.declared.Listed.the-variants as listed
+use Rattle.file_spec.specs.declared.FileStaged.{FileStaged}
+use Rattle.file_spec.specs.declared.FileStaged.the-variants as stages
 use Rattle.file_spec.specs.declared.FileRead.{FileRead}
 use Rattle.file_spec.specs.declared.FileRead.the-variants as reads
 use Rattle.file_spec.specs.Texts.{gatheredFrom, markOf, listedIn}
@@ -82,10 +84,15 @@ module _ (s : List ℕ) (space : ℕ) where
   unfoldable pub readFile : FileAnswer
   readFile = byLabels (labelled s)
 
--- the answer for each of its cases
-abbrev pub toldFile : FileAnswer → FileRead
-toldFile (refuse-file c a) = reads.Refused (refusal c a)
-toldFile (accept-file n f l ys) = reads.Accepted (record { points = n; first = f; last = l })
+-- the answer of a stage for each of its cases
+abbrev pub staged : FileAnswer → FileStaged
+staged (refuse-file c a) = stages.Refused (fault-at c a)
+staged (accept-file n f l ys) = stages.Accepted (record { points = n; first = f; last = l })
+
+-- the answer to the file s for each of its cases: a refusal has its line and column in the file
+abbrev pub toldFile : List ℕ → FileAnswer → FileRead
+toldFile s (refuse-file c a) = reads.Refused (refusalIn s c a)
+toldFile s (accept-file n f l ys) = reads.Accepted (record { points = n; first = f; last = l })
 
 -- the lent slice afterwards
 abbrev pub storedFile : List ℤ → FileAnswer → List ℤ

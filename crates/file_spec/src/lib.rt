@@ -1,4 +1,5 @@
 // The types that the definition of what a file says and its code share (01, "The file").
+use terms::Fault;
 use terms::Refusal;
 
 // The text of a record: the part of the file from one place up to another.
@@ -66,7 +67,13 @@ pub struct FileTable {
     pub last: i64,
 }
 
-// What reading a file answers.
+// What a stage of reading a file answers: the table, or a fault, its place counted in the file.
+pub enum FileStaged {
+    Accepted(FileTable),
+    Refused(Fault),
+}
+
+// What reading a file answers: the table, or a refusal with its line and column in the file.
 pub enum FileRead {
     Accepted(FileTable),
     Refused(Refusal),
