@@ -1,6 +1,6 @@
 /*
- * Hand-written C readers and a writer of table bodies, for comparison with the proved library. The signatures are those
- * of lastarunc_read_table and lastarunc_write_table in include/lastarunc.h.
+ * Hand-written C readers and a writer of table bodies, for comparison with the proved library. They take what
+ * lastarunc_read_table and lastarunc_write_table of include/lastarunc.h take, and answer without line and column.
  */
 #ifndef C_TABLE_H
 #define C_TABLE_H

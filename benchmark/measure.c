@@ -13,11 +13,30 @@
 #include <string.h>
 #include <time.h>
 
+/* The library's reader and writer with the signatures of those in C. */
+static uint64_t read_library(int64_t first, int64_t last, size_t points, const uint8_t *body, size_t body_len,
+                             int32_t *out, size_t out_len, uint64_t *place)
+{
+    struct lastarunc_table answer;
+    int64_t refused = lastarunc_read_table(first, last, points, body, body_len, out, out_len, &answer);
+    *place = (uint64_t)(refused ? answer.place : answer.points);
+    return (uint64_t)refused;
+}
+
+static uint64_t write_library(int64_t first, int64_t last, size_t points, const int32_t *ordinates, size_t n,
+                              uint8_t *text, size_t room, uint64_t *length)
+{
+    struct lastarunc_text answer;
+    int64_t refused = lastarunc_write_table(first, last, points, ordinates, n, text, room, &answer);
+    *length = (uint64_t)answer.length;
+    return (uint64_t)refused;
+}
+
 static const struct {
     const char *name;
     table_reader *function;
 } readers[] = {
-    {"read-library", lastarunc_read_table},
+    {"read-library", read_library},
     {"read-two", c_read_table},
     {"read-decode", c_read_table_then_decode},
     {"read-one", c_read_table_scratch},
@@ -30,8 +49,8 @@ static const struct {
     table_writer *function;
     bool roomy;
 } writers[] = {
-    {"write-library", lastarunc_write_table, false},
-    {"write-library-roomy", lastarunc_write_table, true},
+    {"write-library", write_library, false},
+    {"write-library-roomy", write_library, true},
     {"write-two", c_write_table, false},
     {"write-unchecked", c_write_table_unchecked, false},
 };
@@ -71,10 +90,9 @@ static void run_writer(const char *name, table_writer *write, const struct table
 static void run_file(const uint8_t *file, size_t length, size_t wanted, long times)
 {
     int32_t *out = malloc(wanted * sizeof *out);
-    uint64_t place, points;
-    int64_t first, last;
+    struct lastarunc_file answer;
     for (long i = 0; i < times; i++)
-        if (lastarunc_read_file(file, length, out, wanted, &place, &points, &first, &last) || points != wanted)
+        if (lastarunc_read_file(file, length, out, wanted, &answer) || (size_t)answer.points != wanted)
             wrong("file");
 }
 
@@ -83,10 +101,9 @@ static void run_labels(size_t length, long times)
 {
     uint8_t *file = make_labels(length);
     int32_t out;
-    uint64_t place, points;
-    int64_t first, last;
+    struct lastarunc_file answer;
     for (long i = 0; i < times; i++)
-        if (lastarunc_read_file(file, length, &out, 1, &place, &points, &first, &last) != 25)
+        if (lastarunc_read_file(file, length, &out, 1, &answer) != 25)
             wrong("labels");
 }
 
@@ -100,7 +117,7 @@ static bool run(const char *name, const char *table, const char *times)
         if (size)
             printf("%zu %zu\n", length, points);
         else if (!strcmp(name, "read-library-table"))
-            run_reader(name, lastarunc_read_table, make_file_table(points), atol(times));
+            run_reader(name, read_library, make_file_table(points), atol(times));
         else
             run_file(file, length, points, atol(times));
         return true;

@@ -1,10 +1,10 @@
 /*
  * Compares the library with the second reader: reads from standard input the stream of cases that `second cases` writes
- * (second/README.md), gives each case to the functions of include/lastarunc.h, and compares number, place, count, every
- * entry of lent memory, and that what is only lent to be read is unaltered.
+ * (second/README.md), gives each case to the functions of include/lastarunc.h, and compares every field of the answer,
+ * every entry of lent memory, and that what is only lent to be read is unaltered.
  *
- * -DCOMPARE_C compares the C reader and writer of benchmark/c_table.c instead, which have tables only, and -DREADER=NAME
- * takes another reader of it.
+ * -DCOMPARE_C compares the C reader and writer of benchmark/c_table.c instead, which have tables only, and no line and
+ * column; -DREADER=NAME takes another reader of it.
  */
 #include "lastarunc.h"
 
@@ -14,18 +14,37 @@
 #include <stdlib.h>
 #include <string.h>
 
-#ifdef COMPARE_C
+enum { MOST_SHOWN = 10, MOST_NUMBERS = 101, GUARD = 16 };
+
+/* What is compared, with the signatures of the library, and whether it has line and column. */
+#ifndef COMPARE_C
+#define read_table lastarunc_read_table
+#define write_table lastarunc_write_table
+static const bool has_lines = true;
+#else
 #include "c_table.h"
 #ifndef READER
 #define READER c_read_table
 #endif
-#define WRITER c_write_table
-#else
-#define READER lastarunc_read_table
-#define WRITER lastarunc_write_table
-#endif
+static const bool has_lines = false;
 
-enum { MOST_SHOWN = 10, MOST_NUMBERS = 101, GUARD = 16 };
+static int64_t read_table(int64_t first, int64_t last, size_t points, const uint8_t *body, size_t body_len,
+                          int32_t *out, size_t out_len, struct lastarunc_table *answer)
+{
+    uint64_t place, refused = READER(first, last, points, body, body_len, out, out_len, &place);
+    *answer = (struct lastarunc_table){.refused = (int64_t)refused};
+    *(refused ? &answer->place : &answer->points) = (int64_t)place;
+    return answer->refused;
+}
+
+static int64_t write_table(int64_t first, int64_t last, size_t points, const int32_t *ordinates, size_t n,
+                           uint8_t *text, size_t room, struct lastarunc_text *answer)
+{
+    uint64_t length, refused = c_write_table(first, last, points, ordinates, n, text, room, &length);
+    *answer = (struct lastarunc_text){(int64_t)refused, (int64_t)length};
+    return answer->refused;
+}
+#endif
 
 /* ---- The stream ---- */
 
@@ -51,6 +70,26 @@ static uint64_t take_u64(void)
     uint64_t number;
     take(&number, sizeof number);
     return number;
+}
+
+static int64_t take_i64(void)
+{
+    return (int64_t)take_u64();
+}
+
+/* A reader's refusal; all 0 if it accepts. */
+struct refusal {
+    int64_t number, place, line, column;
+};
+
+static struct refusal take_refusal(void)
+{
+    struct refusal r;
+    r.number = take_u32();
+    r.place = take_i64();
+    r.line = take_i64();
+    r.column = take_i64();
+    return r;
 }
 
 /* Memory for n entries of this size; the host of a test has no use for a null pointer. */
@@ -107,7 +146,8 @@ static int32_t *filled_ordinates(size_t n)
     return m;
 }
 
-static uint8_t *filled_bytes(size_t n)
+/* Room for n bytes, of a text or an answer, and a guard behind them, all filled: a field that is not set is seen. */
+static void *filled_bytes(size_t n)
 {
     uint8_t *m = memory(n + GUARD, 1);
     for (size_t i = 0; i < n + GUARD; i++)
@@ -151,10 +191,16 @@ static void show_ordinates(const char *what, const int32_t *y, size_t n)
     printf(n > 40 ? " ..\n" : "\n");
 }
 
-/* Counts a case; true if its difference is to be shown. */
-static bool counted(int kind, uint64_t number, const char *difference)
+static void show_refusal(const char *what, struct refusal r)
 {
-    counts[kind][number < MOST_NUMBERS ? number : MOST_NUMBERS - 1]++;
+    printf("    %s: %" PRId64 " at %" PRId64 ", line %" PRId64 ", column %" PRId64, what, r.number, r.place, r.line,
+           r.column);
+}
+
+/* Counts a case; true if its difference is to be shown. An absent record counts as the last number. */
+static bool counted(int kind, int64_t number, const char *difference)
+{
+    counts[kind][0 <= number && number < MOST_NUMBERS ? number : MOST_NUMBERS - 1]++;
     if (!difference) {
         passed++;
         return false;
@@ -164,6 +210,30 @@ static bool counted(int kind, uint64_t number, const char *difference)
         return false;
     printf("case %lu (%c) differs: %s\n", case_number, kind, difference);
     return true;
+}
+
+/* What is wrong with a reader's refusal, or with what it returned beside it; NULL if nothing is. */
+static const char *refusal_differs(int64_t returned, struct refusal r, struct refusal expected)
+{
+    if (r.number != expected.number)
+        return "number";
+    if (returned != r.number)
+        return "it returns another number than it answers";
+    if (r.place != expected.place)
+        return "place";
+    if (has_lines && (r.line != expected.line || r.column != expected.column))
+        return "line or column";
+    return NULL;
+}
+
+/* Whether a byte behind an answer is altered. */
+static bool guard_altered(const void *answer, size_t size)
+{
+    const uint8_t *bytes = answer;
+    for (size_t i = size; i < size + GUARD; i++)
+        if (bytes[i] != pattern_byte(i))
+            return true;
+    return false;
 }
 
 /* The first difference of the ordinates from those expected, then from the pattern; NULL if there is none. */
@@ -199,76 +269,84 @@ static const char *text_differs(const uint8_t *out, size_t room, const uint8_t *
 
 static void compare_body(void)
 {
-    int64_t first = (int64_t)take_u64(), last = (int64_t)take_u64();
+    int64_t first = take_i64(), last = take_i64();
     uint64_t points = take_u64();
     uint32_t room = take_u32(), length = take_u32();
     uint8_t *body = take_bytes(length);
-    uint32_t number = take_u32();
-    uint64_t place = take_u64(), count = take_u64();
-    int32_t *expected = take_ordinates(count);
+    struct refusal right = take_refusal();
+    int64_t count = take_i64();
+    int32_t *expected = take_ordinates((size_t)count);
 
     uint8_t *lent = copy_of(body, length);
     int32_t *out = filled_ordinates(room);
-    uint64_t answer_place = UINT64_MAX;
-    uint64_t answer = READER(first, last, points, lent, length, out, room, &answer_place);
+    struct lastarunc_table *answer = filled_bytes(sizeof *answer);
+    int64_t returned = read_table(first, last, points, lent, length, out, room, answer);
+    struct refusal here = {answer->refused, answer->place, answer->line, answer->column};
 
-    const char *difference = NULL;
-    if (answer != number)
-        difference = "number";
-    else if (answer_place != (number ? place : count))
-        difference = number ? "place" : "count";
-    else if (memcmp(lent, body, length))
+    const char *difference = refusal_differs(returned, here, right);
+    if (!difference && answer->points != count)
+        difference = "count";
+    if (!difference && guard_altered(answer, sizeof *answer))
+        difference = "what stands behind the answer is altered";
+    if (!difference && memcmp(lent, body, length))
         difference = "the body is altered";
-    else
-        difference = ordinates_differ(out, room, expected, count);
-    if (counted('B', number, difference)) {
+    if (!difference)
+        difference = ordinates_differ(out, room, expected, (size_t)count);
+    if (counted('B', right.number, difference)) {
         printf("    F %" PRId64 ", L %" PRId64 ", N %" PRIu64 ", room %" PRIu32 "\n", first, last, points, room);
         show_bytes("body", body, length);
-        printf("    second: %" PRIu32 " at %" PRIu64 ", %" PRIu64 " points; here: %" PRIu64 ", %" PRIu64 "\n", number,
-               place, count, answer, answer_place);
-        show_ordinates("second's ordinates", expected, count);
+        show_refusal("second", right);
+        printf(", %" PRId64 " points\n", count);
+        show_refusal("here", here);
+        printf(", %" PRId64 " points, returned %" PRId64 "\n", answer->points, returned);
+        show_ordinates("second's ordinates", expected, (size_t)count);
         show_ordinates("the lent ordinates now", out, room);
     }
     free(lent);
     free(out);
+    free(answer);
     free(body);
     free(expected);
 }
 
 static void compare_write(void)
 {
-    int64_t first = (int64_t)take_u64(), last = (int64_t)take_u64();
+    int64_t first = take_i64(), last = take_i64();
     uint64_t points = take_u64();
     uint32_t n = take_u32();
     int32_t *ordinates = take_ordinates(n);
-    uint32_t room = take_u32(), number = take_u32();
-    uint64_t place = take_u64(), length = take_u64();
-    uint8_t *expected = take_bytes(length);
+    uint32_t room = take_u32();
+    int64_t number = take_u32(), place = take_i64(), length = take_i64();
+    uint8_t *expected = take_bytes((size_t)length);
 
     int32_t *lent = copy_of(ordinates, n * sizeof *ordinates);
     uint8_t *text = filled_bytes(room);
-    uint64_t answer_length = UINT64_MAX;
-    uint64_t answer = WRITER(first, last, points, lent, n, text, room, &answer_length);
+    struct lastarunc_text *answer = filled_bytes(sizeof *answer);
+    int64_t returned = write_table(first, last, points, lent, n, text, room, answer);
 
     const char *difference = NULL;
-    if (answer != number || place != 0)
+    if (answer->refused != number || returned != number || place != 0)
         difference = "number";
-    else if (answer_length != length)
+    else if (answer->length != length)
         difference = "length";
+    else if (guard_altered(answer, sizeof *answer))
+        difference = "what stands behind the answer is altered";
     else if (memcmp(lent, ordinates, n * sizeof *ordinates))
         difference = "the ordinates are altered";
     else
-        difference = text_differs(text, room, expected, length);
+        difference = text_differs(text, room, expected, (size_t)length);
     if (counted('W', number, difference)) {
         printf("    F %" PRId64 ", L %" PRId64 ", N %" PRIu64 ", room %" PRIu32 "\n", first, last, points, room);
         show_ordinates("ordinates", ordinates, n);
-        printf("    second: %" PRIu32 ", length %" PRIu64 "; here: %" PRIu64 ", length %" PRIu64 "\n", number, length,
-               answer, answer_length);
-        show_bytes("second's text", expected, length);
+        printf("    second: %" PRId64 ", length %" PRId64 "\n", number, length);
+        printf("    here: %" PRId64 ", length %" PRId64 ", returned %" PRId64 "\n", answer->refused, answer->length,
+               returned);
+        show_bytes("second's text", expected, (size_t)length);
         show_bytes("the lent text now", text, room);
     }
     free(lent);
     free(text);
+    free(answer);
     free(ordinates);
     free(expected);
 }
@@ -278,41 +356,39 @@ static void compare_file(void)
 {
     uint32_t room = take_u32(), length = take_u32();
     uint8_t *file = take_bytes(length);
-    uint32_t number = take_u32();
-    uint64_t place = take_u64(), points = take_u64();
-    int64_t first = (int64_t)take_u64(), last = (int64_t)take_u64();
-    int32_t *expected = take_ordinates(points);
+    struct refusal right = take_refusal();
+    int64_t points = take_i64(), first = take_i64(), last = take_i64();
+    int32_t *expected = take_ordinates((size_t)points);
 
     uint8_t *lent = copy_of(file, length);
     int32_t *out = filled_ordinates(room);
-    uint64_t answer_place = UINT64_MAX, answer_points = UINT64_MAX;
-    int64_t answer_first = INT64_MIN, answer_last = INT64_MIN;
-    uint64_t answer = lastarunc_read_file(lent, length, out, room, &answer_place, &answer_points, &answer_first,
-                                          &answer_last);
+    struct lastarunc_file *answer = filled_bytes(sizeof *answer);
+    int64_t returned = lastarunc_read_file(lent, length, out, room, answer);
+    struct refusal here = {answer->refused, answer->place, answer->line, answer->column};
 
-    const char *difference = NULL;
-    if (answer != number)
-        difference = "number";
-    else if (answer_place != place)
-        difference = "place";
-    else if (answer_points != points)
+    const char *difference = refusal_differs(returned, here, right);
+    if (!difference && answer->points != points)
         difference = "count";
-    else if (answer_first != first || answer_last != last)
+    if (!difference && (answer->first != first || answer->last != last))
         difference = "F or L";
-    else if (memcmp(lent, file, length))
+    if (!difference && guard_altered(answer, sizeof *answer))
+        difference = "what stands behind the answer is altered";
+    if (!difference && memcmp(lent, file, length))
         difference = "the file is altered";
-    else
-        difference = ordinates_differ(out, room, expected, points);
-    if (counted('F', number, difference)) {
+    if (!difference)
+        difference = ordinates_differ(out, room, expected, (size_t)points);
+    if (counted('F', right.number, difference)) {
         printf("    room %" PRIu32 "\n", room);
         show_bytes("file", file, length);
-        printf("    second: %" PRIu32 " at %" PRIu64 ", N %" PRIu64 ", F %" PRId64 ", L %" PRId64 "\n", number, place,
-               points, first, last);
-        printf("    here:   %" PRIu64 " at %" PRIu64 ", N %" PRIu64 ", F %" PRId64 ", L %" PRId64 "\n", answer,
-               answer_place, answer_points, answer_first, answer_last);
+        show_refusal("second", right);
+        printf(", N %" PRId64 ", F %" PRId64 ", L %" PRId64 "\n", points, first, last);
+        show_refusal("here", here);
+        printf(", N %" PRId64 ", F %" PRId64 ", L %" PRId64 ", returned %" PRId64 "\n", answer->points, answer->first,
+               answer->last, returned);
     }
     free(lent);
     free(out);
+    free(answer);
     free(file);
     free(expected);
 }
@@ -323,30 +399,34 @@ static void compare_record(void)
     uint8_t *file = take_bytes(length);
     uint32_t name_length = take_u32();
     uint8_t *name = take_bytes(name_length);
-    uint64_t number = take_u32();
-    if (number == UINT32_MAX)
-        number = LASTARUNC_ABSENT;
-    uint64_t from = take_u64(), to = take_u64();
+    struct refusal right = take_refusal();
+    if (right.number == UINT32_MAX)
+        right.number = LASTARUNC_ABSENT;
+    int64_t from = take_i64(), to = take_i64();
 
     uint8_t *lent = copy_of(file, length), *lent_name = copy_of(name, name_length);
-    uint64_t answer_from = UINT64_MAX, answer_to = UINT64_MAX;
-    uint64_t answer = lastarunc_find_record(lent, length, lent_name, name_length, &answer_from, &answer_to);
+    struct lastarunc_record *answer = filled_bytes(sizeof *answer);
+    int64_t returned = lastarunc_find_record(lent, length, lent_name, name_length, answer);
+    struct refusal here = {answer->refused, answer->place, answer->line, answer->column};
 
-    const char *difference = NULL;
-    if (answer != number)
-        difference = "number";
-    else if (answer_from != from || answer_to != to)
-        difference = number ? "place" : "from or to";
-    else if (memcmp(lent, file, length) || memcmp(lent_name, name, name_length))
+    const char *difference = refusal_differs(returned, here, right);
+    if (!difference && (answer->from != from || answer->to != to))
+        difference = "from or to";
+    if (!difference && guard_altered(answer, sizeof *answer))
+        difference = "what stands behind the answer is altered";
+    if (!difference && (memcmp(lent, file, length) || memcmp(lent_name, name, name_length)))
         difference = "the file or the name is altered";
-    if (counted('R', number, difference)) {
+    if (counted('R', right.number, difference)) {
         show_bytes("name", name, name_length);
         show_bytes("file", file, length);
-        printf("    second: %" PRIu64 " %" PRIu64 " %" PRIu64 "; here: %" PRIu64 " %" PRIu64 " %" PRIu64 "\n", number,
-               from, to, answer, answer_from, answer_to);
+        show_refusal("second", right);
+        printf(", from %" PRId64 " to %" PRId64 "\n", from, to);
+        show_refusal("here", here);
+        printf(", from %" PRId64 " to %" PRId64 ", returned %" PRId64 "\n", answer->from, answer->to, returned);
     }
     free(lent);
     free(lent_name);
+    free(answer);
     free(file);
     free(name);
 }

@@ -2,7 +2,8 @@
  * Reads a JCAMP-DX file and prints its points as they are tabulated, not multiplied by XFACTOR and YFACTOR, one
  * `abscissa ordinate` on a line, `?` for an ordinate that is missing:
  *     read_file FILE
- * A refusal is said in words, with its number and its place, to standard error; the program then ends with 1.
+ * A refusal is said on standard error, as `FILE:LINE:COLUMN: refused NUMBER: MEANING`, which editors understand; the
+ * program then ends with 1.
  */
 #include "lastarunc.h"
 
@@ -45,11 +46,11 @@ static void print_thousandths(int64_t x)
 }
 
 /* The abscissa of point i, to the nearest thousandth; an index and a span are small enough for 64 bits. */
-static int64_t abscissa(int64_t first, int64_t last, uint64_t points, uint64_t i)
+static int64_t abscissa(int64_t first, int64_t last, int64_t points, int64_t i)
 {
     if (points == 1)
         return first;
-    int64_t steps = (int64_t)points - 1, above = 2 * (int64_t)i * (last - first) + steps;
+    int64_t steps = points - 1, above = 2 * i * (last - first) + steps;
     return first + above / (2 * steps) - (above % (2 * steps) < 0);
 }
 
@@ -69,15 +70,14 @@ int main(int argc, char **argv)
     size_t length = fread(file, 1, sizeof file, in);
     fclose(in);
 
-    uint64_t place, points;
-    int64_t first, last;
-    uint64_t refused = lastarunc_read_file(file, length, ordinates, LASTARUNC_MOST_POINTS, &place, &points, &first, &last);
-    if (refused) {
-        fprintf(stderr, "refused: %s (number %" PRIu64 " at byte %" PRIu64 ")\n", words[refused], refused, place);
+    struct lastarunc_file table;
+    if (lastarunc_read_file(file, length, ordinates, LASTARUNC_MOST_POINTS, &table)) {
+        fprintf(stderr, "%s:%" PRId64 ":%" PRId64 ": refused %" PRId64 ": %s\n", argv[1], table.line, table.column,
+                table.refused, words[table.refused]);
         return 1;
     }
-    for (uint64_t i = 0; i < points; i++) {
-        print_thousandths(abscissa(first, last, points, i));
+    for (int64_t i = 0; i < table.points; i++) {
+        print_thousandths(abscissa(table.first, table.last, table.points, i));
         if (ordinates[i] == LASTARUNC_MISSING)
             printf(" ?\n");
         else

@@ -12,23 +12,22 @@ int main(void)
     const int64_t first = 500, last = 4000;
 
     uint8_t text[15 * POINTS + 44]; /* enough for every text, as the header says */
-    uint64_t length;
-    uint64_t refused = lastarunc_write_table(first, last, POINTS, counts, POINTS, text, sizeof text, &length);
-    if (refused) {
-        fprintf(stderr, "not written: refusal %" PRIu64 "\n", refused);
+    struct lastarunc_text written;
+    if (lastarunc_write_table(first, last, POINTS, counts, POINTS, text, sizeof text, &written)) {
+        fprintf(stderr, "not written: refused %" PRId64 "\n", written.refused);
         return 1;
     }
-    printf("%" PRIu64 " bytes\n", length);
-    fwrite(text, 1, length, stdout);
+    printf("%" PRId64 " bytes\n", written.length);
+    fwrite(text, 1, (size_t)written.length, stdout);
 
     int32_t back[POINTS];
-    uint64_t place;
-    refused = lastarunc_read_table(first, last, POINTS, text, length, back, POINTS, &place);
-    if (refused) {
-        fprintf(stderr, "not read: refusal %" PRIu64 " at byte %" PRIu64 "\n", refused, place);
+    struct lastarunc_table table;
+    if (lastarunc_read_table(first, last, POINTS, text, (size_t)written.length, back, POINTS, &table)) {
+        fprintf(stderr, "not read: line %" PRId64 ", column %" PRId64 ": refused %" PRId64 "\n", table.line,
+                table.column, table.refused);
         return 1;
     }
-    printf("%" PRIu64 " points:", place);
+    printf("%" PRId64 " points:", table.points);
     for (int i = 0; i < POINTS; i++)
         if (back[i] == LASTARUNC_MISSING)
             printf(" ?");

@@ -4,6 +4,7 @@ mod body;
 mod cases;
 mod file;
 mod frame;
+mod line;
 mod random;
 mod selftest;
 mod stored;
@@ -51,10 +52,10 @@ fn input() -> io::Result<Vec<u8>> {
     Ok(bytes)
 }
 
-/// An answer in the form of 01's program.
-fn print_answer(answer: Result<(u64, i64, i64, Vec<i32>), Refusal>) {
+/// The answer to a text in the form of 01's program, and a refusal's line and column after its place.
+fn print_answer(text: &[u8], answer: Result<(u64, i64, i64, Vec<i32>), Refusal>) {
     match answer {
-        Err(fault) => println!("refused {} {}", fault.number, fault.place),
+        Err(fault) => println!("{}", fault.told(text)),
         Ok((points, first, last, ordinates)) => {
             let rows = ordinates.iter().map(|y| if *y == MISSING { "?\n".into() } else { format!("{y}\n") });
             print!("ok {points} {first} {last}\n{}", rows.collect::<String>());
@@ -85,8 +86,9 @@ fn body_command(arguments: &[String]) -> io::Result<()> {
     let [first, last, points, ..] = arguments else { usage() };
     let (Ok(first), Ok(last), Ok(points)) = (first.parse(), last.parse(), points.parse()) else { usage() };
     let room = option(arguments, "--room", u64::MAX) as usize;
-    let ordinates = body::read_body(first, last, points, &input()?, room);
-    print_answer(ordinates.map(|list| (points, first, last, list)));
+    let body = input()?;
+    let ordinates = body::read_body(first, last, points, &body, room);
+    print_answer(&body, ordinates.map(|list| (points, first, last, list)));
     Ok(())
 }
 
@@ -95,11 +97,11 @@ fn file_command(arguments: &[String]) -> io::Result<()> {
     let whole = arguments.iter().any(|argument| argument == "--whole");
     let file = input()?;
     if !whole && file.len() > PROGRAM_BYTES {
-        print_answer(Err(frame::refusal(19, 0)));
+        print_answer(&file, Err(frame::refusal(19, 0)));
         return Ok(());
     }
     let room = option(arguments, "--room", if whole { u64::MAX } else { PROGRAM_POINTS }) as usize;
-    print_answer(file::read_file(&file, room).map(|t| (t.points, t.first, t.last, t.ordinates)));
+    print_answer(&file, file::read_file(&file, room).map(|t| (t.points, t.first, t.last, t.ordinates)));
     Ok(())
 }
 

@@ -1,10 +1,11 @@
-//! The samples of document 01 and the readings, with answers written by hand from the documents, and two random
-//! comparisons: right spellings read back, written texts read back.
+//! The samples of document 01 and the readings, with answers written by hand from the documents, and three random
+//! comparisons: right spellings read back, written texts read back, places found again by line and column.
 
 use crate::body::read_body;
-use crate::cases::{spell, tables};
+use crate::cases::{damage, spell, tables};
 use crate::file::{read_file, record_text, FileTable, RecordText};
 use crate::frame::{refusal, Frame, Refusal, MISSING};
+use crate::line::line_and_column;
 use crate::random::Random;
 use crate::text::{head, write_body};
 
@@ -99,6 +100,11 @@ fn bytes_of(row: &str) -> Vec<u8> {
 /// An answer with its refusal as a pair.
 fn plain<T>(answer: Result<T, Refusal>) -> Result<T, (u32, usize)> {
     answer.map_err(|fault| (fault.number, fault.place as usize))
+}
+
+/// Why a text is refused: number, place, line and column.
+fn fault<T>(text: &[u8], answer: Result<T, Refusal>) -> Option<(u32, u64, u64, u64)> {
+    answer.err().map(|fault| fault.told(text)).map(|told| (told.number, told.place, told.line, told.column))
 }
 
 /// Collects what went wrong.
@@ -426,6 +432,104 @@ fn check_tables(report: &mut Report) {
     report.compare("3 in the file", plain(read_file(&file, 4)), Err((3, place(&file, "#%"))));
 }
 
+/// Bodies as in `body_rows`, with number, place, line and column (02, T-01).
+const LINE_ROWS: [(&str, (u32, u64, u64, u64)); 17] = [
+    // On the first line, and on later ones.
+    ("!", (3, 0, 1, 1)),
+    ("0A?J1", (8, 3, 1, 4)),
+    ("0A0J/1A2", (10, 6, 2, 2)),
+    ("//0!", (3, 3, 3, 2)),
+    // After CR LF, which is one line end; at a lone CR, which is none.
+    ("0A~/1B!", (3, 6, 2, 3)),
+    ("~/~/0A0J~/~/1A2", (10, 13, 5, 2)),
+    ("0A~1B", (3, 2, 1, 3)),
+    // A lone CR in a comment ends no line: it is one more byte of it.
+    ("0A$$~c/1B!", (3, 9, 2, 3)),
+    ("$$~~/0A$$~c", (12, 11, 2, 7)),
+    // At the end of the text, without LF and after it.
+    ("", (12, 0, 1, 1)),
+    ("0A", (12, 2, 1, 3)),
+    ("0A/", (12, 3, 2, 1)),
+    ("0A~/", (12, 4, 2, 1)),
+    ("0A//", (12, 4, 3, 1)),
+    ("0E0%U~/ $$", (13, 10, 2, 4)),
+    // A tab is one byte, and so one column; a letter outside ASCII is two here.
+    ("0\t\tA\t!", (3, 5, 1, 6)),
+    ("0A$$\u{fc}", (12, 6, 1, 7)),
+];
+
+/// Lines and columns of faults in bodies and files.
+fn check_lines(report: &mut Report) {
+    for (row, expected) in LINE_ROWS {
+        let body = bytes_of(row);
+        report.compare(row, fault(&body, read_body(0, 3000, 4, &body, 4)), Some(expected));
+    }
+    let first = |number| Some((number, 0, 1, 1));
+    report.compare("1, line", fault(b"\n0A", read_body(0, 0, 4, b"\n0A", 4)), first(1));
+    report.compare("2, line", fault(b"\n0A", read_body(0, 3000, 4, b"\n0A", 3)), first(2));
+    let long = vec![b'\n'; 1_048_577];
+    report.compare("1, too long, line", fault(&long, read_body(0, 3000, 4, &long, 4)), first(1));
+    report.compare("19, line", fault(&long, read_file(&long, 4)), first(19));
+    let file = file_with("NPOINTS", "0\n");
+    report.compare("1 in a file, line", fault(&file, read_file(&file, 4)), first(1));
+    let file = file_with("", "");
+    report.compare("2 in a file, line", fault(&file, read_file(&file, 3)), first(2));
+    check_lines_of_files(report);
+}
+
+/// Lines and columns in a file; those of the body's faults too. XFACTOR is on line 2, XYDATA on line 8.
+fn check_lines_of_files(report: &mut Report) {
+    let rows = [
+        ("XFACTOR", " x\n", (26, 29, 2, 12)),
+        ("XFACTOR", "\r\n\t\n", (26, 32, 4, 1)),
+        ("FIRSTY", " 2\n", (29, 87, 7, 11)),
+        ("XYDATA", "(X++(Y..Y))\n0@Jj%\n3A\n", (10, 116, 10, 2)),
+        ("XYDATA", "(X++(Y..Y))\r\n0@J!%\r\n", (3, 113, 9, 4)),
+        ("XYDATA", "(X++(Y..Y))\n$$\r\r\n0@J!%\n", (3, 117, 10, 4)),
+        ("XYDATA", "(X++(Y..Y))\n0@Jj%\n \t", (13, 117, 10, 3)),
+        ("XYDATA", "(X++(Y..Y))\n0@Jj\n", (12, 114, 10, 1)),
+    ];
+    for (name, text, expected) in rows {
+        let file = file_with(name, text);
+        report.compare(text, fault(&file, read_file(&file, 4)), Some(expected));
+    }
+    let rows = [
+        ("", (21, 0, 1, 1)),
+        ("\n $$ c\r\n\t", (21, 9, 3, 2)),
+        ("##TITLE=", (22, 8, 1, 9)),
+        ("##TITLE=\n", (22, 9, 2, 1)),
+        ("##TITLE=\r##A=\r", (22, 14, 1, 15)),
+        ("##TITLE=\r\n  ##X\r\n##END=", (20, 12, 2, 3)),
+        ("##TITLE=\n##a b=\n ##A_B=\n##END=", (23, 17, 3, 2)),
+        ("##TITLE=\n##TITLE=\n##END=", (24, 9, 2, 1)),
+    ];
+    for (text, expected) in rows {
+        let file = text.as_bytes();
+        report.compare(text, fault(file, read_file(file, 4)), Some(expected));
+        let RecordText::Refused(refused) = record_text(file, b"TITLE") else {
+            report.compare(text, "accepted", "refused");
+            continue;
+        };
+        report.compare(text, fault::<()>(file, Err(refused)), Some(expected));
+    }
+    let file = b"##TITLE=\r\n##END=";
+    report.compare("25, line", fault(file, read_file(file, 4)), Some((25, 10, 2, 1)));
+}
+
+/// Every place of random texts is found again by its line and column, and the column is one of that line.
+fn check_places(report: &mut Report, random: &mut Random) {
+    for _ in 0..1_000 {
+        let text = damage::soup(random);
+        let lines: Vec<&[u8]> = text.split(|byte| *byte == b'\n').collect();
+        for place in 0..=text.len() {
+            let (line, column) = line_and_column(&text, place);
+            let before: usize = lines[..line - 1].iter().map(|line| line.len() + 1).sum();
+            let found = (before + column - 1, column - 1 <= lines[line - 1].len());
+            report.compare(&format!("{}", text.escape_ascii()), found, (place, true));
+        }
+    }
+}
+
 /// Right spellings of random tables are read as those tables.
 fn check_spellings(report: &mut Report, random: &mut Random) {
     for _ in 0..20_000 {
@@ -467,9 +571,11 @@ pub fn run() -> i32 {
     check_quotients(report);
     check_labels(report);
     check_tables(report);
+    check_lines(report);
     let random = &mut Random::new(7);
     check_spellings(report, random);
     check_written(report, random);
+    check_places(report, random);
     println!("{} comparisons, {} wrong", report.done, report.wrong);
     i32::from(report.wrong > 0)
 }

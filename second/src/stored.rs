@@ -3,7 +3,7 @@
 use crate::body::read_body;
 use crate::cases::{body_case, files, write_case};
 use crate::file::read_file;
-use crate::frame::{Frame, Refusal, MISSING};
+use crate::frame::{Frame, MISSING};
 use crate::random::Random;
 use crate::stream::{BodyCase, FileCase, WriteCase};
 use crate::text::write_body;
@@ -55,7 +55,7 @@ impl<C: Write, A: Write> Stored<C, A> {
         let Frame { first, last, points } = case.frame;
         match read_body(first, last, points, &case.body, room as usize) {
             Ok(ordinates) => writeln!(self.answers, "ok {points}{}", words(&ordinates)),
-            Err(fault) => self.refused(fault),
+            Err(fault) => writeln!(self.answers, "{}", fault.told(&case.body)),
         }
     }
 
@@ -72,7 +72,7 @@ impl<C: Write, A: Write> Stored<C, A> {
                 self.answers.write_all(&text)?;
                 writeln!(self.answers)
             }
-            Err(fault) => self.refused(fault),
+            Err(fault) => writeln!(self.answers, "refused {} {}", fault.number, fault.place),
         }
     }
 
@@ -83,13 +83,8 @@ impl<C: Write, A: Write> Stored<C, A> {
         self.cases.write_all(&case.file)?;
         match read_file(&case.file, room as usize) {
             Ok(t) => writeln!(self.answers, "ok {} {} {}{}", t.points, t.first, t.last, words(&t.ordinates)),
-            Err(fault) => self.refused(fault),
+            Err(fault) => writeln!(self.answers, "{}", fault.told(&case.file)),
         }
-    }
-
-    /// The answer of a refusal.
-    fn refused(&mut self, fault: Refusal) -> io::Result<()> {
-        writeln!(self.answers, "refused {} {}", fault.number, fault.place)
     }
 }
 

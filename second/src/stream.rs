@@ -2,7 +2,8 @@
 
 use crate::body::read_body;
 use crate::file::{read_file, record_text, RecordText};
-use crate::frame::{Frame, Refusal};
+use crate::frame::Frame;
+use crate::line::Told;
 use crate::text::write_body;
 use std::collections::BTreeMap;
 use std::io::{self, Read, Write};
@@ -64,10 +65,12 @@ fn put_frame(out: &mut impl Write, frame: &Frame) -> io::Result<()> {
     put_u64(out, frame.points)
 }
 
-/// The number and the place of an answer: 0 and 0 if it is accepted.
-fn put_verdict(out: &mut impl Write, refused: Option<Refusal>) -> io::Result<()> {
-    put_u32(out, refused.map_or(0, |fault| fault.number))?;
-    put_u64(out, refused.map_or(0, |fault| fault.place))
+/// The number, the place, the line and the column of an answer.
+fn put_told(out: &mut impl Write, told: Told) -> io::Result<()> {
+    put_u32(out, told.number)?;
+    put_u64(out, told.place)?;
+    put_u64(out, told.line)?;
+    put_u64(out, told.column)
 }
 
 /// Writes a body case and its answer.
@@ -78,7 +81,7 @@ pub fn put_body_case(out: &mut impl Write, case: &BodyCase) -> io::Result<()> {
     put_bytes(out, &case.body)?;
     let Frame { first, last, points } = case.frame;
     let answer = read_body(first, last, points, &case.body, case.room as usize);
-    put_verdict(out, answer.as_ref().err().copied())?;
+    put_told(out, answer.as_ref().err().map_or(Told::default(), |fault| fault.told(&case.body)))?;
     let ordinates = answer.unwrap_or_default();
     put_u64(out, ordinates.len() as u64)?;
     put_ordinates(out, &ordinates)
@@ -93,7 +96,8 @@ pub fn put_write_case(out: &mut impl Write, case: &WriteCase) -> io::Result<()> 
     put_u32(out, case.room)?;
     let Frame { first, last, points } = case.frame;
     let answer = write_body(first, last, points, &case.ordinates, case.room as usize);
-    put_verdict(out, answer.as_ref().err().copied())?;
+    put_u32(out, answer.as_ref().err().map_or(0, |fault| fault.number))?;
+    put_u64(out, answer.as_ref().err().map_or(0, |fault| fault.place))?;
     let text = answer.unwrap_or_default();
     put_u64(out, text.len() as u64)?;
     out.write_all(&text)
@@ -105,7 +109,7 @@ pub fn put_file_case(out: &mut impl Write, case: &FileCase) -> io::Result<()> {
     put_u32(out, case.room)?;
     put_bytes(out, &case.file)?;
     let answer = read_file(&case.file, case.room as usize);
-    put_verdict(out, answer.as_ref().err().copied())?;
+    put_told(out, answer.as_ref().err().map_or(Told::default(), |fault| fault.told(&case.file)))?;
     let Ok(table) = answer else {
         return put_frame_of_file(out, 0, 0, 0);
     };
@@ -125,12 +129,12 @@ pub fn put_record_case(out: &mut impl Write, case: &RecordCase) -> io::Result<()
     out.write_all(b"R")?;
     put_bytes(out, &case.file)?;
     put_bytes(out, &case.name)?;
-    let (number, from, to) = match record_text(&case.file, &case.name) {
-        RecordText::Part(from, to) => (0, from, to),
-        RecordText::Absent => (ABSENT, 0, 0),
-        RecordText::Refused(fault) => (fault.number, fault.place, 0),
+    let (told, from, to) = match record_text(&case.file, &case.name) {
+        RecordText::Part(from, to) => (Told::default(), from, to),
+        RecordText::Absent => (Told { number: ABSENT, ..Told::default() }, 0, 0),
+        RecordText::Refused(fault) => (fault.told(&case.file), 0, 0),
     };
-    put_u32(out, number)?;
+    put_told(out, told)?;
     put_u64(out, from)?;
     put_u64(out, to)
 }
@@ -165,6 +169,13 @@ impl<R: Read> Stream<R> {
         Ok(length)
     }
 
+    /// The number of a reader's answer; its place, line and column are passed over.
+    fn told(&mut self) -> io::Result<u32> {
+        let number = self.u32()?;
+        self.bytes(24)?;
+        Ok(number)
+    }
+
     /// The kind of the next case, or nothing at the end.
     fn kind(&mut self) -> io::Result<Option<u8>> {
         let mut one = [0];
@@ -186,8 +197,7 @@ impl<R: Read> Stream<R> {
     fn body_case(&mut self) -> io::Result<(u32, usize)> {
         self.bytes(28)?;
         let length = self.counted()?;
-        let number = self.u32()?;
-        self.u64()?;
+        let number = self.told()?;
         let count = self.u64()? as usize;
         self.bytes(4 * count)?;
         Ok((number, length))
@@ -209,8 +219,7 @@ impl<R: Read> Stream<R> {
     fn file_case(&mut self) -> io::Result<(u32, usize)> {
         self.u32()?;
         let length = self.counted()?;
-        let number = self.u32()?;
-        self.u64()?;
+        let number = self.told()?;
         let points = self.u64()? as usize;
         self.bytes(16 + 4 * points)?;
         Ok((number, length))
@@ -220,7 +229,7 @@ impl<R: Read> Stream<R> {
     fn record_case(&mut self) -> io::Result<(u32, usize)> {
         let length = self.counted()?;
         self.counted()?;
-        let number = self.u32()?;
+        let number = self.told()?;
         self.bytes(16)?;
         Ok((number, length))
     }
