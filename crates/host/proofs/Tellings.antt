@@ -1,11 +1,12 @@
 -- From the answers of the library to what a C host is told. No place of the code is named here. Assumes nothing.
-use mathlib.Core.Path.{_≡_, refl, _∙_}
-use mathlib.Core.List.{List}
+use mathlib.Core.Path.{_≡_, refl, ap, sym, _∙_}
+use mathlib.Core.List.{List, [], _∷_}
 use Prim.Native.Nat.{ℕ}
-use lib.IntN.{ℤ, pos}
+use lib.IntN.{ℤ}
 use lib.ListN.{length}
 use Rattle.terms.specs.Logic.{zero-one}
-use Rattle.terms.specs.Refusals.{refusal}
+use Rattle.terms.specs.Refusals.{fault-at, refusalIn}
+use Rattle.terms.specs.declared.Fault.{Fault}
 use Rattle.terms.specs.declared.Refusal.{Refusal}
 use Rattle.terms.specs.declared.TableRead.the-variants as tables
 use Rattle.terms.specs.declared.TableWritten.the-variants as texts
@@ -13,66 +14,80 @@ use Rattle.table_spec.specs.Reading.{Answer, refuse, accept, readTable}
 use Rattle.table_spec.specs.Writing.{Outcome, declined, wrote, writeTable, laid}
 use Rattle.table_read.specs.Answers.{told, TableSays}
 use Rattle.table_text.specs.Answers as writing
+use Rattle.label_spec.specs.Records.{recordFor}
+use Rattle.label_spec.specs.Names.{norm}
+use Rattle.label_spec.specs.declared.Record.{Record}
 use Rattle.file_spec.specs.File.{FileAnswer, refuse-file, accept-file, readFile, toldFile}
 use Rattle.file_spec.specs.declared.FileTable.{FileTable}
 use Rattle.file_spec.specs.declared.FileRead.the-variants as files
 use Rattle.file.specs.Answers.{FileSays}
-use Rattle.host.specs.Answers.{numberOf, placeOf, TableTold, declinedBy, lengthOf, TextTold, fileNumber, filePlace, filePoints, fileFirst, fileLast, FileTold}
+use Rattle.host.specs.Answers.{refusedOf, tableAnswer, TableTold, textAnswer, TextTold, bits, fileAnswer, FileTold, recordAnswer, RecordTold}
 
 -- ---- a table read
 
-table-accepted : (n : ℕ) (x : Answer) {m : ℕ} → tables.Accepted m ≡ told n x → (0 ≡ numberOf x) × (m ≡ placeOf n x)
-table-accepted n (refuse c a) e = zero-one cc
-table-accepted n (accept ys) e = (refl, cc)
+table-accepted : (n : ℕ) (s : List ℕ) (x : Answer) {m : ℕ} → tables.Accepted m ≡ told n s x → 0 ∷ 0 ∷ 0 ∷ 0 ∷ m ∷ [] ≡ tableAnswer n s x
+table-accepted n s (refuse c a) e = zero-one cc
+table-accepted n s (accept ys) e = cc
 
-table-refused : (n : ℕ) (x : Answer) {r : Refusal} → tables.Refused r ≡ told n x → (r .number ≡ numberOf x) × (r .place ≡ placeOf n x)
-table-refused n (refuse c a) {r} e = let z : r ≡ refusal c a = cc in (rw z refl, rw z refl)
-table-refused n (accept ys) e = zero-one cc
+table-refused : (n : ℕ) (s : List ℕ) (x : Answer) {r : Refusal} → tables.Refused r ≡ told n s x → r .number ∷ r .place ∷ r .line ∷ r .column ∷ 0 ∷ [] ≡ tableAnswer n s x
+table-refused n s (refuse c a) {r} e = let z : r ≡ refusalIn s c a = cc in rw z refl
+table-refused n s (accept ys) e = zero-one cc
 
 module _ {f l : ℤ} {n : ℕ} {body : List ℕ} {out out' : List ℤ} where
-  pub told-accepted : {m : ℕ} → TableSays f l n body out out' (tables.Accepted m) → TableTold f l n body out out' m 0
-  told-accepted g = let z = table-accepted n (readTable f l n body (length out)) (g .answers) in record { number = z .0; second = z .1; leaves = g .leaves }
+  pub told-accepted : {m : ℕ} → TableSays f l n body out out' (tables.Accepted m) → TableTold f l n body out out' (0 ∷ 0 ∷ 0 ∷ 0 ∷ m ∷ []) 0
+  told-accepted g =
+      let z = table-accepted n body (readTable f l n body (length out)) (g .answers) in
+      record { numbers = z; returned = ap refusedOf z; leaves = g .leaves }
 
-  pub told-refused : {r : Refusal} → TableSays f l n body out out' (tables.Refused r) → TableTold f l n body out out' (r .place) (r .number)
-  told-refused g = let z = table-refused n (readTable f l n body (length out)) (g .answers) in record { number = z .0; second = z .1; leaves = g .leaves }
+  pub told-refused : {r : Refusal} → TableSays f l n body out out' (tables.Refused r)
+      → TableTold f l n body out out' (r .number ∷ r .place ∷ r .line ∷ r .column ∷ 0 ∷ []) (r .number)
+  told-refused g =
+      let z = table-refused n body (readTable f l n body (length out)) (g .answers) in
+      record { numbers = z; returned = ap refusedOf z; leaves = g .leaves }
 
 -- ---- a table written
 
-text-wrote : (x : Outcome) {m : ℕ} → texts.Length m ≡ writing.told x → (0 ≡ declinedBy x) × (m ≡ lengthOf x)
+text-wrote : (x : Outcome) {m : ℕ} → texts.Length m ≡ writing.told x → 0 ∷ m ∷ [] ≡ textAnswer x
 text-wrote (declined c) e = zero-one cc
-text-wrote (wrote t) e = (refl, cc)
+text-wrote (wrote t) e = cc
 
-text-declined : (x : Outcome) {r : Refusal} → texts.Refused r ≡ writing.told x → (r .number ≡ declinedBy x) × (0 ≡ lengthOf x)
-text-declined (declined c) {r} e = let z : r ≡ refusal c 0 = cc in (rw z refl, refl)
+text-declined : (x : Outcome) {r : Fault} → texts.Refused r ≡ writing.told x → r .number ∷ 0 ∷ [] ≡ textAnswer x
+text-declined (declined c) {r} e = let z : r ≡ fault-at c 0 = cc in rw z refl
 text-declined (wrote t) e = zero-one cc
 
 module _ {f l : ℤ} {n : ℕ} {ys : List ℤ} {text text' : List ℕ} where
-  pub told-wrote : {m : ℕ} → texts.Length m ≡ writing.told (writeTable f l n ys (length text)) → text' ≡ laid text (writeTable f l n ys (length text)) → TextTold f l n ys text text' m 0
-  told-wrote e o = let z = text-wrote (writeTable f l n ys (length text)) e in record { number = z .0; second = z .1; leaves = o }
+  pub told-wrote : {m : ℕ} → texts.Length m ≡ writing.told (writeTable f l n ys (length text)) → text' ≡ laid text (writeTable f l n ys (length text))
+      → TextTold f l n ys text text' (0 ∷ m ∷ []) 0
+  told-wrote e o = let z = text-wrote (writeTable f l n ys (length text)) e in record { numbers = z; returned = ap refusedOf z; leaves = o }
 
-  pub told-declined : {r : Refusal} → texts.Refused r ≡ writing.told (writeTable f l n ys (length text)) → text' ≡ laid text (writeTable f l n ys (length text))
-      → TextTold f l n ys text text' 0 (r .number)
-  told-declined e o = let z = text-declined (writeTable f l n ys (length text)) e in record { number = z .0; second = z .1; leaves = o }
+  pub told-declined : {r : Fault} → texts.Refused r ≡ writing.told (writeTable f l n ys (length text)) → text' ≡ laid text (writeTable f l n ys (length text))
+      → TextTold f l n ys text text' (r .number ∷ 0 ∷ []) (r .number)
+  told-declined e o = let z = text-declined (writeTable f l n ys (length text)) e in record { numbers = z; returned = ap refusedOf z; leaves = o }
 
 -- ---- a file read
 
-file-accepted : (x : FileAnswer) {t : FileTable} → files.Accepted t ≡ toldFile x
-    → (0 ≡ fileNumber x) × (0 ≡ filePlace x) × (t .points ≡ filePoints x) × (t .first ≡ fileFirst x) × (t .last ≡ fileLast x)
-file-accepted (refuse-file c a) e = zero-one cc
-file-accepted (accept-file n f l ys) {t} e = let z : t ≡ record { points = n; first = f; last = l } = cc in (refl, refl, rw z refl, rw z refl, rw z refl)
+file-accepted : (s : List ℕ) (x : FileAnswer) {t : FileTable} → files.Accepted t ≡ toldFile s x → 0 ∷ 0 ∷ 0 ∷ 0 ∷ t .points ∷ bits (t .first) ∷ bits (t .last) ∷ [] ≡ fileAnswer s x
+file-accepted s (refuse-file c a) e = zero-one cc
+file-accepted s (accept-file n f l ys) {t} e = let z : t ≡ record { points = n; first = f; last = l } = cc in rw z refl
 
-file-refused : (x : FileAnswer) {r : Refusal} → files.Refused r ≡ toldFile x
-    → (r .number ≡ fileNumber x) × (r .place ≡ filePlace x) × (0 ≡ filePoints x) × (pos 0 ≡ fileFirst x) × (pos 0 ≡ fileLast x)
-file-refused (refuse-file c a) {r} e = let z : r ≡ refusal c a = cc in (rw z refl, rw z refl, refl, refl, refl)
-file-refused (accept-file n f l ys) e = zero-one cc
+file-refused : (s : List ℕ) (x : FileAnswer) {r : Refusal} → files.Refused r ≡ toldFile s x → r .number ∷ r .place ∷ r .line ∷ r .column ∷ 0 ∷ 0 ∷ 0 ∷ [] ≡ fileAnswer s x
+file-refused s (refuse-file c a) {r} e = let z : r ≡ refusalIn s c a = cc in rw z refl
+file-refused s (accept-file n f l ys) e = zero-one cc
 
 module _ {file : List ℕ} {out out' : List ℤ} where
-  pub told-file : {t : FileTable} {f l : ℤ} → FileSays file out out' (files.Accepted t) → f ≡ t .first → l ≡ t .last → FileTold file out out' 0 (t .points) f l 0
+  pub told-file : {t : FileTable} {f l : ℕ} → FileSays file out out' (files.Accepted t) → f ≡ bits (t .first) → l ≡ bits (t .last)
+      → FileTold file out out' (0 ∷ 0 ∷ 0 ∷ 0 ∷ t .points ∷ f ∷ l ∷ []) 0
   told-file g a b =
-      let z = file-accepted (readFile file (length out)) (g .answers) in
-      record { number = z .0; second = z .1; third = z .2; fourth = a ∙ z .3; fifth = b ∙ z .4; leaves = g .leaves }
+      let z = file-accepted file (readFile file (length out)) (g .answers) in
+      record { numbers = rw (a, b) z; returned = ap refusedOf z; leaves = g .leaves }
 
-  pub told-file-refused : {r : Refusal} → FileSays file out out' (files.Refused r) → FileTold file out out' (r .place) 0 (pos 0) (pos 0) (r .number)
+  pub told-file-refused : {r : Refusal} → FileSays file out out' (files.Refused r)
+      → FileTold file out out' (r .number ∷ r .place ∷ r .line ∷ r .column ∷ 0 ∷ 0 ∷ 0 ∷ []) (r .number)
   told-file-refused g =
-      let z = file-refused (readFile file (length out)) (g .answers) in
-      record { number = z .0; second = z .1; third = z .2; fourth = z .3; fifth = z .4; leaves = g .leaves }
+      let z = file-refused file (readFile file (length out)) (g .answers) in
+      record { numbers = z; returned = ap refusedOf z; leaves = g .leaves }
+
+-- ---- a record found
+
+pub told-record : {file name answer : List ℕ} {x : Record} {r : ℕ} → x ≡ recordFor file (norm name) → answer ≡ recordAnswer x → r ≡ refusedOf (recordAnswer x) → RecordTold file name answer r
+told-record e a b = record { numbers = a ∙ ap recordAnswer e; returned = b ∙ ap (λ (x : Record). refusedOf (recordAnswer x)) e }

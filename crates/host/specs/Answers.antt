@@ -1,9 +1,10 @@
--- What a C host is told: a number, 0 for acceptance, and what stands behind its pointers afterwards. Assumes nothing.
+-- What a C host is told: the numbers of the answer's struct, in the header's order, and the first of them once more as the result. What is not given is 0. Assumes nothing.
 use mathlib.Core.Path.{_≡_}
-use mathlib.Core.List.{List}
-use Prim.Native.Nat.{ℕ}
-use lib.IntN.{ℤ, pos}
+use mathlib.Core.List.{List, [], _∷_}
+use Prim.Native.Nat.{ℕ, _-_}
+use lib.IntN.{ℤ, pos, negsuc}
 use lib.ListN.{length}
+use Rattle.terms.specs.Places.{lineOf, columnOf}
 use Rattle.table_spec.specs.Reading.{Answer, refuse, accept, readTable, stored}
 use Rattle.table_spec.specs.Writing.{Outcome, declined, wrote, writeTable, laid}
 use Rattle.label_spec.specs.Records.{recordFor}
@@ -11,84 +12,56 @@ use Rattle.label_spec.specs.Names.{norm}
 use Rattle.label_spec.specs.declared.Record.{Record}
 use Rattle.file_spec.specs.File.{FileAnswer, refuse-file, accept-file, readFile, storedFile}
 
--- a table read: the refusal number or 0; its place or N
-abbrev pub numberOf : Answer → ℕ
-numberOf (refuse c a) = c
-numberOf (accept ys) = 0
+-- refused (0: accepted) is the first number of each answer
+abbrev pub refusedOf : List ℕ → ℕ
+refusedOf [] = 0
+refusedOf (c ∷ rest) = c
 
-abbrev pub placeOf : ℕ → Answer → ℕ
-placeOf n (refuse c a) = a
-placeOf n (accept ys) = n
+-- a table read: refused, place, line, column, points
+abbrev pub tableAnswer : ℕ → List ℕ → Answer → List ℕ
+tableAnswer n s (refuse c a) = c ∷ a ∷ lineOf s a ∷ columnOf s a ∷ 0 ∷ []
+tableAnswer n s (accept ys) = 0 ∷ 0 ∷ 0 ∷ 0 ∷ n ∷ []
 
-pub record TableTold (f l : ℤ) (n : ℕ) (body : List ℕ) (out out' : List ℤ) (place r : ℕ) : Type 0 where
-  pub number : r ≡ numberOf (readTable f l n body (length out))
-  pub second : place ≡ placeOf n (readTable f l n body (length out))
+pub record TableTold (f l : ℤ) (n : ℕ) (body : List ℕ) (out out' : List ℤ) (answer : List ℕ) (r : ℕ) : Type 0 where
+  pub numbers : answer ≡ tableAnswer n body (readTable f l n body (length out))
+  pub returned : r ≡ refusedOf (tableAnswer n body (readTable f l n body (length out)))
   pub leaves : out' ≡ stored out (readTable f l n body (length out))
 
--- a table written: the refusal number or 0; the text's length or 0
-abbrev pub declinedBy : Outcome → ℕ
-declinedBy (declined c) = c
-declinedBy (wrote t) = 0
+-- a table written: refused, length
+abbrev pub textAnswer : Outcome → List ℕ
+textAnswer (declined c) = c ∷ 0 ∷ []
+textAnswer (wrote t) = 0 ∷ length t ∷ []
 
-abbrev pub lengthOf : Outcome → ℕ
-lengthOf (declined c) = 0
-lengthOf (wrote t) = length t
-
-pub record TextTold (f l : ℤ) (n : ℕ) (ys : List ℤ) (text text' : List ℕ) (len r : ℕ) : Type 0 where
-  pub number : r ≡ declinedBy (writeTable f l n ys (length text))
-  pub second : len ≡ lengthOf (writeTable f l n ys (length text))
+pub record TextTold (f l : ℤ) (n : ℕ) (ys : List ℤ) (text text' : List ℕ) (answer : List ℕ) (r : ℕ) : Type 0 where
+  pub numbers : answer ≡ textAnswer (writeTable f l n ys (length text))
+  pub returned : r ≡ refusedOf (textAnswer (writeTable f l n ys (length text)))
   pub leaves : text' ≡ laid text (writeTable f l n ys (length text))
 
--- a file read: the refusal number or 0; place, N, F and L, each 0 where it is not given
-abbrev pub fileNumber : FileAnswer → ℕ
-fileNumber (refuse-file c a) = c
-fileNumber (accept-file n f l ys) = 0
+-- a number with a sign in 64 bits, in two's complement, as C has it
+abbrev pub bits : ℤ → ℕ
+bits (pos n) = n
+bits (negsuc n) = 18446744073709551615 - n
 
-abbrev pub filePlace : FileAnswer → ℕ
-filePlace (refuse-file c a) = a
-filePlace (accept-file n f l ys) = 0
+-- a file read: refused, place, line, column, points, first, last
+abbrev pub fileAnswer : List ℕ → FileAnswer → List ℕ
+fileAnswer s (refuse-file c a) = c ∷ a ∷ lineOf s a ∷ columnOf s a ∷ 0 ∷ 0 ∷ 0 ∷ []
+fileAnswer s (accept-file n f l ys) = 0 ∷ 0 ∷ 0 ∷ 0 ∷ n ∷ bits f ∷ bits l ∷ []
 
-abbrev pub filePoints : FileAnswer → ℕ
-filePoints (refuse-file c a) = 0
-filePoints (accept-file n f l ys) = n
-
-abbrev pub fileFirst : FileAnswer → ℤ
-fileFirst (refuse-file c a) = pos 0
-fileFirst (accept-file n f l ys) = f
-
-abbrev pub fileLast : FileAnswer → ℤ
-fileLast (refuse-file c a) = pos 0
-fileLast (accept-file n f l ys) = l
-
-pub record FileTold (file : List ℕ) (out out' : List ℤ) (place points : ℕ) (first last : ℤ) (r : ℕ) : Type 0 where
-  pub number : r ≡ fileNumber (readFile file (length out))
-  pub second : place ≡ filePlace (readFile file (length out))
-  pub third : points ≡ filePoints (readFile file (length out))
-  pub fourth : first ≡ fileFirst (readFile file (length out))
-  pub fifth : last ≡ fileLast (readFile file (length out))
+pub record FileTold (file : List ℕ) (out out' : List ℤ) (answer : List ℕ) (r : ℕ) : Type 0 where
+  pub numbers : answer ≡ fileAnswer file (readFile file (length out))
+  pub returned : r ≡ refusedOf (fileAnswer file (readFile file (length out)))
   pub leaves : out' ≡ storedFile out (readFile file (length out))
 
--- the number for a record that is absent, 2^64 - 1: no refusal has it (Numbers.refused-number)
+-- the number for a record that is absent, -1 in 64 bits: no refusal has it (Numbers.refused-number)
 abbrev pub absent : ℕ
 absent = 18446744073709551615
 
--- a record's text: 0 and its places; `absent`; or the refusal number of the labels and its place. What is not given is 0
-abbrev pub recordNumber : Record → ℕ
-recordNumber (Record.Text a b) = 0
-recordNumber Record.Absent = absent
-recordNumber (Record.Refused r) = r .number
+-- a record's text: refused, place, line, column, from, to
+abbrev pub recordAnswer : Record → List ℕ
+recordAnswer (Record.Text a b) = 0 ∷ 0 ∷ 0 ∷ 0 ∷ a ∷ b ∷ []
+recordAnswer Record.Absent = absent ∷ 0 ∷ 0 ∷ 0 ∷ 0 ∷ 0 ∷ []
+recordAnswer (Record.Refused r) = r .number ∷ r .place ∷ r .line ∷ r .column ∷ 0 ∷ 0 ∷ []
 
-abbrev pub recordFrom : Record → ℕ
-recordFrom (Record.Text a b) = a
-recordFrom Record.Absent = 0
-recordFrom (Record.Refused r) = r .place
-
-abbrev pub recordTo : Record → ℕ
-recordTo (Record.Text a b) = b
-recordTo Record.Absent = 0
-recordTo (Record.Refused r) = 0
-
-pub record RecordTold (file name : List ℕ) (from to r : ℕ) : Type 0 where
-  pub number : r ≡ recordNumber (recordFor file (norm name))
-  pub second : from ≡ recordFrom (recordFor file (norm name))
-  pub third : to ≡ recordTo (recordFor file (norm name))
+pub record RecordTold (file name : List ℕ) (answer : List ℕ) (r : ℕ) : Type 0 where
+  pub numbers : answer ≡ recordAnswer (recordFor file (norm name))
+  pub returned : r ≡ refusedOf (recordAnswer (recordFor file (norm name)))

@@ -20,25 +20,25 @@ use Rattle.label_spec.specs.declared.Labelled.{Labelled}
 use Rattle.label_spec.specs.declared.Record.{Record}
 
 -- the refusal that an answer may be has such a number
-abbrev Ours : Refusal → Type 0
-Ours r = (19 ≤ r .number) × (r .number ≤ 24)
+abbrev Ours : ℕ → Type 0
+Ours c = (19 ≤ c) × (c ≤ 24)
 
 abbrev opens : Opened → Type 0
 opens (Opened.Title m e) = Unit
-opens (Opened.Refused r) = Ours r
+opens (Opened.Refused r) = Ours (r .number)
 
 abbrev walks : Walked → Type 0
 walks (Walked.Ended m e) = Unit
-walks (Walked.Refused r) = Ours r
+walks (Walked.Refused r) = Ours (r .number)
 
 abbrev labels : Labelled → Type 0
 labels (Labelled.Places m e x) = Unit
-labels (Labelled.Refused r) = Ours r
+labels (Labelled.Refused r) = Ours (r .number)
 
 abbrev records : Record → Type 0
 records (Record.Text a b) = Unit
 records Record.Absent = Unit
-records (Record.Refused r) = Ours r
+records (Record.Refused r) = Ours (r .number)
 
 -- 21
 titled-ours : (p : ℕ) (k : Walk) → opens (titled p k)

@@ -1,14 +1,16 @@
-// The functions that C calls (include/lastarunc.h). Each answers a number, 0 for acceptance, and the rest through pointers; every argument is answered.
-ghost use Rattle.host.specs.Answers.{TableTold, TextTold, FileTold, RecordTold};
+// The functions that C calls (include/lastarunc.h; 02, T-01). Each fills its answer, which is a struct of 64-bit numbers for C, and returns the first of them, `refused`: 0 for acceptance.
+// Every argument is answered, every number is set, and what is not given is 0.
+ghost use mathlib.Core.Path.{_≡_};
+ghost use Rattle.host.specs.Answers.{bits, TableTold, TextTold, FileTold, RecordTold};
 use file_spec::FileRead;
 use label_spec::Record;
 use terms::TableRead;
 use terms::TableWritten;
 
-// What is answered for a record that is absent (LASTARUNC_ABSENT in the header): no refusal has this number.
+// What is answered for a record that is absent, -1 for C (LASTARUNC_ABSENT in the header): no refusal has this number.
 const ABSENT: u64 = 18446744073709551615;
 
-// Reads a table: 0 and N in `place`, or the refusal number and its place.
+// Reads a table: refused, place, line, column, points.
 #[no_mangle]
 pub extern "C" fn lastarunc_read_table(
     first: i64,
@@ -16,23 +18,29 @@ pub extern "C" fn lastarunc_read_table(
     points: usize,
     body: &[u8],
     out: &mut [i32],
-    place: &mut u64,
+    answer: &mut [u64; 5],
 ) -> u64
-    ensures { λ r. ⌜ TableTold first last points (now (body .entry)) (now (out .entry)) (now (out .exit)) (now (place .exit)) r ⌝ }
+    ensures { λ r. ⌜ TableTold first last points (now (body .entry)) (now (out .entry)) (now (out .exit)) (now (answer .exit)) r ⌝ }
 {
     match table_read::read_table(first, last, points, body, out) {
         TableRead::Accepted(n) => {
-            *place = n as u64;
+            *answer = [0, 0, 0, 0, n as u64];
             0
         }
         TableRead::Refused(r) => {
-            *place = r.place as u64;
+            *answer = [
+                r.number,
+                r.place as u64,
+                r.line as u64,
+                r.column as u64,
+                0,
+            ];
             r.number
         }
     }
 }
 
-// Writes a table: 0 and the text's length, or the refusal number and 0.
+// Writes a table: refused, length.
 #[no_mangle]
 pub extern "C" fn lastarunc_write_table(
     first: i64,
@@ -40,79 +48,84 @@ pub extern "C" fn lastarunc_write_table(
     points: usize,
     ordinates: &[i32],
     text: &mut [u8],
-    length: &mut u64,
+    answer: &mut [u64; 2],
 ) -> u64
-    ensures { λ r. ⌜ TextTold first last points (now (ordinates .entry)) (now (text .entry)) (now (text .exit)) (now (length .exit)) r ⌝ }
+    ensures { λ r. ⌜ TextTold first last points (now (ordinates .entry)) (now (text .entry)) (now (text .exit)) (now (answer .exit)) r ⌝ }
 {
     match table_write::write_table(first, last, points, ordinates, text) {
         TableWritten::Length(n) => {
-            *length = n as u64;
+            *answer = [0, n as u64];
             0
         }
-        TableWritten::Refused(r) => {
-            *length = 0;
-            r.number
+        TableWritten::Refused(f) => {
+            *answer = [f.number, 0];
+            f.number
         }
     }
 }
 
-// Reads a file: 0, N, F and L, or the refusal number and its place; what is not given is 0.
+// A number with a sign, as C has it in 64 bits.
+fn bits_of(x: i64) -> u64
+    ensures { λ r. ⌜ r ≡ bits x ⌝ }
+{
+    if x < 0 {
+        let below = -1 - x;
+        return 18446744073709551615 - below as u64;
+    }
+    x as u64
+}
+
+// Reads a file: refused, place, line, column, points, first, last.
 #[no_mangle]
-pub extern "C" fn lastarunc_read_file(
-    file: &[u8],
-    out: &mut [i32],
-    place: &mut u64,
-    points: &mut u64,
-    first: &mut i64,
-    last: &mut i64,
-) -> u64
-    ensures { λ r. ⌜ FileTold (now (file .entry)) (now (out .entry)) (now (out .exit)) (now (place .exit)) (now (points .exit)) (now (first .exit)) (now (last .exit)) r ⌝ }
+pub extern "C" fn lastarunc_read_file(file: &[u8], out: &mut [i32], answer: &mut [u64; 7]) -> u64
+    ensures { λ r. ⌜ FileTold (now (file .entry)) (now (out .entry)) (now (out .exit)) (now (answer .exit)) r ⌝ }
 {
     match file::read_file(file, out) {
         FileRead::Accepted(t) => {
             let n = t.points;
-            let f = t.first;
-            let l = t.last;
-            *place = 0;
-            *points = n as u64;
-            *first = f;
-            *last = l;
+            let f = bits_of(t.first);
+            let l = bits_of(t.last);
+            *answer = [0, 0, 0, 0, n as u64, f, l];
             0
         }
         FileRead::Refused(r) => {
-            *place = r.place as u64;
-            *points = 0;
-            *first = 0;
-            *last = 0;
+            *answer = [
+                r.number,
+                r.place as u64,
+                r.line as u64,
+                r.column as u64,
+                0,
+                0,
+                0,
+            ];
             r.number
         }
     }
 }
 
-// Finds the text of a record: 0 and its places; ABSENT; or the refusal number of the labels, and its place in `from`. What is not given is 0.
+// Finds the text of a record: refused, place, line, column, from, to.
 #[no_mangle]
-pub extern "C" fn lastarunc_find_record(
-    file: &[u8],
-    name: &[u8],
-    from: &mut u64,
-    to: &mut u64,
-) -> u64
-    ensures { λ r. ⌜ RecordTold (now (file .entry)) (now (name .entry)) (now (from .exit)) (now (to .exit)) r ⌝ }
+pub extern "C" fn lastarunc_find_record(file: &[u8], name: &[u8], answer: &mut [u64; 6]) -> u64
+    ensures { λ r. ⌜ RecordTold (now (file .entry)) (now (name .entry)) (now (answer .exit)) r ⌝ }
 {
     match label::find(file, name) {
         Record::Text { from: a, to: b } => {
-            *from = a as u64;
-            *to = b as u64;
+            *answer = [0, 0, 0, 0, a as u64, b as u64];
             0
         }
         Record::Absent => {
-            *from = 0;
-            *to = 0;
+            *answer = [ABSENT, 0, 0, 0, 0, 0];
             ABSENT
         }
         Record::Refused(r) => {
-            *from = r.place as u64;
-            *to = 0;
+            *answer = [
+                r.number,
+                r.place as u64,
+                r.line as u64,
+                r.column as u64,
+                0,
+                0,
+            ];
             r.number
         }
     }

@@ -28,10 +28,11 @@ fn show_points(out: &[i32; 4096], n: usize) {
     }
 }
 
-// A refusal on standard output, and its meaning on standard error.
-fn refuse(r: Refusal) {
-    report::print_refusal(r);
-    report::explain(r);
+// A refusal on standard output; on standard error where it stands in the file, and what it means.
+fn refuse(file: &[u8], r: Refusal) {
+    report::print_refused(r.number, r.place);
+    report::end_line();
+    report::explain(file, r);
 }
 
 // The answer to a file.
@@ -39,7 +40,7 @@ fn answer(file: &[u8]) {
     let mut out = [0i32; 4096];
     match file::read_file(file, &mut out) {
         FileRead::Accepted(table) => show(table, &out),
-        FileRead::Refused(r) => refuse(r),
+        FileRead::Refused(r) => refuse(file, r),
     }
 }
 
@@ -47,7 +48,7 @@ fn main() {
     let mut file = [0u8; 49153];
     let n = io::read_full(0, &mut file);
     if n > 49152 {
-        refuse(Refusal::new(19, 0));
+        refuse(&file, text::refusal_in(&file, 19, 0));
     } else {
         answer(&file[..n]);
     }

@@ -3,9 +3,11 @@
 // answers. Lent memory is filled first; a line `touched` tells that an entry past the answer was altered.
 use file_spec::FileRead;
 use file_spec::FileTable;
+use terms::Fault;
 use terms::Refusal;
 use terms::TableRead;
 use terms::TableWritten;
+use text::refusal_in;
 
 // Room for the ordinates of a table or a file that is read.
 const READ: usize = 4096;
@@ -155,6 +157,16 @@ fn show_text(a: Asked, ys: &[i32], text: &[u8], n: usize) {
     report::end_line();
 }
 
+// A refusal of a reader: number, place, line and column.
+fn show_refusal(r: Refusal) {
+    report::print_refused(r.number, r.place);
+    io::write_all(1, b" ");
+    io::print_decimal(1, r.line as u64);
+    io::write_all(1, b" ");
+    io::print_decimal(1, r.column as u64);
+    report::end_line();
+}
+
 // The answer to a body: `ok`, the points and the ordinates, or the refusal.
 fn show_read(answer: TableRead, out: &[i32; READ]) {
     match answer {
@@ -165,7 +177,7 @@ fn show_read(answer: TableRead, out: &[i32; READ]) {
             show_touched(out, n);
         }
         TableRead::Refused(r) => {
-            report::print_refusal(r);
+            show_refusal(r);
             show_touched(out, 0);
         }
     }
@@ -180,8 +192,9 @@ fn show_written(a: Asked, answer: TableWritten, ys: &[i32], text: &[u8]) {
             show_text(a, ys, text, n);
             show_touched_text(text, n);
         }
-        TableWritten::Refused(r) => {
-            report::print_refusal(r);
+        TableWritten::Refused(f) => {
+            report::print_refused(f.number, f.place);
+            report::end_line();
             show_touched_text(text, 0);
         }
     }
@@ -204,7 +217,7 @@ fn show_file(answer: FileRead, out: &[i32; READ]) {
     match answer {
         FileRead::Accepted(table) => show_table(table, out),
         FileRead::Refused(r) => {
-            report::print_refusal(r);
+            show_refusal(r);
             show_touched(out, 0);
         }
     }
@@ -248,7 +261,7 @@ fn read_table(a: Asked, body: &[u8], out: &mut [i32]) -> TableRead {
             );
         }
     }
-    TableRead::Refused(Refusal::new(0, 0))
+    TableRead::Refused(refusal_in(body, 0, 0))
 }
 
 // Writes the table, or refusal 0 if this program has too little room.
@@ -266,7 +279,7 @@ fn write_table(a: Asked, ys: &[i32], text: &mut [u8]) -> TableWritten {
             );
         }
     }
-    TableWritten::Refused(Refusal::new(0, 0))
+    TableWritten::Refused(Fault::new(0, 0))
 }
 
 // Reads the file, or refusal 0 if this program has too little room.
@@ -278,7 +291,7 @@ fn read_file(a: Asked, file: &[u8], out: &mut [i32]) -> FileRead {
             return file::read_file(&file[0..count], &mut out[0..room]);
         }
     }
-    FileRead::Refused(Refusal::new(0, 0))
+    FileRead::Refused(refusal_in(file, 0, 0))
 }
 
 // A body to read: its bytes follow.

@@ -32,13 +32,12 @@ pub fn print_abscissa(x: i64) {
     print_scaled(u, 10000000000);
 }
 
-// A refusal: its number and its place.
-pub fn print_refusal(r: Refusal) {
+// `refused`, a number and a place, as document 01 has it.
+pub fn print_refused(number: u64, place: usize) {
     io::write_all(1, b"refused ");
-    io::print_decimal(1, r.number);
+    io::print_decimal(1, number);
     io::write_all(1, b" ");
-    io::print_decimal(1, r.place as u64);
-    end_line();
+    io::print_decimal(1, place as u64);
 }
 
 // What a refusal of a table means, in words, on standard error.
@@ -83,11 +82,102 @@ fn say(words: &[u8]) {
     io::write_all(2, b"\n");
 }
 
-// What a refusal means, for a person; standard output stays as document 01 has it.
-pub fn explain(r: Refusal) {
-    if r.number < 19 {
-        explain_table(r.number);
+// What a refusal's number means, on standard error.
+fn explain_number(number: u64) {
+    if number < 19 {
+        explain_table(number);
     } else {
-        explain_file(r.number);
+        explain_file(number);
+    }
+}
+
+// A byte as it is shown: what is not printed in ASCII is a point.
+fn shown(b: u8) -> u8 {
+    if b < 32 {
+        return b'.';
+    }
+    if b > 126 {
+        return b'.';
+    }
+    b
+}
+
+// Does a line end here: LF, CR LF, or the text?
+fn is_line_end(text: &[u8], i: usize) -> bool {
+    if i >= text.len() {
+        return true;
+    }
+    let b = text[i];
+    if b == b'\n' {
+        return true;
+    }
+    if b != b'\r' {
+        return false;
+    }
+    let next = i + 1;
+    if next >= text.len() {
+        return false;
+    }
+    text[next] == b'\n'
+}
+
+// A byte on standard error.
+fn show_byte(b: u8) {
+    let one = [b];
+    io::write_all(2, &one);
+}
+
+// The rest of a line from a place on, as much as fits 80 columns.
+fn show_line(text: &[u8], from: usize) {
+    let mut i = from;
+    let mut left = 80u64;
+    while left > 0 {
+        if is_line_end(text, i) {
+            left = 0;
+        } else {
+            if i < text.len() {
+                show_byte(shown(text[i]));
+                i += 1;
+            }
+            left -= 1;
+        }
+    }
+    say(b"");
+}
+
+// A caret after so many blanks.
+fn show_caret(blanks: usize) {
+    let mut left = blanks;
+    while left > 0 {
+        show_byte(b' ');
+        left -= 1;
+    }
+    say(b"^");
+}
+
+// How many bytes before a fault are shown: those of its line, but at most 79.
+fn shown_before(r: Refusal) -> usize {
+    if r.column > 80 {
+        return 79;
+    }
+    if r.column < 1 {
+        return 0;
+    }
+    r.column - 1
+}
+
+// Where a refusal stands in the text and what it means, for a person (02, T-01): line and column, the line itself and a caret. Standard output stays as document 01 has it.
+pub fn explain(text: &[u8], r: Refusal) {
+    io::write_all(2, b"line ");
+    io::print_decimal(2, r.line as u64);
+    io::write_all(2, b", column ");
+    io::print_decimal(2, r.column as u64);
+    io::write_all(2, b": ");
+    explain_number(r.number);
+    let before = shown_before(r);
+    let place = r.place;
+    if before <= place {
+        show_line(text, place - before);
+        show_caret(before);
     }
 }

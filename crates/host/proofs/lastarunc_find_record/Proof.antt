@@ -1,6 +1,6 @@
--- `host::lastarunc_find_record` meets its contract: finds the text of a record.
-use mathlib.Core.Path.{sym, ap, _∙_}
-use Rattle.host.specs.Answers.{recordNumber, recordFrom, recordTo}
+-- `host::lastarunc_find_record` meets its contract: the answer has the numbers of what `find` says.
+use mathlib.Core.Path.{refl, sym, _∙_}
+use Rattle.host.proofs.Tellings.{told-record}
 use borrow.Author.Needs.{needs}
 use Rattle.host.proofs.lastarunc_find_record.Statement.{statement}
 use Rattle.host.proofs.lastarunc_find_record.Tie as tie
@@ -18,19 +18,13 @@ enum-known-r : tie.Need-enum-known-r
 enum-known-r c = search needs
 
 returns : tie.Need-returns
-returns c =
-    let e = sym (c .before .a .given .1) ∙ c .before .before .before .find .ensures .0 in
-    record { number = ap recordNumber e; second = ap recordFrom e; third = ap recordTo e }
+returns c = told-record (sym (c .before .before .a .given .1) ∙ c .before .before .before .before .find .ensures .0) refl refl
 
 returns-2 : tie.Need-returns-2
-returns-2 c =
-    let e = sym (c .enum-told .given .1) ∙ c .before .before .find .ensures .0 in
-    record { number = ap recordNumber e; second = ap recordFrom e; third = ap recordTo e }
+returns-2 c = told-record (sym (c .before .enum-told .given .1) ∙ c .before .before .before .find .ensures .0) refl refl
 
 returns-3 : tie.Need-returns-3
-returns-3 c =
-    let e = sym (c .before .r .given .1) ∙ c .before .before .before .find .ensures .0 in
-    record { number = ap recordNumber e; second = ap recordFrom e; third = ap recordTo e }
+returns-3 c = told-record (sym (c .before .before .r .given .1) ∙ c .before .before .before .before .find .ensures .0) refl refl
 
 pub lastarunc-find-record-spec : {M : Type 1} → statement M
 lastarunc-find-record-spec =

@@ -1,4 +1,4 @@
--- `host::lastarunc_read_table` meets its contract: reads a table.
+-- `host::lastarunc_read_table` meets its contract: the answer has the numbers of what `read_table` says.
 use mir.Facts.{toZ-ofZ}
 use Rattle.host.proofs.Tellings.{told-accepted, told-refused}
 use borrow.Author.Needs.{needs}
@@ -19,16 +19,16 @@ same-length c = search needs
 
 returns : tie.Need-returns
 returns c =
-    let S = c .before .before .before .before .before .before .before in
-    told-accepted (rw (toZ-ofZ (S .fits .first), toZ-ofZ (S .fits .last), c .before .n .given .1) at (c .before .before .before .before .read-table .ensures))
+    let S = c .before .before .before .before .before .before .before .before in
+    told-accepted (rw (toZ-ofZ (S .fits .first), toZ-ofZ (S .fits .last), c .before .before .n .given .1) at (c .before .before .before .before .before .read-table .ensures))
 
 same-length-2 : tie.Need-same-length-2
 same-length-2 c = search needs
 
 returns-2 : tie.Need-returns-2
 returns-2 c =
-    let S = c .before .before .before .before .before .before .before in
-    told-refused (rw (toZ-ofZ (S .fits .first), toZ-ofZ (S .fits .last), c .before .r .given .1) at (c .before .before .before .before .read-table .ensures))
+    let S = c .before .before .before .before .before .before .before .before in
+    told-refused (rw (toZ-ofZ (S .fits .first), toZ-ofZ (S .fits .last), c .before .before .r .given .1) at (c .before .before .before .before .before .read-table .ensures))
 
 pub lastarunc-read-table-spec : {M : Type 1} → statement M
 lastarunc-read-table-spec =

@@ -1,4 +1,4 @@
--- `host::lastarunc_write_table` meets its contract: writes a table.
+-- `host::lastarunc_write_table` meets its contract: the answer has the numbers of what `write_table` says.
 use mir.Facts.{toZ-ofZ}
 use Rattle.host.proofs.Tellings.{told-wrote, told-declined}
 use borrow.Author.Needs.{needs}
@@ -11,16 +11,16 @@ write-table-requires c κs = search needs
 enum-known-n : tie.Need-enum-known-n
 enum-known-n c = search needs
 
-enum-known-r : tie.Need-enum-known-r
-enum-known-r c = search needs
+enum-known-f : tie.Need-enum-known-f
+enum-known-f c = search needs
 
 same-length : tie.Need-same-length
 same-length c = search needs
 
 returns : tie.Need-returns
 returns c =
-    let S = c .before .before .before .before .before .before .before .before in
-    let g = rw (toZ-ofZ (S .fits .first), toZ-ofZ (S .fits .last), c .before .n .given .1) at (c .before .before .before .before .before .write-table .ensures) in
+    let S = c .before .before .before .before .before .before .before .before .before in
+    let g = rw (toZ-ofZ (S .fits .first), toZ-ofZ (S .fits .last), c .before .before .n .given .1) at (c .before .before .before .before .before .before .write-table .ensures) in
     told-wrote (g .answer) (g .bytes)
 
 same-length-2 : tie.Need-same-length-2
@@ -28,8 +28,8 @@ same-length-2 c = search needs
 
 returns-2 : tie.Need-returns-2
 returns-2 c =
-    let S = c .before .before .before .before .before .before .before .before in
-    let g = rw (toZ-ofZ (S .fits .first), toZ-ofZ (S .fits .last), c .before .r .given .1) at (c .before .before .before .before .before .write-table .ensures) in
+    let S = c .before .before .before .before .before .before .before .before .before in
+    let g = rw (toZ-ofZ (S .fits .first), toZ-ofZ (S .fits .last), c .before .before .f .given .1) at (c .before .before .before .before .before .before .write-table .ensures) in
     told-declined (g .answer) (g .bytes)
 
 pub lastarunc-write-table-spec : {M : Type 1} → statement M
@@ -38,7 +38,7 @@ lastarunc-write-table-spec =
     (tie.spec
     write-table-requires
     enum-known-n
-    enum-known-r
+    enum-known-f
     same-length
     returns
     same-length-2
