@@ -28,13 +28,7 @@ pub extern "C" fn lastarunc_read_table(
             0
         }
         TableRead::Refused(r) => {
-            *answer = [
-                r.number,
-                r.place as u64,
-                r.line as u64,
-                r.column as u64,
-                0,
-            ];
+            *answer = [r.number, r.place as u64, r.line as u64, r.column as u64, 0];
             r.number
         }
     }

@@ -1,6 +1,6 @@
 // What the readers share: a text is lent bytes, and past its end nothing stands (01, "The file"); and the line and column of a place in it (02, T-01).
 ghost use mathlib.Core.Path.{_≡_};
-ghost use Prim.Native.Nat.{ℕ, suc, _<_};
+ghost use Prim.Native.Nat.{suc, _<_};
 ghost use lib.Dec.{eqb};
 ghost use lib.ListN.{length, getD};
 ghost use Rattle.terms.specs.Logic.{pick};
@@ -28,12 +28,19 @@ fn end_for(s: &[u8], place: usize) -> usize
     s.len()
 }
 
+// Does a byte end a line? Only LF does.
+fn ends_line(b: u8) -> bool
+    ensures { λ r. ⌜ r ≡ eqb b 10 ⌝ }
+{
+    b == b'\n'
+}
+
 // The line of the place after a byte.
 fn next_line(line: usize, b: u8) -> usize
     requires { ⌜ line < 18446744073709551615 ⌝ }
     ensures { λ r. ⌜ r ≡ pick (eqb b 10) (suc line) line ⌝ }
 {
-    if b == 10 {
+    if ends_line(b) {
         return line + 1;
     }
     line
@@ -44,7 +51,7 @@ fn next_column(column: usize, b: u8) -> usize
     requires { ⌜ column < 18446744073709551615 ⌝ }
     ensures { λ r. ⌜ r ≡ pick (eqb b 10) 1 (suc column) ⌝ }
 {
-    if b == 10 {
+    if ends_line(b) {
         return 1;
     }
     column + 1

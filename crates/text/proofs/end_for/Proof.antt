@@ -1,4 +1,4 @@
--- The place where counting stops is the place, or the end where that comes first.
+-- `text::end_for` meets its contract: the place where counting stops is the place, or the end where that comes first.
 use mathlib.Core.Path.{refl}
 use borrow.Author.Tests.{lt-ltb, le-ltb}
 use Rattle.text.proofs.end_for.Statement.{statement}

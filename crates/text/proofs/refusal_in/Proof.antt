@@ -1,4 +1,4 @@
--- The line and the column that were counted are those of the place.
+-- `text::refusal_in` meets its contract: the line and the column that were counted are those of the place.
 use Prim.Native.Nat.{_-_}
 use native.Mathlib.Omega.{arith}
 use borrow.Author.Needs.{needs}
