@@ -1,3 +1,4 @@
+-- `table_read::check_table` meets its contract: 1, 2, and then what the body says.
 use mathlib.Core.Path.{sym, ap, _∙_}
 use borrow.Author.Needs.{needs}
 use mir.Facts.{toZ-ofZ}
@@ -6,17 +7,12 @@ use Rattle.table_read.specs.Answers.{toldFirst}
 use Rattle.table_read.proofs.AnswerLaws.{body-long, frame-outside, no-room, body-read}
 use Rattle.table_read.proofs.check_table.Statement.{statement}
 use Rattle.table_read.proofs.check_table.Tie as tie
-use Rattle.table_read.proofs.check_table.Reads as reads
-use Rattle.table_read.proofs.check_table.Lts as lts
-use Rattle.frame.proofs.Frame.new.Reads as Frame-new-reads
-use Rattle.table_read.proofs.check_body.Reads as check-body-reads
-use Rattle.terms.proofs.Refusal.new.Reads as Refusal-new-reads
 
 new-requires : tie.Need-new-requires
 new-requires c κs = search needs
 
 returns : tie.Need-returns
-returns c = let S = c .before .before .before in rw (c .new .ensures) (sym (ap toldFirst (body-long _ _ _ _ _ (c .before .if1 .taken))))
+returns c = rw (c .new .ensures) (sym (ap toldFirst (body-long _ _ _ _ _ (c .before .if1 .taken))))
 
 new-requires-2 : tie.Need-new-requires-2
 new-requires-2 c κs = search needs
@@ -35,26 +31,26 @@ new-requires-4 c κs = search needs
 
 returns-2 : tie.Need-returns-2
 returns-2 c =
-    let S = c .before .before .before .before .before .before .before .before in
-    let z = rw (toZ-ofZ (S .fits .first), toZ-ofZ (S .fits .last)) at (sym (c .before .before .before .before .before .new2 .ensures) ∙ c .before .before .before .fr .given .1) in
-    rw (c .new4 .ensures) (sym (ap toldFirst (no-room _ _ _ _ _ (c .before .before .before .before .before .before .if1 .left) (framed-legal _ _ _ z) (c .before .if2 .taken))))
+    let full = c .before in let legal = full .before .before in let framed = legal .before .before in let short = framed .before in let S = short .before .before in
+    let z = rw (toZ-ofZ (S .fits .first), toZ-ofZ (S .fits .last)) at (sym (framed .new2 .ensures) ∙ legal .fr .given .1) in
+    rw (c .new4 .ensures) (sym (ap toldFirst (no-room _ _ _ _ _ (short .if1 .left) (framed-legal _ _ _ z) (full .if2 .taken))))
 
 check-body-requires : tie.Need-check-body-requires
 check-body-requires c κs =
-    let S = c .before .before .before .before .before .before .before in
-    let z = rw (toZ-ofZ (S .fits .first), toZ-ofZ (S .fits .last)) at (sym (c .before .before .before .before .new2 .ensures) ∙ c .before .before .fr .given .1) in framed-legal _ _ _ z .sound
+    let legal = c .before .before in let framed = legal .before .before in let S = framed .before .before .before in
+    let z = rw (toZ-ofZ (S .fits .first), toZ-ofZ (S .fits .last)) at (sym (framed .new2 .ensures) ∙ legal .fr .given .1) in framed-legal _ _ _ z .sound
 
 returns-3 : tie.Need-returns-3
 returns-3 c =
-    let S = c .before .before .before .before .before .before in
-    let z = rw (toZ-ofZ (S .fits .first), toZ-ofZ (S .fits .last)) at (sym (c .before .before .before .new2 .ensures) ∙ c .before .enum-told .given .1) in
+    let told = c .before in let framed = told .before .before in let S = framed .before .before .before in
+    let z = rw (toZ-ofZ (S .fits .first), toZ-ofZ (S .fits .last)) at (sym (framed .new2 .ensures) ∙ told .enum-told .given .1) in
     rw (c .new3 .ensures) (sym (ap toldFirst (frame-outside _ _ _ _ _ (framed-outside _ _ _ z))))
 
 returns-4 : tie.Need-returns-4
 returns-4 c =
-    let S = c .before .before .before .before .before .before .before .before in
-    let z = rw (toZ-ofZ (S .fits .first), toZ-ofZ (S .fits .last)) at (sym (c .before .before .before .before .before .new2 .ensures) ∙ c .before .before .before .fr .given .1) in
-    c .check-body .ensures ∙ sym (ap toldFirst (body-read _ _ _ _ _ (c .before .before .before .before .before .before .if1 .left) (framed-legal _ _ _ z) (c .before .if2 .left)))
+    let room = c .before in let legal = room .before .before in let framed = legal .before .before in let short = framed .before in let S = short .before .before in
+    let z = rw (toZ-ofZ (S .fits .first), toZ-ofZ (S .fits .last)) at (sym (framed .new2 .ensures) ∙ legal .fr .given .1) in
+    c .check-body .ensures ∙ sym (ap toldFirst (body-read _ _ _ _ _ (short .if1 .left) (framed-legal _ _ _ z) (room .if2 .left)))
 
 pub check-table-spec : {M : Type 1} → statement M
 check-table-spec =

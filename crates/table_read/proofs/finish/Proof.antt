@@ -1,9 +1,8 @@
+-- `table_read::finish` meets its contract: 12 before 13.
 use mathlib.Core.Path.{refl}
 use borrow.Author.Tests.{lt-ltb, le-ltb}
 use Rattle.table_read.proofs.finish.Statement.{statement}
 use Rattle.table_read.proofs.finish.Tie as tie
-use Rattle.table_read.proofs.finish.Reads as reads
-use Rattle.table_read.proofs.finish.Lts as lts
 
 returns : tie.Need-returns
 returns c = let a = c .before .args in rw (lt-ltb (a .k) (a .points) (c .if1 .taken)) refl

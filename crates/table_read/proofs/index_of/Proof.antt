@@ -1,10 +1,9 @@
+-- `table_read::index_of` meets its contract: on a check line the point before, and the first has none.
 use mathlib.Core.Path.{refl}
 use borrow.Author.Tests.{not-true, not-false}
 use borrow.Author.Needs.{needs}
 use Rattle.table_read.proofs.index_of.Statement.{statement}
 use Rattle.table_read.proofs.index_of.Tie as tie
-use Rattle.table_read.proofs.index_of.Reads as reads
-use Rattle.table_read.proofs.index_of.Lts as lts
 
 returns : tie.Need-returns
 returns c = rw (not-true (c .before .args .dif) (c .if1 .taken)) refl

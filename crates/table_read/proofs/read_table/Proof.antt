@@ -1,3 +1,4 @@
+-- `table_read::read_table` meets its contract: the check answers, and what is accepted is stored.
 use mathlib.Core.Path.{sym, _∙_}
 use lib.ListN.{length}
 use borrow.Author.Needs.{needs}
@@ -6,10 +7,6 @@ use Rattle.table_spec.specs.Reading.{readTable}
 use Rattle.table_read.proofs.AnswerLaws.{read-refused, first-accepts, read-accepted}
 use Rattle.table_read.proofs.read_table.Statement.{statement}
 use Rattle.table_read.proofs.read_table.Tie as tie
-use Rattle.table_read.proofs.read_table.Reads as reads
-use Rattle.table_read.proofs.read_table.Lts as lts
-use Rattle.table_read.proofs.check_table.Reads as check-table-reads
-use Rattle.table_read.proofs.store_table.Reads as store-table-reads
 
 check-table-requires : tie.Need-check-table-requires
 check-table-requires c κs = search needs
@@ -22,22 +19,22 @@ enum-told c = search needs
 
 store-table-requires : tie.Need-store-table-requires
 store-table-requires c κs =
-    let S = c .before .before .before .before .before in let a = S .args in
-    let z = rw (toZ-ofZ (S .fits .first), toZ-ofZ (S .fits .last)) at (sym (c .before .enum-told .given .1) ∙ c .before .before .before .check-table .ensures) in
+    let told = c .before in let t = told .before .before in let S = t .before .before in let a = S .args in
+    let z = rw (toZ-ofZ (S .fits .first), toZ-ofZ (S .fits .last)) at (sym (told .enum-told .given .1) ∙ t .check-table .ensures) in
     rw (toZ-ofZ (S .fits .first), toZ-ofZ (S .fits .last)) (first-accepts (readTable (a .first) (a .last) (a .points) (a .body .now) (length (a .out .now))) z)
 
 returns : tie.Need-returns
 returns c =
-    let S = c .before .before .before .before .before in
-    let z = rw (toZ-ofZ (S .fits .first), toZ-ofZ (S .fits .last)) at (sym (c .before .r .given .1) ∙ c .before .before .before .check-table .ensures) in read-refused z
+    let told = c .before in let t = told .before .before in let S = t .before .before in
+    let z = rw (toZ-ofZ (S .fits .first), toZ-ofZ (S .fits .last)) at (sym (told .r .given .1) ∙ t .check-table .ensures) in read-refused z
 
 same-length : tie.Need-same-length
 same-length c = search needs
 
 returns-2 : tie.Need-returns-2
 returns-2 c =
-    let S = c .before .before .before .before .before .before .before in let a = S .args in
-    let z = rw (toZ-ofZ (S .fits .first), toZ-ofZ (S .fits .last)) at (sym (c .before .before .before .enum-told .given .1) ∙ c .before .before .before .before .before .check-table .ensures) in
+    let told = c .before .before .before in let t = told .before .before in let S = t .before .before in let a = S .args in
+    let z = rw (toZ-ofZ (S .fits .first), toZ-ofZ (S .fits .last)) at (sym (told .enum-told .given .1) ∙ t .check-table .ensures) in
     read-accepted (first-accepts (readTable (a .first) (a .last) (a .points) (a .body .now) (length (a .out .now))) z)
     (rw (toZ-ofZ (S .fits .first), toZ-ofZ (S .fits .last)) at (c .before .store-table .ensures))
 

@@ -1,12 +1,10 @@
+-- `table_read::store_body` meets its contract: the pass stores what an accepted body says.
 use mathlib.Core.Path.{refl}
 use borrow.Author.Needs.{needs}
 use Rattle.alphabet_spec.specs.Entries.{table}
 use Rattle.table_read.proofs.AnswerLaws.{stored-all}
 use Rattle.table_read.proofs.store_body.Statement.{statement}
 use Rattle.table_read.proofs.store_body.Tie as tie
-use Rattle.table_read.proofs.store_body.Reads as reads
-use Rattle.table_read.proofs.store_body.Lts as lts
-use Rattle.table_read.proofs.pass.Reads as pass-reads
 
 pass-requires : tie.Need-pass-requires
 unfolding table

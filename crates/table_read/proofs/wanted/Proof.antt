@@ -1,8 +1,7 @@
+-- `table_read::wanted` meets its contract: one case a form.
 use mathlib.Core.Path.{refl}
 use Rattle.table_read.proofs.wanted.Statement.{statement}
 use Rattle.table_read.proofs.wanted.Tie as tie
-use Rattle.table_read.proofs.wanted.Reads as reads
-use Rattle.table_read.proofs.wanted.Lts as lts
 
 returns : tie.Need-returns
 returns c = rw (c .if1 .taken) refl
