@@ -37,8 +37,9 @@ exceeds d e n = rw (e, lt-ltb 0 (d .mantissa) (omega (arith, n))) refl
 pub rounded-in : (limit : ℕ) (minus : Bool) (a b : ℕ) → limit ≤ largest-abscissa → roundedIn (roundedOf limit minus a b)
 unfolding roundedOf
 rounded-in limit minus a b l =
-    by-case (λ t. leb (nearest minus a b) limit ≡ t → roundedIn (pick t (Rounded.Whole (pick minus (ltb 0 (nearest minus a b)) false) (nearest minus a b)) Rounded.Beyond)) (leb (nearest minus a b) limit)
-    (λ _ e. let x = leb-true (nearest minus a b) limit e in omega arith) (λ _ e. tt) refl
+    let q = nearest minus a b in
+    by-case (λ t. leb q limit ≡ t → roundedIn (pick t (Rounded.Whole (pick minus (ltb 0 q) false) q) Rounded.Beyond)) (leb q limit)
+    (λ _ e. let x = leb-true q limit e in omega arith) (λ _ e. tt) refl
 
 -- a size with its sign, in 64 bits
 pub wide : (u : ℕ) → u ≤ largest-abscissa → toZ w64 u ≡ pos u

@@ -12,6 +12,7 @@ pub record Small (d : Decimal) : Type 0 where
   pub mantissa : d .mantissa < bound
   pub power : d .power < 300
 
+-- where the text is a number
 abbrev pub givenIn : Given → Type 0
 givenIn (given.Is d) = Small d
 givenIn given.Misspelled = Unit
@@ -21,10 +22,12 @@ pub record Factor (d : Decimal) : Type 0 where
   pub small : Small d
   pub some : 0 < d .mantissa
 
+-- where it is a factor
 abbrev pub factorIn : Given → Type 0
 factorIn (given.Is d) = Factor d
 factorIn given.Misspelled = Unit
 
+-- a quotient that is not beyond the largest abscissa
 abbrev pub roundedIn : Rounded → Type 0
 roundedIn (Rounded.Whole m q) = q ≤ largest-abscissa
 roundedIn Rounded.Beyond = Unit

@@ -9,7 +9,6 @@ ghost use Rattle.file_spec.specs.File.{inFile, byTable, byAbscissas, byFigures,
 ghost use Rattle.file_spec.specs.declared.FileStaged.{FileStaged};
 ghost use Rattle.file_records.specs.Bounds.{AllWithin, AllSmall};
 ghost use Rattle.file.specs.Answers.{StageSays, FileSays};
-use alphabet::TABLE;
 use decimal_spec::Rounded;
 use figure::agree;
 use figure::ratio_of;
@@ -118,8 +117,7 @@ fn read_records(file: &[u8], out: &mut [i32], x: Needed) -> FileStaged
     requires { ⌜ AllWithin (length (now file)) x × (length (now file) ≤ longestFile) ⌝ }
     ensures { λ r. ⌜ StageSays (byFigures (now (file .entry)) (length (now (out .entry))) x (figuresOf (now (file .entry)) x)) (now (out .entry)) (now (out .exit)) r ⌝ }
 {
-    let t = TABLE;
-    match figures(&t, file, x) {
+    match figures(file, x) {
         Figures::Wrong(a) => refused(26, a),
         Figures::All(n) => {
             let s = x.xydata;

@@ -10,6 +10,7 @@ use Rattle.file_spec.specs.declared.Numbers.{Numbers}
 use Rattle.file_spec.specs.declared.Figures.{Figures}
 use Rattle.file_spec.specs.declared.Figures.the-variants as figures
 
+-- each of the seven texts lies in the file
 pub record AllWithin (len : ℕ) (t : Needed) : Type 0 where
   pub xfactor : Within len (t .xfactor)
   pub yfactor : Within len (t .yfactor)
@@ -19,10 +20,12 @@ pub record AllWithin (len : ℕ) (t : Needed) : Type 0 where
   pub firsty : Within len (t .firsty)
   pub xydata : Within len (t .xydata)
 
+-- where none is lacking
 abbrev pub gatheredIn : ℕ → Gathered → Type 0
 gatheredIn len (gathered.All t) = AllWithin len t
 gatheredIn len gathered.Lacking = Unit
 
+-- each of the six numbers as it can be spelled
 pub record AllSmall (n : Numbers) : Type 0 where
   pub xfactor : Factor (n .xfactor)
   pub yfactor : Factor (n .yfactor)
@@ -31,6 +34,7 @@ pub record AllSmall (n : Numbers) : Type 0 where
   pub npoints : n .npoints < bound
   pub firsty : Small (n .firsty)
 
+-- where none is wrong
 abbrev pub figuresIn : Figures → Type 0
 figuresIn (figures.All n) = AllSmall n
 figuresIn (figures.Wrong a) = Unit

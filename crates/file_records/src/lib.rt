@@ -1,12 +1,17 @@
 // The seven records of a file (01, "The file"): their texts among the labels, and the numbers of the six before the table.
 ghost use mathlib.Core.Path.{_≡_};
-ghost use Prim.Native.Nat.{_≤_};
+ghost use Prim.Native.Nat.{_≤_, _<_};
 ghost use lib.ListN.{length};
 ghost use Rattle.alphabet_spec.specs.Entries.{table};
-ghost use Rattle.file_spec.specs.Texts.{gatheredFrom};
+ghost use Rattle.file_spec.specs.Texts.{text-of, gatheredFrom};
+ghost use Rattle.label.specs.Answers.{foundIn};
 ghost use Rattle.file_spec.specs.Figures.{figuresOf};
+ghost use Rattle.figure.specs.Bounds.{Small, Factor};
+ghost use Rattle.file_records.specs.Order.{nameAt, neededOf, fromFirstx, fromNpoints};
 ghost use Rattle.file_records.specs.Bounds.{AllWithin, gatheredIn, figuresIn};
+use alphabet::TABLE;
 use decimal_spec::Count;
+use file_spec::Decimal;
 use file_spec::Figures;
 use file_spec::Gathered;
 use file_spec::Given;
@@ -20,75 +25,123 @@ use file_texts::mark_in;
 use label::find_record;
 use label_spec::Found;
 
-// The seven records that a table needs, among the labels from a place on and before END's (25).
+// The text of one of the seven records that a table needs, counted in the order that 25 lists.
+fn record_at(file: &[u8], start: usize, stop: usize, k: usize) -> Found
+    requires { ⌜ (start ≤ length (now file)) × (k < 7) ⌝ }
+    ensures { λ r. ⌜ (r ≡ text-of (now (file .entry)) start stop (nameAt k)) × foundIn start (length (now (file .entry))) r ⌝ }
+{
+    match k {
+        0 => find_record(file, start, stop, b"XFACTOR"),
+        1 => find_record(file, start, stop, b"YFACTOR"),
+        2 => find_record(file, start, stop, b"FIRSTX"),
+        3 => find_record(file, start, stop, b"LASTX"),
+        4 => find_record(file, start, stop, b"NPOINTS"),
+        5 => find_record(file, start, stop, b"FIRSTY"),
+        _ => find_record(file, start, stop, b"XYDATA"),
+    }
+}
+
+// The seven texts, each under the name of its record.
+fn needed(texts: [Span; 7]) -> Needed
+    ensures { λ r. ⌜ r ≡ neededOf texts ⌝ }
+{
+    Needed {
+        xfactor: texts[0],
+        yfactor: texts[1],
+        firstx: texts[2],
+        lastx: texts[3],
+        npoints: texts[4],
+        firsty: texts[5],
+        xydata: texts[6],
+    }
+}
+
+// The seven records, among the labels from a place on and before END's (25).
 pub fn gather(file: &[u8], start: usize, stop: usize) -> Gathered
     requires { ⌜ start ≤ length (now file) ⌝ }
     ensures { λ r. ⌜ (r ≡ gatheredFrom (now (file .entry)) start stop) × gatheredIn (length (now (file .entry))) r ⌝ }
 {
-    let Found::Text { from: a0, to: b0 } = find_record(file, start, stop, b"XFACTOR") else {
-        return Gathered::Lacking;
-    };
-    let Found::Text { from: a1, to: b1 } = find_record(file, start, stop, b"YFACTOR") else {
-        return Gathered::Lacking;
-    };
-    let Found::Text { from: a2, to: b2 } = find_record(file, start, stop, b"FIRSTX") else {
-        return Gathered::Lacking;
-    };
-    let Found::Text { from: a3, to: b3 } = find_record(file, start, stop, b"LASTX") else {
-        return Gathered::Lacking;
-    };
-    let Found::Text { from: a4, to: b4 } = find_record(file, start, stop, b"NPOINTS") else {
-        return Gathered::Lacking;
-    };
-    let Found::Text { from: a5, to: b5 } = find_record(file, start, stop, b"FIRSTY") else {
-        return Gathered::Lacking;
-    };
-    let Found::Text { from: a6, to: b6 } = find_record(file, start, stop, b"XYDATA") else {
-        return Gathered::Lacking;
-    };
-    Gathered::All(Needed {
-        xfactor: Span { from: a0, to: b0 },
-        yfactor: Span { from: a1, to: b1 },
-        firstx: Span { from: a2, to: b2 },
-        lastx: Span { from: a3, to: b3 },
-        npoints: Span { from: a4, to: b4 },
-        firsty: Span { from: a5, to: b5 },
-        xydata: Span { from: a6, to: b6 },
-    })
+    let mut texts = [Span { from: 0, to: 0 }; 7];
+    for k in 0..7 {
+        let Found::Text { from, to } = record_at(file, start, stop, k) else {
+            return Gathered::Lacking;
+        };
+        texts[k] = Span { from, to };
+    }
+    Gathered::All(needed(texts))
 }
 
-// The numbers of the six records before the table, or the place of the first that is wrong (26).
-pub fn figures(t: &[u8; 256], file: &[u8], x: Needed) -> Figures
+// The numbers of the six records before the table, or the place of the first that is wrong (26). The table of entries is made once and lent.
+pub fn figures(file: &[u8], x: Needed) -> Figures
+    requires { ⌜ AllWithin (length (now file)) x ⌝ }
+    ensures { λ r. ⌜ (r ≡ figuresOf (now (file .entry)) x) × figuresIn r ⌝ }
+{
+    let t = TABLE;
+    figures_from_xfactor(&t, file, x)
+}
+
+// XFACTOR and YFACTOR, and then the rest.
+fn figures_from_xfactor(t: &[u8; 256], file: &[u8], x: Needed) -> Figures
     requires { ⌜ (now t ≡ table) × AllWithin (length (now file)) x ⌝ }
     ensures { λ r. ⌜ (r ≡ figuresOf (now (file .entry)) x) × figuresIn r ⌝ }
 {
-    let s0 = x.xfactor;
-    let Given::Is(xfactor) = factor_in(t, file, s0) else {
-        return Figures::Wrong(mark_in(file, s0));
+    let one = x.xfactor;
+    let Given::Is(xfactor) = factor_in(t, file, one) else {
+        return Figures::Wrong(mark_in(file, one));
     };
-    let s1 = x.yfactor;
-    let Given::Is(yfactor) = factor_in(t, file, s1) else {
-        return Figures::Wrong(mark_in(file, s1));
+    let two = x.yfactor;
+    let Given::Is(yfactor) = factor_in(t, file, two) else {
+        return Figures::Wrong(mark_in(file, two));
     };
-    let s2 = x.firstx;
-    let Given::Is(firstx) = decimal_in(t, file, s2) else {
-        return Figures::Wrong(mark_in(file, s2));
+    figures_from_firstx(t, file, x, xfactor, yfactor)
+}
+
+// FIRSTX and LASTX, after the factors, and then the rest.
+fn figures_from_firstx(
+    t: &[u8; 256],
+    file: &[u8],
+    x: Needed,
+    xfactor: Decimal,
+    yfactor: Decimal,
+) -> Figures
+    requires { ⌜ (now t ≡ table) × AllWithin (length (now file)) x × Factor xfactor × Factor yfactor ⌝ }
+    ensures { λ r. ⌜ (r ≡ fromFirstx (now (file .entry)) x xfactor yfactor) × figuresIn r ⌝ }
+{
+    let one = x.firstx;
+    let Given::Is(firstx) = decimal_in(t, file, one) else {
+        return Figures::Wrong(mark_in(file, one));
     };
-    let s3 = x.lastx;
-    let Given::Is(lastx) = decimal_in(t, file, s3) else {
-        return Figures::Wrong(mark_in(file, s3));
+    let two = x.lastx;
+    let Given::Is(lastx) = decimal_in(t, file, two) else {
+        return Figures::Wrong(mark_in(file, two));
     };
-    let s4 = x.npoints;
+    figures_from_npoints(t, file, x, xfactor, yfactor, firstx, lastx)
+}
+
+// NPOINTS and FIRSTY, after the factors and the abscissas.
+fn figures_from_npoints(
+    t: &[u8; 256],
+    file: &[u8],
+    x: Needed,
+    xfactor: Decimal,
+    yfactor: Decimal,
+    firstx: Decimal,
+    lastx: Decimal,
+) -> Figures
+    requires { ⌜ (now t ≡ table) × AllWithin (length (now file)) x × Factor xfactor × Factor yfactor × Small firstx × Small lastx ⌝ }
+    ensures { λ r. ⌜ (r ≡ fromNpoints (now (file .entry)) x xfactor yfactor firstx lastx) × figuresIn r ⌝ }
+{
+    let one = x.npoints;
     let Count::Counted {
         value: npoints,
         end: _,
-    } = count_in(t, file, s4)
+    } = count_in(t, file, one)
     else {
-        return Figures::Wrong(mark_in(file, s4));
+        return Figures::Wrong(mark_in(file, one));
     };
-    let s5 = x.firsty;
-    let Given::Is(firsty) = decimal_in(t, file, s5) else {
-        return Figures::Wrong(mark_in(file, s5));
+    let two = x.firsty;
+    let Given::Is(firsty) = decimal_in(t, file, two) else {
+        return Figures::Wrong(mark_in(file, two));
     };
     Figures::All(Numbers {
         xfactor,

@@ -69,7 +69,8 @@ list-step s i k h n l =
     (λ _ _ x. absurd (omega arith))
     (λ _ e. let g = leb-false 11 k e in
     rw (byte-of k g)
-    (by-case (λ t. pick t (k + 1) 12 ≤ 11 → pick t (K (drop (k + 1) LIST)) listed.Unlisted ≡ K (drop (pick t (k + 1) 12) LIST)) (eqb b (getD LIST k 0)) (λ _ _. refl) (λ _ x. absurd (omega arith)))) refl) m
+    (by-case (λ t. pick t (k + 1) 12 ≤ 11 → pick t (K (drop (k + 1) LIST)) listed.Unlisted ≡ K (drop (pick t (k + 1) 12) LIST)) (eqb b (getD LIST k 0))
+    (λ _ _. refl) (λ _ x. absurd (omega arith)))) refl) m
 
 pub list-stop : (s : List ℕ) (i k : ℕ) → i < length s → (getD s i 0 ≡ 10 → ⊥) → k ≤ 11 → 11 < listStep (getD s i 0) (getD s (i + 1) 0) k
     → listedAs (drop i s) i (drop k LIST) ≡ listed.Unlisted

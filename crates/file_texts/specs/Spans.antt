@@ -24,6 +24,7 @@ abbrev pub listedWithin : Span → Listed → Type 0
 listedWithin t (listed.Body i) = (t .from ≤ i) × (i ≤ t .to)
 listedWithin t listed.Unlisted = Unit
 
+-- a count as it can be spelled
 abbrev pub countSmall : Count → Type 0
 countSmall (Count.Counted v j) = v < bound
 countSmall Count.Misspelled = Unit

@@ -1,3 +1,4 @@
+-- `figure::agree` meets its contract: a missing ordinate agrees, and no other one with what is beyond.
 use mathlib.Core.Path.{refl, sym, _∙_, subst}
 use native.Mathlib.Omega.{arith}
 use borrow.Author.Tests.{ne-eqb}
@@ -21,18 +22,24 @@ enum-known-r : tie.Need-enum-known-r
 enum-known-r c = search needs
 
 equal-to-requires : tie.Need-equal-to-requires
-equal-to-requires c κs = let x = subst roundedIn (c .before .r .given .1) (c .before .before .before .before .before .pre) in let n = c .before .before .before .if1 .left in (omega (arith, n), x)
+equal-to-requires c κs =
+    let known = c .before in let test = known .before .before in
+    let small = subst roundedIn (known .r .given .1) (test .before .before .pre) in
+    let some = test .if1 .left in (omega (arith, some), small)
 
 returns-2 : tie.Need-returns-2
 unfolding equals
 returns-2 c =
-    let e = rw (toZ-ofZ (c .before .before .before .before .fits .y)) at (c .before .before .before .ordinate-of .ensures .0) in rw (ne-eqb _ 0 (λ z. c .before .before .if1 .left (e ∙ z)), c .enum-told .given .1) refl
+    let test = c .before .before in let read = test .before in
+    let e = rw (toZ-ofZ (read .before .fits .y)) at (read .ordinate-of .ensures .0) in
+    rw (ne-eqb _ 0 (λ z. test .if1 .left (e ∙ z)), c .enum-told .given .1) refl
 
 returns-3 : tie.Need-returns-3
 unfolding equals
 returns-3 c =
-    let e = rw (toZ-ofZ (c .before .before .before .before .before .before .fits .y)) at (c .before .before .before .before .before .ordinate-of .ensures .0) in
-    rw (ne-eqb _ 0 (λ z. c .before .before .before .before .if1 .left (e ∙ z)), c .before .before .r .given .1) (rw e at (c .equal-to .ensures))
+    let known = c .before .before in let test = known .before .before in let read = test .before in
+    let e = rw (toZ-ofZ (read .before .fits .y)) at (read .ordinate-of .ensures .0) in
+    rw (ne-eqb _ 0 (λ z. test .if1 .left (e ∙ z)), known .r .given .1) (rw e at (c .equal-to .ensures))
 
 pub agree-spec : {M : Type 1} → statement M
 agree-spec =

@@ -1,3 +1,4 @@
+-- `figure::equal_to` meets its contract: no ordinate that is not missing is so far below zero.
 use mathlib.Core.Path.{_≡_, refl}
 use native.Mathlib.Omega.{arith}
 use Prim.Native.Nat.{_-_}

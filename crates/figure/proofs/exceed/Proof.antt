@@ -1,3 +1,4 @@
+-- `figure::exceed` meets its contract: minus, zero, or above it.
 use mathlib.Core.Path.{sym, ap, _∙_, subst}
 use native.Mathlib.Omega.{arith}
 use Rattle.file_spec.specs.Figures.{exceeding}

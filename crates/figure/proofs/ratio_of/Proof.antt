@@ -1,3 +1,4 @@
+-- `figure::ratio_of` meets its contract: the rounded quotient, up to the largest abscissa.
 use mathlib.Core.Path.{refl}
 use native.Mathlib.Omega.{arith}
 use Rattle.decimal_spec.specs.Quotient.{quotientOf}

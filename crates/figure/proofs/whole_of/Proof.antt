@@ -1,3 +1,4 @@
+-- `figure::whole_of` meets its contract: 64 bits hold the size with either sign.
 use mathlib.Core.Path.{refl}
 use mir.Facts.{toZ-ofZ}
 use Rattle.figure.proofs.FigureLaws.{wide, minus-is, minus-fits}

@@ -1,164 +1,75 @@
-use mathlib.Core.Path.{refl, sym, _∙_}
-use Rattle.label_spec.specs.Names.{norm, ignored, blank, upper}
-use Rattle.file_spec.specs.Texts.{gatheredFrom}
-use Rattle.file_records.proofs.RecordLaws.{within}
+-- `file_records::gather` meets its contract: the seven records in the order that 25 lists, or that one is lacking.
+use mathlib.Core.Path.{sym, _∙_}
+use Prim.Native.Nat.{_-_}
 use borrow.Author.Needs.{needs}
+use Rattle.file_records.proofs.GatherLaws.{Gathers, gathers-none, gathers-lacking, gathers-on, gathers-all, all-inside}
 use Rattle.file_records.proofs.gather.Statement.{statement}
 use Rattle.file_records.proofs.gather.Tie as tie
 
-slice-aggregate-find-record : tie.Need-slice-aggregate-find-record
-slice-aggregate-find-record c = search needs
+abbrev Inv-loop : tie.InvT-loop
+Inv-loop file start stop texts₀ k₀ texts k = Gathers file start stop k texts
 
-find-record-requires : tie.Need-find-record-requires
-find-record-requires c κs = search needs
+abbrev μ-loop : tie.MeasureT-loop
+μ-loop file start stop texts₀ k₀ texts k = 7 - k
 
-enum-known-a0 : tie.Need-enum-known-a0
-enum-known-a0 c = search needs
+loop-holds : tie.Need-loop-holds Inv-loop μ-loop
+loop-holds c = gathers-none _ _ _
 
-enum-told : tie.Need-enum-told
-enum-told c = search needs
+record-at-requires : tie.Need-record-at-requires Inv-loop μ-loop
+record-at-requires c κs = search needs
 
-returns : tie.Need-returns
-unfolding gatheredFrom norm ignored blank upper
-returns c = (rw ((sym (c .before .before .find-record .ensures .0) ∙ c .enum-told .given .1)) refl, tt)
+enum-known-from : tie.Need-enum-known-from Inv-loop μ-loop
+enum-known-from c = c .match .keys1
 
-slice-aggregate-find-record-2 : tie.Need-slice-aggregate-find-record-2
-slice-aggregate-find-record-2 c = search needs
+enum-told : tie.Need-enum-told Inv-loop μ-loop
+enum-told c = c .match .keys2
 
-find-record-requires-2 : tie.Need-find-record-requires-2
-find-record-requires-2 c κs = search needs
+returns : tie.Need-returns Inv-loop μ-loop
+returns c =
+    let searched = c .before .before in let turn = searched .before in
+    (gathers-lacking _ _ _ (turn .before .loop .inv) (turn .loop-test .taken) (sym (searched .record-at .ensures .0) ∙ c .enum-told .given .1), tt)
 
-enum-known-a1 : tie.Need-enum-known-a1
-enum-known-a1 c = search needs
+mul-texts : tie.Need-mul-texts Inv-loop μ-loop
+mul-texts c = search needs
 
-enum-told-2 : tie.Need-enum-told-2
-enum-told-2 c = search needs
+array-set-from-texts : tie.Need-array-set-from-texts Inv-loop μ-loop
+array-set-from-texts c = search needs
 
-returns-2 : tie.Need-returns-2
-unfolding gatheredFrom norm ignored blank upper
-returns-2 c = (rw ((sym (c .before .before .before .before .before .before .before .find-record .ensures .0) ∙ c .before .before .before .before .before .a0 .given .1), (sym (c .before .before .find-record2 .ensures .0) ∙ c .enum-told2 .given .1)) refl, tt)
+add-k : tie.Need-add-k Inv-loop μ-loop
+add-k c = search needs
 
-slice-aggregate-find-record-3 : tie.Need-slice-aggregate-find-record-3
-slice-aggregate-find-record-3 c = search needs
+loop-less : tie.Need-loop-less Inv-loop μ-loop
+loop-less c = search needs
 
-find-record-requires-3 : tie.Need-find-record-requires-3
-find-record-requires-3 c κs = search needs
+loop-again : tie.Need-loop-again Inv-loop μ-loop
+loop-again c =
+    let found = c .before in let searched = found .before .before in let turn = searched .before in
+    gathers-on _ _ _ (turn .before .loop .inv) (turn .loop-test .taken) (sym (searched .record-at .ensures .0) ∙ found .from .given .1)
+    (rw (found .from .given .1) at (searched .record-at .ensures .1))
 
-enum-known-a2 : tie.Need-enum-known-a2
-enum-known-a2 c = search needs
+needed-requires : tie.Need-needed-requires Inv-loop μ-loop
+needed-requires c κs = search needs
 
-enum-told-3 : tie.Need-enum-told-3
-enum-told-3 c = search needs
-
-returns-3 : tie.Need-returns-3
-unfolding gatheredFrom norm ignored blank upper
-returns-3 c = (rw ((sym (c .before .before .before .before .before .before .before .before .before .before .before .before .find-record .ensures .0) ∙ c .before .before .before .before .before .before .before .before .before .before .a0 .given .1), (sym (c .before .before .before .before .before .before .before .find-record2 .ensures .0) ∙ c .before .before .before .before .before .a1 .given .1), (sym (c .before .before .find-record3 .ensures .0) ∙ c .enum-told3 .given .1)) refl, tt)
-
-slice-aggregate-find-record-4 : tie.Need-slice-aggregate-find-record-4
-slice-aggregate-find-record-4 c = search needs
-
-find-record-requires-4 : tie.Need-find-record-requires-4
-find-record-requires-4 c κs = search needs
-
-enum-known-a3 : tie.Need-enum-known-a3
-enum-known-a3 c = search needs
-
-enum-told-4 : tie.Need-enum-told-4
-enum-told-4 c = search needs
-
-returns-4 : tie.Need-returns-4
-unfolding gatheredFrom norm ignored blank upper
-returns-4 c = (rw ((sym (c .before .before .before .before .before .before .before .before .before .before .before .before .before .before .before .before .before .find-record .ensures .0) ∙ c .before .before .before .before .before .before .before .before .before .before .before .before .before .before .before .a0 .given .1), (sym (c .before .before .before .before .before .before .before .before .before .before .before .before .find-record2 .ensures .0) ∙ c .before .before .before .before .before .before .before .before .before .before .a1 .given .1), (sym (c .before .before .before .before .before .before .before .find-record3 .ensures .0) ∙ c .before .before .before .before .before .a2 .given .1), (sym (c .before .before .find-record4 .ensures .0) ∙ c .enum-told4 .given .1)) refl, tt)
-
-slice-aggregate-find-record-5 : tie.Need-slice-aggregate-find-record-5
-slice-aggregate-find-record-5 c = search needs
-
-find-record-requires-5 : tie.Need-find-record-requires-5
-find-record-requires-5 c κs = search needs
-
-enum-known-a4 : tie.Need-enum-known-a4
-enum-known-a4 c = search needs
-
-enum-told-5 : tie.Need-enum-told-5
-enum-told-5 c = search needs
-
-returns-5 : tie.Need-returns-5
-unfolding gatheredFrom norm ignored blank upper
-returns-5 c = (rw ((sym (c .before .before .before .before .before .before .before .before .before .before .before .before .before .before .before .before .before .before .before .before .before .before .find-record .ensures .0) ∙ c .before .before .before .before .before .before .before .before .before .before .before .before .before .before .before .before .before .before .before .before .a0 .given .1), (sym (c .before .before .before .before .before .before .before .before .before .before .before .before .before .before .before .before .before .find-record2 .ensures .0) ∙ c .before .before .before .before .before .before .before .before .before .before .before .before .before .before .before .a1 .given .1), (sym (c .before .before .before .before .before .before .before .before .before .before .before .before .find-record3 .ensures .0) ∙ c .before .before .before .before .before .before .before .before .before .before .a2 .given .1), (sym (c .before .before .before .before .before .before .before .find-record4 .ensures .0) ∙ c .before .before .before .before .before .a3 .given .1), (sym (c .before .before .find-record5 .ensures .0) ∙ c .enum-told5 .given .1)) refl, tt)
-
-slice-aggregate-find-record-6 : tie.Need-slice-aggregate-find-record-6
-slice-aggregate-find-record-6 c = search needs
-
-find-record-requires-6 : tie.Need-find-record-requires-6
-find-record-requires-6 c κs = c .before .before .before .before .before .before .before .before .before .before .before .before .before .before .before .before .before .before .before .before .before .before .before .before .before .before .before .pre
-
-enum-known-a5 : tie.Need-enum-known-a5
-enum-known-a5 c = search needs
-
-enum-told-6 : tie.Need-enum-told-6
-enum-told-6 c = search needs
-
-returns-6 : tie.Need-returns-6
-unfolding gatheredFrom norm ignored blank upper
-returns-6 c = (rw ((sym (c .before .before .before .before .before .before .before .before .before .before .before .before .before .before .before .before .before .before .before .before .before .before .before .before .before .before .before .find-record .ensures .0) ∙ c .before .before .before .before .before .before .before .before .before .before .before .before .before .before .before .before .before .before .before .before .before .before .before .before .before .a0 .given .1), (sym (c .before .before .before .before .before .before .before .before .before .before .before .before .before .before .before .before .before .before .before .before .before .before .find-record2 .ensures .0) ∙ c .before .before .before .before .before .before .before .before .before .before .before .before .before .before .before .before .before .before .before .before .a1 .given .1), (sym (c .before .before .before .before .before .before .before .before .before .before .before .before .before .before .before .before .before .find-record3 .ensures .0) ∙ c .before .before .before .before .before .before .before .before .before .before .before .before .before .before .before .a2 .given .1), (sym (c .before .before .before .before .before .before .before .before .before .before .before .before .find-record4 .ensures .0) ∙ c .before .before .before .before .before .before .before .before .before .before .a3 .given .1), (sym (c .before .before .before .before .before .before .before .find-record5 .ensures .0) ∙ c .before .before .before .before .before .a4 .given .1), (sym (c .before .before .find-record6 .ensures .0) ∙ c .enum-told6 .given .1)) refl, tt)
-
-slice-aggregate-find-record-7 : tie.Need-slice-aggregate-find-record-7
-slice-aggregate-find-record-7 c = search needs
-
-find-record-requires-7 : tie.Need-find-record-requires-7
-find-record-requires-7 c κs = c .before .before .before .before .before .before .before .before .before .before .before .before .before .before .before .before .before .before .before .before .before .before .before .before .before .before .before .before .before .before .before .before .pre
-
-enum-known-a6 : tie.Need-enum-known-a6
-enum-known-a6 c = search needs
-
-enum-told-7 : tie.Need-enum-told-7
-enum-told-7 c = search needs
-
-returns-7 : tie.Need-returns-7
-unfolding gatheredFrom norm ignored blank upper
-returns-7 c = (rw ((sym (c .before .before .before .before .before .before .before .before .before .before .before .before .before .before .before .before .before .before .before .before .before .before .before .before .before .before .before .before .before .before .before .before .find-record .ensures .0) ∙ c .before .before .before .before .before .before .before .before .before .before .before .before .before .before .before .before .before .before .before .before .before .before .before .before .before .before .before .before .before .before .a0 .given .1), (sym (c .before .before .before .before .before .before .before .before .before .before .before .before .before .before .before .before .before .before .before .before .before .before .before .before .before .before .before .find-record2 .ensures .0) ∙ c .before .before .before .before .before .before .before .before .before .before .before .before .before .before .before .before .before .before .before .before .before .before .before .before .before .a1 .given .1), (sym (c .before .before .before .before .before .before .before .before .before .before .before .before .before .before .before .before .before .before .before .before .before .before .find-record3 .ensures .0) ∙ c .before .before .before .before .before .before .before .before .before .before .before .before .before .before .before .before .before .before .before .before .a2 .given .1), (sym (c .before .before .before .before .before .before .before .before .before .before .before .before .before .before .before .before .before .find-record4 .ensures .0) ∙ c .before .before .before .before .before .before .before .before .before .before .before .before .before .before .before .a3 .given .1), (sym (c .before .before .before .before .before .before .before .before .before .before .before .before .find-record5 .ensures .0) ∙ c .before .before .before .before .before .before .before .before .before .before .a4 .given .1), (sym (c .before .before .before .before .before .before .before .find-record6 .ensures .0) ∙ c .before .before .before .before .before .a5 .given .1), (sym (c .before .before .find-record7 .ensures .0) ∙ c .enum-told7 .given .1)) refl, tt)
-
-returns-8 : tie.Need-returns-8
-unfolding gatheredFrom norm ignored blank upper
-returns-8 c = (rw ((sym (c .before .before .before .before .before .before .before .before .before .before .before .before .before .before .before .before .before .before .before .before .before .before .before .before .before .before .before .before .before .before .before .before .before .find-record .ensures .0) ∙ c .before .before .before .before .before .before .before .before .before .before .before .before .before .before .before .before .before .before .before .before .before .before .before .before .before .before .before .before .before .before .before .a0 .given .1), (sym (c .before .before .before .before .before .before .before .before .before .before .before .before .before .before .before .before .before .before .before .before .before .before .before .before .before .before .before .before .find-record2 .ensures .0) ∙ c .before .before .before .before .before .before .before .before .before .before .before .before .before .before .before .before .before .before .before .before .before .before .before .before .before .before .a1 .given .1), (sym (c .before .before .before .before .before .before .before .before .before .before .before .before .before .before .before .before .before .before .before .before .before .before .before .find-record3 .ensures .0) ∙ c .before .before .before .before .before .before .before .before .before .before .before .before .before .before .before .before .before .before .before .before .before .a2 .given .1), (sym (c .before .before .before .before .before .before .before .before .before .before .before .before .before .before .before .before .before .before .find-record4 .ensures .0) ∙ c .before .before .before .before .before .before .before .before .before .before .before .before .before .before .before .before .a3 .given .1), (sym (c .before .before .before .before .before .before .before .before .before .before .before .before .before .find-record5 .ensures .0) ∙ c .before .before .before .before .before .before .before .before .before .before .before .a4 .given .1), (sym (c .before .before .before .before .before .before .before .before .find-record6 .ensures .0) ∙ c .before .before .before .before .before .before .a5 .given .1), (sym (c .before .before .before .find-record7 .ensures .0) ∙ c .before .a6 .given .1)) refl, record { xfactor = within (rw (c .before .before .before .before .before .before .before .before .before .before .before .before .before .before .before .before .before .before .before .before .before .before .before .before .before .before .before .before .before .before .before .a0 .given .1) at (c .before .before .before .before .before .before .before .before .before .before .before .before .before .before .before .before .before .before .before .before .before .before .before .before .before .before .before .before .before .before .before .before .before .find-record .ensures .1)); yfactor = within (rw (c .before .before .before .before .before .before .before .before .before .before .before .before .before .before .before .before .before .before .before .before .before .before .before .before .before .before .a1 .given .1) at (c .before .before .before .before .before .before .before .before .before .before .before .before .before .before .before .before .before .before .before .before .before .before .before .before .before .before .before .before .find-record2 .ensures .1)); firstx = within (rw (c .before .before .before .before .before .before .before .before .before .before .before .before .before .before .before .before .before .before .before .before .before .a2 .given .1) at (c .before .before .before .before .before .before .before .before .before .before .before .before .before .before .before .before .before .before .before .before .before .before .before .find-record3 .ensures .1)); lastx = within (rw (c .before .before .before .before .before .before .before .before .before .before .before .before .before .before .before .before .a3 .given .1) at (c .before .before .before .before .before .before .before .before .before .before .before .before .before .before .before .before .before .before .find-record4 .ensures .1)); npoints = within (rw (c .before .before .before .before .before .before .before .before .before .before .before .a4 .given .1) at (c .before .before .before .before .before .before .before .before .before .before .before .before .before .find-record5 .ensures .1)); firsty = within (rw (c .before .before .before .before .before .before .a5 .given .1) at (c .before .before .before .before .before .before .before .before .find-record6 .ensures .1)); xydata = within (rw (c .before .a6 .given .1) at (c .before .before .before .find-record7 .ensures .1)) })
+returns-2 : tie.Need-returns-2 Inv-loop μ-loop
+returns-2 c =
+    let done = c .before in let g = done .before .loop .inv in
+    rw (c .needed .ensures) (gathers-all _ _ _ g (done .loop-test .left), all-inside _ _ _ g)
 
 pub gather-spec : {M : Type 1} → statement M
 gather-spec =
     tie.close
     (tie.spec
-    slice-aggregate-find-record
-    find-record-requires
-    enum-known-a0
+    Inv-loop
+    μ-loop
+    loop-holds
+    record-at-requires
+    enum-known-from
     enum-told
     returns
-    slice-aggregate-find-record-2
-    find-record-requires-2
-    enum-known-a1
-    enum-told-2
-    returns-2
-    slice-aggregate-find-record-3
-    find-record-requires-3
-    enum-known-a2
-    enum-told-3
-    returns-3
-    slice-aggregate-find-record-4
-    find-record-requires-4
-    enum-known-a3
-    enum-told-4
-    returns-4
-    slice-aggregate-find-record-5
-    find-record-requires-5
-    enum-known-a4
-    enum-told-5
-    returns-5
-    slice-aggregate-find-record-6
-    find-record-requires-6
-    enum-known-a5
-    enum-told-6
-    returns-6
-    slice-aggregate-find-record-7
-    find-record-requires-7
-    enum-known-a6
-    enum-told-7
-    returns-7
-    returns-8)
+    mul-texts
+    array-set-from-texts
+    add-k
+    loop-less
+    loop-again
+    needed-requires
+    returns-2)

@@ -1,3 +1,4 @@
+-- `file_texts::count_alone` meets its contract: the number, if nothing but blanks, line ends and comments stands around it.
 use mathlib.Core.Path.{sym, _∙_}
 use Rattle.file_texts.proofs.NumberLaws.{count-no, count-late, count-is}
 use borrow.Author.Needs.{needs}
@@ -21,15 +22,19 @@ past-space-requires-2 c κs = let x = rw (c .before .value .given .1) at (c .bef
 
 returns : tie.Need-returns
 returns c =
-    (count-late _ _ _ (c .before .before .before .before .before .before .past-space .ensures .is) _ _ (sym (c .before .before .before .value .given .1) ∙ c .before .before .before .before .before .count .ensures .says) _ (c .before .past-space2 .ensures .is) (c .if1 .taken), tt)
+    let known = c .before .before .before in let read = known .before .before in
+    let said = sym (known .value .given .1) ∙ read .count .ensures .says in
+    (count-late _ _ _ (read .before .past-space .ensures .is) _ _ said _ (c .before .past-space2 .ensures .is) (c .if1 .taken), tt)
 
 returns-2 : tie.Need-returns-2
-returns-2 c = (count-no _ _ _ (c .before .before .before .past-space .ensures .is) (sym (c .enum-told .given .1) ∙ c .before .before .count .ensures .says), tt)
+returns-2 c = let read = c .before .before in (count-no _ _ _ (read .before .past-space .ensures .is) (sym (c .enum-told .given .1) ∙ read .count .ensures .says), tt)
 
 returns-3 : tie.Need-returns-3
 returns-3 c =
-    let x = rw (c .before .before .before .value .given .1) at (c .before .before .before .before .before .count .ensures .good) in
-    (count-is _ _ _ (c .before .before .before .before .before .before .past-space .ensures .is) _ _ (sym (c .before .before .before .value .given .1) ∙ c .before .before .before .before .before .count .ensures .says) _ (c .before .past-space2 .ensures .is) (c .if1 .left), x .0)
+    let known = c .before .before .before in let read = known .before .before in
+    let said = sym (known .value .given .1) ∙ read .count .ensures .says in
+    let good = rw (known .value .given .1) at (read .count .ensures .good) in
+    (count-is _ _ _ (read .before .past-space .ensures .is) _ _ said _ (c .before .past-space2 .ensures .is) (c .if1 .left), good .0)
 
 pub count-alone-spec : {M : Type 1} → statement M
 count-alone-spec =

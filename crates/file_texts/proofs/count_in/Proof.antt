@@ -1,3 +1,4 @@
+-- `file_texts::count_in` meets its contract: the text of a record is a text that ends where it does.
 use mathlib.Core.Path.{sym, _∙_}
 use Rattle.file_texts.proofs.NumberLaws.{part-length, count-part}
 use Rattle.file_texts.proofs.count_in.Statement.{statement}

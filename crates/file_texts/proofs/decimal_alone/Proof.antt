@@ -1,3 +1,4 @@
+-- `file_texts::decimal_alone` meets its contract: the number, if nothing but blanks, line ends and comments stands around it.
 use mathlib.Core.Path.{sym, _∙_}
 use Rattle.file_texts.proofs.NumberLaws.{decimal-no, decimal-late, decimal-is}
 use borrow.Author.Needs.{needs}
@@ -21,17 +22,19 @@ past-space-requires-2 c κs = let x = rw (c .before .minus .given .1) at (c .bef
 
 returns : tie.Need-returns
 returns c =
-    (decimal-late _ _ _ (c .before .before .before .before .before .before .past-space .ensures .is) _ _ _ _ (sym (c .before .before .before .minus .given .1) ∙ c .before .before .before .before .before .number .ensures .says) _ (c .before .past-space2 .ensures .is) (c .if1 .taken), tt)
+    let known = c .before .before .before in let read = known .before .before in
+    let said = sym (known .minus .given .1) ∙ read .number .ensures .says in
+    (decimal-late _ _ _ (read .before .past-space .ensures .is) _ _ _ _ said _ (c .before .past-space2 .ensures .is) (c .if1 .taken), tt)
 
 returns-2 : tie.Need-returns-2
-returns-2 c = (decimal-no _ _ _ (c .before .before .before .past-space .ensures .is) (sym (c .enum-told .given .1) ∙ c .before .before .number .ensures .says), tt)
+returns-2 c = let read = c .before .before in (decimal-no _ _ _ (read .before .past-space .ensures .is) (sym (c .enum-told .given .1) ∙ read .number .ensures .says), tt)
 
 returns-3 : tie.Need-returns-3
 returns-3 c =
-    let x = rw (c .before .before .before .minus .given .1) at (c .before .before .before .before .before .number .ensures .good) in (
-      decimal-is _ _ _ (c .before .before .before .before .before .before .past-space .ensures .is) _ _ _ _ (sym (c .before .before .before .minus .given .1) ∙ c .before .before .before .before .before .number .ensures .says) _ (c .before .past-space2 .ensures .is) (c .if1 .left),
-      record { mantissa = x .0; power = x .1 },
-    )
+    let known = c .before .before .before in let read = known .before .before in
+    let said = sym (known .minus .given .1) ∙ read .number .ensures .says in
+    let good = rw (known .minus .given .1) at (read .number .ensures .good) in
+    (decimal-is _ _ _ (read .before .past-space .ensures .is) _ _ _ _ said _ (c .before .past-space2 .ensures .is) (c .if1 .left), record { mantissa = good .0; power = good .1 })
 
 pub decimal-alone-spec : {M : Type 1} → statement M
 decimal-alone-spec =

@@ -1,3 +1,4 @@
+-- `file_texts::factor_in` meets its contract: the decimal, if it exceeds zero.
 use mathlib.Core.Path.{ap, _∙_}
 use Rattle.file_spec.specs.Figures.{exceeding}
 use borrow.Author.Needs.{needs}

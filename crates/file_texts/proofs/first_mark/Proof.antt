@@ -1,3 +1,4 @@
+-- `file_texts::first_mark` meets its contract: what is passed is blanks and line ends.
 use mathlib.Core.Path.{_≡_, sym, _∙_}
 use Prim.Native.Nat.{_-_, _≤_}
 use native.Mathlib.Omega.{arith}
@@ -32,16 +33,18 @@ spacing-requires c κs = search needs
 
 returns : tie.Need-returns Inv-loop μ-loop
 returns c =
-    let l = c .before .before .before .before .before .loop in let e = rw (c .before .before .byte-at .ensures) at (c .before .spacing .ensures) in
-    sym (l .inv .2 ∙ mark-here (c .before .before .before .before .before .before .before .args .s .now) (l .i) (c .before .before .before .before .loop-test .taken) (sym e ∙ not-true _ (c .if1 .taken)))
+    let read = c .before .before in let turn = read .before .before in let l = turn .before .loop in let s = turn .before .before .before .args .s .now in
+    let e = rw (read .byte-at .ensures) at (c .before .spacing .ensures) in
+    sym (l .inv .2 ∙ mark-here s (l .i) (turn .loop-test .taken) (sym e ∙ not-true _ (c .if1 .taken)))
 
 loop-less : tie.Need-loop-less Inv-loop μ-loop
 loop-less c = search needs
 
 loop-again : tie.Need-loop-again Inv-loop μ-loop
 loop-again c =
-    let l = c .before .before .before .before .before .loop in let x = l .inv .0 in let e = rw (c .before .before .byte-at .ensures) at (c .before .spacing .ensures) in
-    (omega arith, omega arith, l .inv .2 ∙ mark-on (c .before .before .before .before .before .before .before .args .s .now) (l .i) (c .before .before .before .before .loop-test .taken) (sym e ∙ not-false _ (c .if1 .left)))
+    let read = c .before .before in let turn = read .before .before in let l = turn .before .loop in let s = turn .before .before .before .args .s .now in
+    let e = rw (read .byte-at .ensures) at (c .before .spacing .ensures) in let x = l .inv .0 in
+    (omega arith, omega arith, l .inv .2 ∙ mark-on s (l .i) (turn .loop-test .taken) (sym e ∙ not-false _ (c .if1 .left)))
 
 returns-2 : tie.Need-returns-2 Inv-loop μ-loop
 returns-2 c = let l = c .before .loop in sym (l .inv .2 ∙ mark-end (c .before .before .before .args .s .now) (l .i) (c .loop-test .left))

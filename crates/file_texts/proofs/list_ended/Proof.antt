@@ -1,3 +1,4 @@
+-- `file_texts::list_ended` meets its contract: the list is whole at 11.
 use Rattle.file_texts.proofs.TextLaws.{ended-full, ended-short}
 use Rattle.file_texts.proofs.list_ended.Statement.{statement}
 use Rattle.file_texts.proofs.list_ended.Tie as tie

@@ -1,3 +1,4 @@
+-- `file_texts::list_in` meets its contract: the text of a record is a text that ends where it does.
 use mathlib.Core.Path.{sym, subst}
 use Prim.Native.Nat.{ℕ}
 use Rattle.file_spec.specs.Texts.{listedIn}
@@ -15,8 +16,9 @@ list-line-requires c κs = let a = c .before .before .args in rw (part-length (a
 returns : tie.Need-returns
 unfolding listedIn
 returns c =
-    let a = c .before .before .before .args in
-    (c .list-line .ensures .0, subst (λ (k : ℕ). listedWithin (record { from = a .t .from; to = k }) (c .list-line .result)) (part-length (a .file .now) (a .t) (c .before .before .before .pre)) (c .list-line .ensures .1))
+    let start = c .before .before .before in let a = start .args in
+    let ends = part-length (a .file .now) (a .t) (start .pre) in
+    (c .list-line .ensures .0, subst (λ (k : ℕ). listedWithin (record { from = a .t .from; to = k }) (c .list-line .result)) ends (c .list-line .ensures .1))
 
 pub list-in-spec : {M : Type 1} → statement M
 list-in-spec = tie.close (tie.spec slice-aggregate-list-line list-line-requires returns)

@@ -1,3 +1,4 @@
+-- `file_texts::list_line` meets its contract: of the list so much has stood, and the rest of the line is against what is left.
 use mathlib.Core.Path.{_≡_, refl, sym, _∙_}
 use Prim.Native.Nat.{_-_, _≤_}
 use native.Mathlib.Omega.{arith}
@@ -28,8 +29,8 @@ list-ended-requires c κs = c .before .before .before .loop .inv .2
 
 returns : tie.Need-returns Inv-loop μ-loop
 returns c =
-    let l = c .before .before .before .before .loop in let s = c .before .before .before .before .before .before .args .s .now in
-    let h = c .before .before .before .loop-test .taken in let x = l .inv .0 in
+    let turn = c .before .before .before in let l = turn .before .loop in let s = turn .before .before .before .args .s .now in
+    let h = turn .loop-test .taken in let x = l .inv .0 in
     (c .list-ended .ensures ∙ sym (l .inv .3 ∙ list-lf s (l .i) _ h (c .before .if1 .taken)), rw (c .list-ended .ensures) (ended-in (drop (l .k) LIST) _ _ _ (omega arith) (omega arith)))
 
 byte-at-requires : tie.Need-byte-at-requires Inv-loop μ-loop
@@ -40,16 +41,19 @@ list-step-requires c κs = search needs
 
 returns-2 : tie.Need-returns-2 Inv-loop μ-loop
 returns-2 c =
-    let l = c .before .before .before .before .before .before .loop in let s = c .before .before .before .before .before .before .before .before .args .s .now in let e = rw (c .before .before .byte-at .ensures) at (c .before .list-step .ensures) in
-    (sym (l .inv .3 ∙ list-stop s (l .i) (l .k) (c .before .before .before .before .before .loop-test .taken) (c .before .before .before .if1 .left) (l .inv .2) (rw e at (c .if2 .taken))), tt)
+    let read = c .before .before in let test = read .before in let turn = test .before .before in let l = turn .before .loop in
+    let s = turn .before .before .before .args .s .now in let e = rw (read .byte-at .ensures) at (c .before .list-step .ensures) in
+    (sym (l .inv .3 ∙ list-stop s (l .i) (l .k) (turn .loop-test .taken) (test .if1 .left) (l .inv .2) (rw e at (c .if2 .taken))), tt)
 
 loop-less : tie.Need-loop-less Inv-loop μ-loop
 loop-less c = search needs
 
 loop-again : tie.Need-loop-again Inv-loop μ-loop
 loop-again c =
-    let l = c .before .before .before .before .before .before .loop in let s = c .before .before .before .before .before .before .before .before .args .s .now in let e = rw (c .before .before .byte-at .ensures) at (c .before .list-step .ensures) in let x = l .inv .0 in let h = c .before .before .before .before .before .loop-test .taken in
-    (omega arith, omega arith, c .if2 .left, l .inv .3 ∙ rw e (list-step s (l .i) (l .k) h (c .before .before .before .if1 .left) (l .inv .2) (rw e at (c .if2 .left))))
+    let read = c .before .before in let test = read .before in let turn = test .before .before in let l = turn .before .loop in
+    let s = turn .before .before .before .args .s .now in let e = rw (read .byte-at .ensures) at (c .before .list-step .ensures) in
+    let x = l .inv .0 in let h = turn .loop-test .taken in
+    (omega arith, omega arith, c .if2 .left, l .inv .3 ∙ rw e (list-step s (l .i) (l .k) h (test .if1 .left) (l .inv .2) (rw e at (c .if2 .left))))
 
 list-ended-requires-2 : tie.Need-list-ended-requires-2 Inv-loop μ-loop
 list-ended-requires-2 c κs = c .before .loop .inv .2

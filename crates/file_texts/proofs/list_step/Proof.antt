@@ -1,3 +1,4 @@
+-- `file_texts::list_step` meets its contract: a blank, the next byte of the list, or neither.
 use mathlib.Core.Path.{refl, sym, _∙_}
 use borrow.Author.Tests.{ne-eqb, eq-eqb, le-leb, lt-leb}
 use borrow.Author.Needs.{needs}

@@ -1,3 +1,4 @@
+-- `file_texts::mark_in` meets its contract: the text of a record is a text that ends where it does.
 use mathlib.Core.Path.{sym}
 use Rattle.file_spec.specs.Texts.{markOf}
 use Rattle.file_texts.proofs.NumberLaws.{part-length}

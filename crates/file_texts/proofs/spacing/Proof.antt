@@ -1,3 +1,4 @@
+-- `file_texts::spacing` meets its contract: one test for each byte that it names.
 use mathlib.Core.Path.{refl}
 use borrow.Author.Tests.{ne-eqb, eq-eqb}
 use Rattle.label_spec.specs.Names.{blank}

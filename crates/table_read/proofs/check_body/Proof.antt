@@ -1,3 +1,4 @@
+-- `table_read::check_body` meets its contract: with room for one ordinate, the pass answers and leaves the first.
 use mathlib.Core.Path.{refl}
 use borrow.Author.Needs.{needs, sfits-of}
 use mir.Syntax.{w32}
@@ -27,12 +28,14 @@ array-copy-out-t16 : tie.Need-array-copy-out-t16
 array-copy-out-t16 c = search needs
 
 returns : tie.Need-returns
-returns c = rw (c .new .ensures) (check-refused _ _ (rw (c .before .before .n .given .1) at (c .before .before .before .before .before .pass .ensures)))
+returns c =
+    let told = c .before .before in let passed = told .before .before .before in
+    rw (c .new .ensures) (check-refused _ _ (rw (told .n .given .1) at (passed .pass .ensures)))
 
 returns-2 : tie.Need-returns-2
 returns-2 c =
-    rw (toZ-ofZ (sfits-of {w = w32} (c .t16 .given)))
-    (check-first (c .before .before .before .before .before .before .before .before .pre .some) (rw (c .before .enum-told .given .1) at (c .before .before .before .before .pass .ensures)))
+    let told = c .before in let passed = told .before .before .before in let start = passed .before .before .before .before in
+    rw (toZ-ofZ (sfits-of {w = w32} (c .t16 .given))) (check-first (start .pre .some) (rw (told .enum-told .given .1) at (passed .pass .ensures)))
 
 pub check-body-spec : {M : Type 1} → statement M
 check-body-spec =

@@ -1,3 +1,4 @@
+-- `table_read::finish` meets its contract: 12 before 13.
 use mathlib.Core.Path.{refl}
 use borrow.Author.Tests.{lt-ltb, le-ltb}
 use Rattle.table_read.proofs.finish.Statement.{statement}

@@ -1,3 +1,4 @@
+-- `table_read::index_of` meets its contract: on a check line the point before, and the first has none.
 use mathlib.Core.Path.{refl}
 use borrow.Author.Tests.{not-true, not-false}
 use borrow.Author.Needs.{needs}

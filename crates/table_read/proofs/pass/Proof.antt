@@ -1,3 +1,4 @@
+-- `table_read::pass` meets its contract: line after line, what is left of the body gives the answer.
 use Prim.Native.Nat.{_-_}
 use native.Mathlib.Omega.{arith}
 use borrow.Author.Needs.{needs}
@@ -29,7 +30,9 @@ same-length : tie.Need-same-length Inv-loop μ-loop
 same-length c = reached-same (c .before .before .before .before .loop .inv)
 
 returns : tie.Need-returns Inv-loop μ-loop
-returns c = reached-end (c .before .before .before .before .loop .inv) (rw (c .before .enum-told .given .1) at (c .before .before .before .row-start .ensures)) (c .finish .ensures)
+returns c =
+    let told = c .before in let read = told .before .before in
+    reached-end (read .before .loop .inv) (rw (told .enum-told .given .1) at (read .row-start .ensures)) (c .finish .ensures)
 
 enum-known-j : tie.Need-enum-known-j Inv-loop μ-loop
 enum-known-j c = search needs
@@ -38,42 +41,48 @@ same-length-2 : tie.Need-same-length-2 Inv-loop μ-loop
 same-length-2 c = reached-same (c .before .before .before .before .loop .inv)
 
 returns-2 : tie.Need-returns-2 Inv-loop μ-loop
-returns-2 c = reached-fault (c .before .before .before .before .loop .inv) (rw (c .before .j .given .1) at (c .before .before .before .row-start .ensures))
+returns-2 c =
+    let bad = c .before in let read = bad .before .before in
+    reached-fault (read .before .loop .inv) (rw (bad .j .given .1) at (read .row-start .ensures))
 
 enum-known-j-2 : tie.Need-enum-known-j-2 Inv-loop μ-loop
 enum-known-j-2 c = search needs
 
 read-line-requires : tie.Need-read-line-requires Inv-loop μ-loop
 read-line-requires c κs =
-    let x = rw (c .before .before .j2 .given .1) at (c .before .before .before .before .row-start .ensures) in let p = c .before .before .before .before .before .before .before .pre in
-    (p .0, p .1, c .before .before .before .before .before .loop .inv .rests, x .1, x .2, x .3, x .4)
+    let head = c .before .before in let read = head .before .before in let turn = read .before in let p = turn .before .before .pre in
+    let x = rw (head .j2 .given .1) at (read .row-start .ensures) in
+    (p .0, p .1, turn .loop .inv .rests, x .1, x .2, x .3, x .4)
 
 enum-known-n : tie.Need-enum-known-n Inv-loop μ-loop
 enum-known-n c = search needs
 
 same-length-3 : tie.Need-same-length-3 Inv-loop μ-loop
-same-length-3 c = let x = reached-same (c .before .before .before .before .before .before .before .before .before .before .loop .inv) in search (needs, x)
+same-length-3 c =
+    let line = c .before .before .before .before in let head = line .before .before .before in let turn = head .before .before .before in
+    let x = reached-same (turn .loop .inv) in search (needs, x)
 
 returns-3 : tie.Need-returns-3 Inv-loop μ-loop
 returns-3 c =
-    let x = rw (c .before .before .before .before .before .before .before .j2 .given .1) at (c .before .before .before .before .before .before .before .before .before .row-start .ensures) in
-    reached-refused (c .before .before .before .before .before .before .before .before .before .before .loop .inv) _ _ (x .5)
-    (rw (c .before .n .given .1) at (c .before .before .before .before .read-line .ensures))
+    let told = c .before in let line = told .before .before .before in let head = line .before .before .before in let read = head .before .before in
+    let x = rw (head .j2 .given .1) at (read .row-start .ensures) in
+    reached-refused (read .before .loop .inv) _ _ (x .5) (rw (told .n .given .1) at (line .read-line .ensures))
 
 enum-known-next : tie.Need-enum-known-next Inv-loop μ-loop
 enum-known-next c = search needs
 
 loop-less : tie.Need-loop-less Inv-loop μ-loop
 loop-less c =
-    let x = rw (c .before .before .before .before .before .before .before .j2 .given .1) at (c .before .before .before .before .before .before .before .before .before .row-start .ensures) in
-    let y = rw (c .before .next .given .1) at (c .before .before .before .before .read-line .ensures) in
+    let told = c .before in let line = told .before .before .before in let head = line .before .before .before in let read = head .before .before in
+    let x = rw (head .j2 .given .1) at (read .row-start .ensures) in
+    let y = rw (told .next .given .1) at (line .read-line .ensures) in
     let h = y .1 .high in omega (arith, x .0, y .0)
 
 loop-again : tie.Need-loop-again Inv-loop μ-loop
 loop-again c =
-    let x = rw (c .before .before .before .before .before .before .before .j2 .given .1) at (c .before .before .before .before .before .before .before .before .before .row-start .ensures) in
-    reached-next (c .before .before .before .before .before .before .before .before .before .before .loop .inv) _ (x .5)
-    (rw (c .before .next .given .1) at (c .before .before .before .before .read-line .ensures))
+    let told = c .before in let line = told .before .before .before in let head = line .before .before .before in let read = head .before .before in
+    let x = rw (head .j2 .given .1) at (read .row-start .ensures) in
+    reached-next (read .before .loop .inv) _ (x .5) (rw (told .next .given .1) at (line .read-line .ensures))
 
 pub pass-spec : {M : Type 1} → statement M
 pass-spec =

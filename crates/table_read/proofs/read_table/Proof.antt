@@ -22,14 +22,14 @@ enum-told c = search needs
 
 store-table-requires : tie.Need-store-table-requires
 store-table-requires c κs =
-    let S = c .before .before .before .before .before in let a = S .args in
-    let z = rw (toZ-ofZ (S .fits .first), toZ-ofZ (S .fits .last)) at (sym (c .before .enum-told .given .1) ∙ c .before .before .before .check-table .ensures) in
+    let told = c .before in let t = told .before .before in let S = t .before .before in let a = S .args in
+    let z = rw (toZ-ofZ (S .fits .first), toZ-ofZ (S .fits .last)) at (sym (told .enum-told .given .1) ∙ t .check-table .ensures) in
     rw (toZ-ofZ (S .fits .first), toZ-ofZ (S .fits .last)) (first-accepts (readTable (a .first) (a .last) (a .points) (a .body .now) (length (a .out .now))) z)
 
 returns : tie.Need-returns
 returns c =
-    let S = c .before .before .before .before .before .before in
-    let z = rw (toZ-ofZ (S .fits .first), toZ-ofZ (S .fits .last)) at (sym (c .before .before .f .given .1) ∙ c .before .before .before .before .check-table .ensures) in
+    let told = c .before .before in let t = told .before .before in let S = t .before .before in
+    let z = rw (toZ-ofZ (S .fits .first), toZ-ofZ (S .fits .last)) at (sym (told .f .given .1) ∙ t .check-table .ensures) in
     read-refused z (c .refusal-in .ensures)
 
 same-length : tie.Need-same-length
@@ -37,8 +37,8 @@ same-length c = search needs
 
 returns-2 : tie.Need-returns-2
 returns-2 c =
-    let S = c .before .before .before .before .before .before .before in let a = S .args in
-    let z = rw (toZ-ofZ (S .fits .first), toZ-ofZ (S .fits .last)) at (sym (c .before .before .before .enum-told .given .1) ∙ c .before .before .before .before .before .check-table .ensures) in
+    let told = c .before .before .before in let t = told .before .before in let S = t .before .before in let a = S .args in
+    let z = rw (toZ-ofZ (S .fits .first), toZ-ofZ (S .fits .last)) at (sym (told .enum-told .given .1) ∙ t .check-table .ensures) in
     read-accepted (first-accepts (readTable (a .first) (a .last) (a .points) (a .body .now) (length (a .out .now))) z)
     (rw (toZ-ofZ (S .fits .first), toZ-ofZ (S .fits .last)) at (c .before .store-table .ensures))
 

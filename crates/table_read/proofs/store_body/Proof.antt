@@ -1,3 +1,4 @@
+-- `table_read::store_body` meets its contract: the pass stores what an accepted body says.
 use mathlib.Core.Path.{refl}
 use borrow.Author.Needs.{needs}
 use Rattle.alphabet_spec.specs.Entries.{table}

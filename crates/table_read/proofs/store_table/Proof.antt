@@ -1,3 +1,4 @@
+-- `table_read::store_table` meets its contract: a table that is accepted has a legal frame.
 use mathlib.Core.Path.{sym, _∙_}
 use borrow.Author.Needs.{needs}
 use mir.Facts.{toZ-ofZ}
@@ -17,13 +18,14 @@ enum-known-fr c = search needs
 
 store-body-requires : tie.Need-store-body-requires
 store-body-requires c κs =
-    let S = c .before .before .before .before .before .before in
-    let z = rw (toZ-ofZ (S .fits .first), toZ-ofZ (S .fits .last)) at (sym (c .before .before .before .before .new .ensures) ∙ c .before .before .fr .given .1) in
+    let legal = c .before .before in let framed = legal .before .before in let S = framed .before .before in
+    let z = rw (toZ-ofZ (S .fits .first), toZ-ofZ (S .fits .last)) at (sym (framed .new .ensures) ∙ legal .fr .given .1) in
     let g = framed-legal _ _ _ z in (g .sound, accepts-body _ _ _ _ _ g (S .pre) .1)
 
 returns : tie.Need-returns
 returns c =
-    let S = c .before .before .before .before in let z = rw (toZ-ofZ (S .fits .first), toZ-ofZ (S .fits .last)) at (sym (c .before .before .new .ensures) ∙ c .enum-told .given .1) in
+    let framed = c .before .before in let S = framed .before .before in
+    let z = rw (toZ-ofZ (S .fits .first), toZ-ofZ (S .fits .last)) at (sym (framed .new .ensures) ∙ c .enum-told .given .1) in
     accepts-not-outside _ _ _ _ _ (framed-outside _ _ _ z) (S .pre)
 
 same-length : tie.Need-same-length
@@ -31,8 +33,8 @@ same-length c = search needs
 
 returns-2 : tie.Need-returns-2
 returns-2 c =
-    let S = c .before .before .before .before .before .before .before .before in
-    let z = rw (toZ-ofZ (S .fits .first), toZ-ofZ (S .fits .last)) at (sym (c .before .before .before .before .before .before .new .ensures) ∙ c .before .before .before .before .fr .given .1) in
+    let legal = c .before .before .before .before in let framed = legal .before .before in let S = framed .before .before in
+    let z = rw (toZ-ofZ (S .fits .first), toZ-ofZ (S .fits .last)) at (sym (framed .new .ensures) ∙ legal .fr .given .1) in
     rw (accepts-body _ _ _ _ _ (framed-legal _ _ _ z) (S .pre) .0) (c .before .store-body .ensures)
 
 pub store-table-spec : {M : Type 1} → statement M

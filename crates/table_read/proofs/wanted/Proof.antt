@@ -1,3 +1,4 @@
+-- `table_read::wanted` meets its contract: one case a form.
 use mathlib.Core.Path.{refl}
 use Rattle.table_read.proofs.wanted.Statement.{statement}
 use Rattle.table_read.proofs.wanted.Tie as tie

@@ -1,0 +1,49 @@
+-- The seven records and the six numbers in the order that 25 lists (01, "The file"). Assumes nothing.
+use mathlib.Core.List.{List, [], _∷_}
+use Prim.Native.Nat.{ℕ}
+use lib.ListN.{getD}
+use Rattle.file_spec.specs.declared.Span.{Span}
+use Rattle.file_spec.specs.declared.Needed.{Needed}
+use Rattle.file_spec.specs.declared.Decimal.{Decimal}
+use Rattle.file_spec.specs.declared.Figures.{Figures}
+use Rattle.file_spec.specs.declared.Figures.the-variants as figures
+use Rattle.file_spec.specs.Figures.{decimalIn, countIn, withDecimal, withCount}
+use Rattle.file_spec.specs.Texts.{markOf, XFACTOR, YFACTOR, FIRSTX, LASTX, NPOINTS, FIRSTY, XYDATA}
+
+-- their names
+abbrev pub NAMES : List (List ℕ)
+NAMES = XFACTOR ∷ YFACTOR ∷ FIRSTX ∷ LASTX ∷ NPOINTS ∷ FIRSTY ∷ XYDATA ∷ []
+
+-- the name of the k-th
+abbrev pub nameAt : ℕ → List ℕ
+nameAt k = getD NAMES k []
+
+-- no text
+abbrev pub none : Span
+none = record { from = 0; to = 0 }
+
+-- their texts, each under its name
+abbrev pub neededOf : List Span → Needed
+neededOf l =
+    record {
+      xfactor = getD l 0 none;
+      yfactor = getD l 1 none;
+      firstx = getD l 2 none;
+      lastx = getD l 3 none;
+      npoints = getD l 4 none;
+      firsty = getD l 5 none;
+      xydata = getD l 6 none;
+    }
+
+-- 26 from NPOINTS on, after the numbers before it
+unfoldable pub fromNpoints : List ℕ → Needed → Decimal → Decimal → Decimal → Decimal → Figures
+fromNpoints s t xf yf fx lx =
+    withCount (markOf s (t .npoints)) (countIn s (t .npoints)) (λ n.
+    withDecimal (markOf s (t .firsty)) (decimalIn s (t .firsty)) (λ fy.
+    figures.All (record { xfactor = xf; yfactor = yf; firstx = fx; lastx = lx; npoints = n; firsty = fy })))
+
+-- 26 from FIRSTX on, after the factors
+unfoldable pub fromFirstx : List ℕ → Needed → Decimal → Decimal → Figures
+fromFirstx s t xf yf =
+    withDecimal (markOf s (t .firstx)) (decimalIn s (t .firstx)) (λ fx.
+    withDecimal (markOf s (t .lastx)) (decimalIn s (t .lastx)) (λ lx. fromNpoints s t xf yf fx lx))
