@@ -21,19 +21,19 @@ use text::byte_at;
 fn spacing(b: u8, c: u8) -> bool
     ensures { λ r. ⌜ r ≡ spacing b c ⌝ }
 {
-    if b == 32 {
+    if b == b' ' {
         return true;
     }
-    if b == 9 {
+    if b == b'\t' {
         return true;
     }
-    if b == 10 {
+    if b == b'\n' {
         return true;
     }
-    if b != 13 {
+    if b != b'\r' {
         return false;
     }
-    c == 10
+    c == b'\n'
 }
 
 // The first place from here on with no blank and no line end.
@@ -100,7 +100,7 @@ fn list_line(s: &[u8], from: usize) -> Listed
     while i < s.len() {
         let b = s[i];
         let next = i + 1;
-        if b == 10 {
+        if b == b'\n' {
             return list_ended(k, next);
         }
         let n = list_step(b, byte_at(s, next), k);

@@ -64,7 +64,7 @@ pub fn past_space(s: &[u8], at: usize) -> usize
     while i < s.len() {
         let next = i + 1;
         if inside {
-            inside = s[i] != 10;
+            inside = s[i] != b'\n';
             i = next;
         } else if is_space(s[i]) {
             i = next;

@@ -30,10 +30,10 @@ pub fn name_end(s: &[u8], at: usize) -> usize
 {
     let mut i = at;
     while i < s.len() {
-        if s[i] == 61 {
+        if s[i] == b'=' {
             return i;
         }
-        if s[i] == 10 {
+        if s[i] == b'\n' {
             return i;
         }
         i += 1;
@@ -46,14 +46,14 @@ fn lf_near(s: &[u8], i: usize) -> bool
     requires { ⌜ i + 8 ≤ length (now s) ⌝ }
     ensures { λ r. ⌜ Within (now (s .entry)) i (i + 8) r ⌝ }
 {
-    (s[i] == 10)
-        | (s[i + 1] == 10)
-        | (s[i + 2] == 10)
-        | (s[i + 3] == 10)
-        | (s[i + 4] == 10)
-        | (s[i + 5] == 10)
-        | (s[i + 6] == 10)
-        | (s[i + 7] == 10)
+    (s[i] == b'\n')
+        | (s[i + 1] == b'\n')
+        | (s[i + 2] == b'\n')
+        | (s[i + 3] == b'\n')
+        | (s[i + 4] == b'\n')
+        | (s[i + 5] == b'\n')
+        | (s[i + 6] == b'\n')
+        | (s[i + 7] == b'\n')
 }
 
 // The place of the first LF from a place on, where there is one: the text's end is not asked for.
@@ -62,7 +62,7 @@ fn lf_ahead(s: &[u8], at: usize) -> usize
     ensures { λ r. ⌜ LineEnd (now (s .entry)) at r ⌝ }
 {
     let mut i = at;
-    while s[i] != 10 {
+    while s[i] != b'\n' {
         i += 1;
     }
     i
@@ -75,7 +75,7 @@ fn rest_of_line(s: &[u8], at: usize) -> usize
 {
     let mut i = at;
     while i < s.len() {
-        if s[i] == 10 {
+        if s[i] == b'\n' {
             return i;
         }
         i += 1;
@@ -118,14 +118,14 @@ pub fn is_hashed(s: &[u8], at: usize) -> bool
     requires { ⌜ at < length (now s) ⌝ }
     ensures { λ r. ⌜ r ≡ hashed (now (s .entry)) at ⌝ }
 {
-    if s[at] != 35 {
+    if s[at] != b'#' {
         return false;
     }
     let next = at + 1;
     if next >= s.len() {
         return false;
     }
-    s[next] == 35
+    s[next] == b'#'
 }
 
 // The place of the next `##` that is first on a line after this one, or the end.
@@ -158,7 +158,7 @@ pub fn label_here(s: &[u8], at: usize) -> Label
 {
     let start = at + 2;
     let eq = name_end(s, start);
-    if byte_at(s, eq) != 61 {
+    if byte_at(s, eq) != b'=' {
         return Label::Bad { mark: at };
     }
     if name_length(s, start, eq) > LONGEST_NAME {

@@ -20,10 +20,10 @@ fn is_ignored(b: u8) -> bool
 fn upper_of(b: u8) -> u8
     ensures { λ r. ⌜ r ≡ upper b ⌝ }
 {
-    if b < 97 {
+    if b < b'a' {
         return b;
     }
-    if b > 122 {
+    if b > b'z' {
         return b;
     }
     b - 32
