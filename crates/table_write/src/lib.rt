@@ -2,6 +2,7 @@
 ghost use mathlib.Core.Path.{_≡_};
 ghost use Prim.Native.Nat.{_-_, _<_};
 ghost use lib.ListN.{length};
+ghost use Rattle.table_spec.specs.declared.Style.the-variants.{Difdup};
 ghost use Rattle.table_spec.specs.Writing.{lines-of};
 ghost use Rattle.frame.specs.Legal.{Sound};
 ghost use Rattle.table_text.specs.Pieces.{Put, headOf, ordinates};
@@ -19,7 +20,7 @@ use text_lines::turn;
 // The whole text from the start of the lent bytes. Its length.
 fn pass(ys: &[i32], text: &mut [u8], fr: Frame) -> usize
     requires { ⌜ Sound fr × (length (now ys) ≡ fr .points) ⌝ }
-    ensures { λ r. ⌜ Put (now (text .entry)) 0 (now (text .exit)) r (lines-of (headOf fr) (ordinates (now (ys .entry)))) ⌝ }
+    ensures { λ r. ⌜ Put (now (text .entry)) 0 (now (text .exit)) r (lines-of Difdup (headOf fr) (ordinates (now (ys .entry)))) ⌝ }
 {
     let n = ys.len();
     let mut s = begin(text, fr);
@@ -34,7 +35,7 @@ fn pass(ys: &[i32], text: &mut [u8], fr: Frame) -> usize
 // Writing in a legal frame: refusals 2, 14 and 15, or the text.
 fn write_framed(fr: Frame, ordinates: &[i32], text: &mut [u8]) -> TableWritten
     requires { ⌜ Sound fr ⌝ }
-    ensures { λ r. ⌜ FramedAnswer fr (now (ordinates .entry)) (now (text .entry)) (now (text .exit)) r ⌝ }
+    ensures { λ r. ⌜ FramedAnswer Difdup fr (now (ordinates .entry)) (now (text .entry)) (now (text .exit)) r ⌝ }
 {
     let n = fr.points;
     if ordinates.len() < n {
@@ -60,7 +61,7 @@ pub fn write_table(
     ordinates: &[i32],
     text: &mut [u8],
 ) -> TableWritten
-    ensures { λ r. ⌜ Answered first last points (now (ordinates .entry)) (now (text .entry)) (now (text .exit)) r ⌝ }
+    ensures { λ r. ⌜ Answered Difdup first last points (now (ordinates .entry)) (now (text .entry)) (now (text .exit)) r ⌝ }
 {
     let framed = Frame::new(first, last, points);
     match framed {

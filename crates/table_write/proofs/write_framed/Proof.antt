@@ -7,12 +7,13 @@ use Rattle.table_text.proofs.AnswerSteps.{too-few, too-near, too-long, in-room}
 use borrow.Author.Needs.{needs}
 use Rattle.table_write.proofs.write_framed.Statement.{statement}
 use Rattle.table_write.proofs.write_framed.Tie as tie
+use Rattle.table_spec.specs.declared.Style.the-variants.{Difdup}
 
 refused-requires : tie.Need-refused-requires
 refused-requires c κs = search needs
 
 returns : tie.Need-returns
-returns c = let a = c .before .before .before .args in too-few (a .fr) (a .ordinates .now) (a .text .now) (c .before .if1 .taken) (c .refused .ensures) refl
+returns c = let a = c .before .before .before .args in too-few Difdup (a .fr) (a .ordinates .now) (a .text .now) (c .before .if1 .taken) (c .refused .ensures) refl
 
 sub-steps : tie.Need-sub-steps
 sub-steps c = search needs
@@ -24,7 +25,7 @@ refused-requires-2 : tie.Need-refused-requires-2
 refused-requires-2 c κs = search needs
 
 returns-2 : tie.Need-returns-2
-returns-2 c = let a = c .before .before .before .before .before .args in too-near (a .fr) (a .ordinates .now) (a .text .now) (c .before .before .before .if1 .left)
+returns-2 c = let a = c .before .before .before .before .before .args in too-near Difdup (a .fr) (a .ordinates .now) (a .text .now) (c .before .before .before .if1 .left)
     (omega (arith, c .before .if2 .taken, c .before .before .distance .ensures)) (c .refused2 .ensures) refl
 
 slice-aggregate-ys : tie.Need-slice-aggregate-ys
@@ -48,7 +49,7 @@ returns-3 : tie.Need-returns-3
 returns-3 c =
     let b = c .before .before .before .before .before .before .before in
     let a = b .before .before .before .before .args in
-    in-room (a .fr) (a .ordinates .now) (a .text .now) (b .before .before .if1 .left) (omega (arith, b .if2 .left, b .before .distance .ensures))
+    in-room Difdup (a .fr) (a .ordinates .now) (a .text .now) (b .before .before .if1 .left) (omega (arith, b .if2 .left, b .before .distance .ensures))
     (leb-true _ _ (sym (c .before .before .before .before .before .fits2 .ensures) ∙ c .before .before .before .before .if3 .taken)) (c .before .before .pass .ensures) refl
 
 refused-requires-3 : tie.Need-refused-requires-3
@@ -58,7 +59,7 @@ returns-4 : tie.Need-returns-4
 returns-4 c =
     let b = c .before .before .before .before in
     let a = b .before .before .before .before .args in
-    too-long (a .fr) (a .ordinates .now) (a .text .now) (b .before .before .if1 .left) (omega (arith, b .if2 .left, b .before .distance .ensures))
+    too-long Difdup (a .fr) (a .ordinates .now) (a .text .now) (b .before .before .if1 .left) (omega (arith, b .if2 .left, b .before .distance .ensures))
     (leb-false _ _ (sym (c .before .before .fits2 .ensures) ∙ c .before .if3 .left)) (c .refused3 .ensures) refl
 
 pub write-framed-spec : {M : Type 1} → statement M

@@ -6,6 +6,7 @@ use Rattle.table_text.proofs.AnswerSteps.{outside, inside}
 use borrow.Author.Needs.{needs}
 use Rattle.table_write.proofs.write_table.Statement.{statement}
 use Rattle.table_write.proofs.write_table.Tie as tie
+use Rattle.table_spec.specs.declared.Style.the-variants.{Difdup}
 
 new-requires : tie.Need-new-requires
 new-requires c κs = search needs
@@ -24,14 +25,14 @@ write-framed-requires c κs = let f = c .before .before .before .before .before 
     (sym (rw (toZ-ofZ (f .first), toZ-ofZ (f .last)) at (c .before .before .before .before .new .ensures)) ∙ c .before .before .framed .given .1) .sound
 
 returns : tie.Need-returns
-returns c = let f = c .before .before .before .before .before .fits in outside _ _ _ (c .before .before .before .before .before .args .ordinates .now)
+returns c = let f = c .before .before .before .before .before .fits in outside Difdup _ _ _ (c .before .before .before .before .before .args .ordinates .now)
     (sym (rw (toZ-ofZ (f .first), toZ-ofZ (f .last)) at (c .before .before .before .new .ensures)) ∙ c .before .enum-told .given .1) (c .refused .ensures) refl
 
 same-length : tie.Need-same-length
 same-length c = search needs
 
 returns-2 : tie.Need-returns-2
-returns-2 c = let f = c .before .before .before .before .before .before .before .before .before .fits in inside _ _ _
+returns-2 c = let f = c .before .before .before .before .before .before .before .before .before .fits in inside Difdup _ _ _
     (c .before .before .before .before .before .before .before .before .before .args .ordinates .now) _
     (sym (rw (toZ-ofZ (f .first), toZ-ofZ (f .last)) at (c .before .before .before .before .before .before .before .new .ensures))
     ∙ c .before .before .before .before .before .framed .given .1) (c .before .before .write-framed .ensures)

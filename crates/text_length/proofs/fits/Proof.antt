@@ -6,6 +6,7 @@ use Rattle.table_text.proofs.AnswerSteps.{always-room}
 use borrow.Author.Needs.{needs}
 use Rattle.text_length.proofs.fits.Statement.{statement}
 use Rattle.text_length.proofs.fits.Tie as tie
+use Rattle.table_spec.specs.declared.Style.the-variants.{Difdup}
 
 mul-if1 : tie.Need-mul-if1
 mul-if1 c = search needs
@@ -14,7 +15,7 @@ add-if1 : tie.Need-add-if1
 add-if1 c = search needs
 
 returns : tie.Need-returns
-returns c = let s = c .before in let p = s .pre in sym (always-room (s .args .fr) (s .args .ys .now) (p .0) (p .1) (p .2) (c .if1 .taken))
+returns c = let s = c .before in let p = s .pre in sym (always-room Difdup (s .args .fr) (s .args .ys .now) (p .0) (p .1) (p .2) (c .if1 .taken))
 
 array-borrow-prefix-none : tie.Need-array-borrow-prefix-none
 array-borrow-prefix-none c = search needs
