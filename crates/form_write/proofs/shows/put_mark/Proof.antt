@@ -1,0 +1,26 @@
+use native.Mathlib.Omega.{arith}
+use Rattle.form_write.proofs.ShowSteps.{put-marked, put-unmarked}
+use borrow.Author.Needs.{needs}
+use Rattle.form_write.proofs.shows.put_mark.Statement.{statement}
+use Rattle.form_write.proofs.shows.put_mark.Tie as tie
+use Rattle.form_write.proofs.shows.put_mark.Reads as reads
+use Rattle.form_write.proofs.shows.put_mark.Lts as lts
+use Rattle.table_text.proofs.digits.put.Reads as put-reads
+
+put-requires : tie.Need-put-requires
+put-requires c κs = search needs
+
+add-result : tie.Need-add-result
+add-result c = search needs
+
+same-length : tie.Need-same-length
+same-length c = search needs
+
+returns : tie.Need-returns
+returns c = (put-marked _ _ _ (c .before .before .before .before .if1 .taken) (c .before .before .put .ensures), omega arith)
+
+returns-2 : tie.Need-returns-2
+returns-2 c = (put-unmarked _ _ _ _ (c .if1 .left), omega arith)
+
+pub put-mark-spec : {M : Type 1} → statement M
+put-mark-spec = tie.close (tie.spec put-requires add-result same-length returns returns-2)
