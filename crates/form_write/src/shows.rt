@@ -108,17 +108,20 @@ fn put_mark(out: &mut [u8], at: usize, yes: bool, b: u8) -> usize
     at
 }
 
-// A value. The place after it.
+// A value; where nothing is lent it is only measured. The place after it.
 pub fn put_shown(out: &mut [u8], at: usize, v: Shown) -> usize
     requires { ⌜ Shows (spelled (v .space) (v .signed) (v .base) (v .size)) v × (at < 2 ^ 60) ⌝ }
     ensures { λ r. ⌜ Put (now (out .entry)) at (now (out .exit)) r (spelled (v .space) (v .signed) (v .base) (v .size)) × (r ≤ at + 12) ⌝ }
 {
+    if out.len() == 0 {
+        return at + v.width;
+    }
     let space = v.space;
     let signed = v.signed;
     let base = v.base;
     let size = v.size;
     let digits = v.digits;
-    let a = put_mark(out, at, space, 32);
-    let b = put_mark(out, a, signed, 45);
+    let a = put_mark(out, at, space, b' ');
+    let b = put_mark(out, a, signed, b'-');
     put_number(out, b, base, size, digits)
 }

@@ -7,7 +7,6 @@ use Rattle.terms.specs.Logic.{pick, both}
 use Rattle.alphabet_spec.specs.Kinds.{sqz, dif, dup}
 use Rattle.table_spec.specs.Frame.{zero-ordinate}
 use Rattle.table_spec.specs.Values.{Form, Own, Gap, By, Dup}
-use Rattle.table_spec.specs.Numerals.{numeral}
 use Rattle.table_spec.specs.declared.Style.{Style}
 use Rattle.table_spec.specs.declared.Style.the-variants.{Affn, Pac, Sqz, Difdup}
 use Rattle.table_spec.specs.Numerals.{top, low, numeral}

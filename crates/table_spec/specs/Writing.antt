@@ -10,7 +10,6 @@ use Rattle.terms.specs.Logic.{pick}
 use Rattle.table_spec.specs.Frame.{frame-legal, abscissa, ordinate-of, apart, nearest}
 use Rattle.table_spec.specs.Values.{isDif}
 use Rattle.table_spec.specs.Numerals.{headText}
-use Rattle.table_spec.specs.Groups.{form, sqzText, group}
 use Rattle.table_spec.specs.declared.Style.{Style}
 use Rattle.table_spec.specs.Groups.{form, sqzText, seen-after, more-of, group}
 

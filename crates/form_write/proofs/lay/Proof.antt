@@ -1,3 +1,4 @@
+-- `form_write::lay` meets its contract: the pass with the marks of a form makes its text.
 use native.Mathlib.Omega.{arith}
 use mathlib.Core.List.{map}
 use lib.ListN.{length-map}
@@ -7,10 +8,6 @@ use Rattle.form_write.proofs.FormSteps.{marks-based, form-text}
 use borrow.Author.Needs.{needs}
 use Rattle.form_write.proofs.lay.Statement.{statement}
 use Rattle.form_write.proofs.lay.Tie as tie
-use Rattle.form_write.proofs.lay.Reads as reads
-use Rattle.form_write.proofs.lay.Lts as lts
-use Rattle.form_write.proofs.pass.Reads as pass-reads
-use Rattle.form_write.proofs.shows.marks_of.Reads as marks-of-reads
 
 marks-of-requires : tie.Need-marks-of-requires
 marks-of-requires c κs = search needs

@@ -1,3 +1,4 @@
+-- `form_write::pass` meets its contract: the first head, each value in its turn, and the last line's end.
 use native.Mathlib.Omega.{arith}
 use Prim.Native.Nat.{_-_}
 use mathlib.Core.List.{map}
@@ -10,11 +11,6 @@ use Rattle.form_write.specs.Lines.{Going}
 use Rattle.form_write.proofs.LineSteps.{starts, goes, going-near, finish}
 use Rattle.form_write.proofs.pass.Statement.{statement}
 use Rattle.form_write.proofs.pass.Tie as tie
-use Rattle.form_write.proofs.pass.Reads as reads
-use Rattle.form_write.proofs.pass.Lts as lts
-use Rattle.form_write.proofs.lines.turn.Reads as turn-reads
-use Rattle.table_text.proofs.digits.put_end.Reads as put-end-reads
-use Rattle.table_text.proofs.heads.put_head.Reads as put-head-reads
 
 abbrev Inv-loop : tie.InvT-loop
 Inv-loop m ys text₀ fr n head s₀ i₀ text s i = Going (shown m) (headOf fr) (map ordinate-of ys) text₀ s₀ text s i

@@ -1,14 +1,10 @@
+-- `form_write::write_form` meets its contract: the forms in full here, DIFDUP by `write_table`.
 use mathlib.Core.Path.{sym, _∙_}
 use mir.Facts.{toZ-ofZ}
 use Rattle.form_write.proofs.FormSteps.{only-difdup}
 use borrow.Author.Needs.{needs}
 use Rattle.form_write.proofs.write_form.Statement.{statement}
 use Rattle.form_write.proofs.write_form.Tie as tie
-use Rattle.form_write.proofs.write_form.Reads as reads
-use Rattle.form_write.proofs.write_form.Lts as lts
-use Rattle.form_write.proofs.is_full.Reads as is-full-reads
-use Rattle.form_write.proofs.write_plain.Reads as write-plain-reads
-use Rattle.table_write.proofs.write_table.Reads as write-table-reads
 
 is-full-requires : tie.Need-is-full-requires
 is-full-requires c κs = search needs

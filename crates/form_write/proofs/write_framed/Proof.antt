@@ -1,3 +1,4 @@
+-- `form_write::write_framed` meets its contract: 2, 14, 15, or the text.
 use mathlib.Core.Path.{refl, sym, _∙_}
 use native.Mathlib.Omega.{arith}
 use lib.Seq.{length-take-le}
@@ -6,12 +7,6 @@ use Rattle.table_text.proofs.AnswerSteps.{too-few, too-near, too-long, in-room}
 use borrow.Author.Needs.{needs}
 use Rattle.form_write.proofs.write_framed.Statement.{statement}
 use Rattle.form_write.proofs.write_framed.Tie as tie
-use Rattle.form_write.proofs.write_framed.Reads as reads
-use Rattle.form_write.proofs.write_framed.Lts as lts
-use Rattle.form_write.proofs.fits.Reads as fits-reads
-use Rattle.form_write.proofs.lay.Reads as lay-reads
-use Rattle.table_text.proofs.refused.Reads as refused-reads
-use Rattle.frame.proofs.distance.Reads as distance-reads
 
 refused-requires : tie.Need-refused-requires
 refused-requires c κs = search needs

@@ -1,3 +1,4 @@
+-- `form_write::write_plain` meets its contract: 1 outside the frame's limits, and else what the frame gives.
 use mathlib.Core.Path.{refl, sym, _∙_}
 use mir.Facts.{toZ-ofZ}
 use Rattle.frame.specs.FrameLaws.{framed-legal}
@@ -5,11 +6,6 @@ use Rattle.table_text.proofs.AnswerSteps.{outside, inside}
 use borrow.Author.Needs.{needs}
 use Rattle.form_write.proofs.write_plain.Statement.{statement}
 use Rattle.form_write.proofs.write_plain.Tie as tie
-use Rattle.form_write.proofs.write_plain.Reads as reads
-use Rattle.form_write.proofs.write_plain.Lts as lts
-use Rattle.frame.proofs.Frame.new.Reads as new-reads
-use Rattle.form_write.proofs.write_framed.Reads as write-framed-reads
-use Rattle.table_text.proofs.refused.Reads as refused-reads
 
 new-requires : tie.Need-new-requires
 new-requires c κs = search needs

@@ -1,3 +1,4 @@
+-- `form_write::lines::turn` meets its contract: one value more, on this line if it fits, else on a new one.
 use native.Mathlib.Omega.{arith}
 use mathlib.Core.List.{map}
 use lib.ListN.{length-map}
@@ -9,13 +10,6 @@ use Rattle.form_write.proofs.LineSteps.{turn-fits, turn-breaks}
 use borrow.Author.Needs.{needs}
 use Rattle.form_write.proofs.lines.turn.Statement.{statement}
 use Rattle.form_write.proofs.lines.turn.Tie as tie
-use Rattle.form_write.proofs.lines.turn.Reads as reads
-use Rattle.form_write.proofs.lines.turn.Lts as lts
-use Rattle.form_write.proofs.shows.put_shown.Reads as put-shown-reads
-use Rattle.form_write.proofs.shows.show.Reads as show-reads
-use Rattle.signed.proofs.ordinate_at.Reads as ordinate-at-reads
-use Rattle.table_text.proofs.digits.put_end.Reads as put-end-reads
-use Rattle.table_text.proofs.heads.put_head.Reads as put-head-reads
 
 ordinate-at-requires : tie.Need-ordinate-at-requires
 ordinate-at-requires c κs = search needs

@@ -1,10 +1,9 @@
+-- `form_write::shows::marks_of` meets its contract: the marks of each form.
 use mathlib.Core.Path.{refl}
 use Rattle.form_write.specs.Shows.{marks-of}
 use borrow.Author.Needs.{needs}
 use Rattle.form_write.proofs.shows.marks_of.Statement.{statement}
 use Rattle.form_write.proofs.shows.marks_of.Tie as tie
-use Rattle.form_write.proofs.shows.marks_of.Reads as reads
-use Rattle.form_write.proofs.shows.marks_of.Lts as lts
 
 enum-told : tie.Need-enum-told
 enum-told c = search needs

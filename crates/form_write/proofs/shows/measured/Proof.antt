@@ -1,11 +1,8 @@
+-- `form_write::shows::measured` meets its contract: the bytes of a value are those of its marks and digits.
 use Rattle.form_write.proofs.ShowSteps.{shows-parts}
 use borrow.Author.Needs.{needs}
 use Rattle.form_write.proofs.shows.measured.Statement.{statement}
 use Rattle.form_write.proofs.shows.measured.Tie as tie
-use Rattle.form_write.proofs.shows.measured.Reads as reads
-use Rattle.form_write.proofs.shows.measured.Lts as lts
-use Rattle.form_write.proofs.shows.mark_width.Reads as mark-width-reads
-use Rattle.table_text.proofs.digits.further_digits.Reads as further-digits-reads
 
 further-digits-requires : tie.Need-further-digits-requires
 further-digits-requires c κs = search needs

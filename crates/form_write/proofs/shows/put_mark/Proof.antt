@@ -1,11 +1,9 @@
+-- `form_write::shows::put_mark` meets its contract: a byte, or none.
 use native.Mathlib.Omega.{arith}
 use Rattle.form_write.proofs.ShowSteps.{put-marked, put-unmarked}
 use borrow.Author.Needs.{needs}
 use Rattle.form_write.proofs.shows.put_mark.Statement.{statement}
 use Rattle.form_write.proofs.shows.put_mark.Tie as tie
-use Rattle.form_write.proofs.shows.put_mark.Reads as reads
-use Rattle.form_write.proofs.shows.put_mark.Lts as lts
-use Rattle.table_text.proofs.digits.put.Reads as put-reads
 
 put-requires : tie.Need-put-requires
 put-requires c κs = search needs

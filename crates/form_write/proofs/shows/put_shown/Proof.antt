@@ -1,13 +1,10 @@
+-- `form_write::shows::put_shown` meets its contract: the marks and the number, one after the other; where nothing is lent, their length.
 use native.Mathlib.Omega.{arith}
 use Rattle.form_write.specs.Shows.{spelled}
 use Rattle.table_text.specs.Pieces.{put-then}
 use borrow.Author.Needs.{needs}
 use Rattle.form_write.proofs.shows.put_shown.Statement.{statement}
 use Rattle.form_write.proofs.shows.put_shown.Tie as tie
-use Rattle.form_write.proofs.shows.put_shown.Reads as reads
-use Rattle.form_write.proofs.shows.put_shown.Lts as lts
-use Rattle.form_write.proofs.shows.put_mark.Reads as put-mark-reads
-use Rattle.table_text.proofs.digits.put_number.Reads as put-number-reads
 
 put-mark-requires : tie.Need-put-mark-requires
 put-mark-requires c κs = search needs

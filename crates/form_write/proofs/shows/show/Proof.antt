@@ -1,10 +1,8 @@
+-- `form_write::shows::show` meets its contract: a missing ordinate, one that is not negative, one that is.
 use Rattle.form_write.proofs.ShowSteps.{shown-missing, shown-up, shown-down}
 use borrow.Author.Needs.{needs}
 use Rattle.form_write.proofs.shows.show.Statement.{statement}
 use Rattle.form_write.proofs.shows.show.Tie as tie
-use Rattle.form_write.proofs.shows.show.Reads as reads
-use Rattle.form_write.proofs.shows.show.Lts as lts
-use Rattle.form_write.proofs.shows.measured.Reads as measured-reads
 
 measured-requires : tie.Need-measured-requires
 measured-requires c κs = search needs
