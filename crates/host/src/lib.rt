@@ -51,7 +51,7 @@ fn write_style(
 ) -> u64
     ensures { λ r. ⌜ TextTold style first last points (now (ordinates .entry)) (now (text .entry)) (now (text .exit)) (now (answer .exit)) r ⌝ }
 {
-    match form_write::write_form(style, first, last, points, ordinates, text) {
+    match table_write::write_form(style, first, last, points, ordinates, text) {
         TableWritten::Length(n) => {
             *answer = [0, n as u64];
             0

@@ -271,7 +271,7 @@ fn write_form(style: Style, a: Asked, ys: &[i32], text: &mut [u8]) -> TableWritt
     let room = a.room;
     if count <= ys.len() {
         if room <= text.len() {
-            return form_write::write_form(
+            return table_write::write_form(
                 style,
                 a.first,
                 a.last,

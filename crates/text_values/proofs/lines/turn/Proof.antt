@@ -1,0 +1,73 @@
+-- `text_values::lines::turn` meets its contract: one value more, on this line if it fits, else on a new one.
+use native.Mathlib.Omega.{arith}
+use mathlib.Core.List.{map}
+use lib.ListN.{length-map}
+use Rattle.table_spec.specs.Frame.{ordinate-of}
+use Rattle.table_text.specs.Pieces.{headOf, put-as}
+use Rattle.text_values.specs.Shows.{shown}
+use Rattle.text_values.proofs.ShowSteps.{shows-own}
+use Rattle.text_values.proofs.LineSteps.{turn-fits, turn-breaks}
+use borrow.Author.Needs.{needs}
+use Rattle.text_values.proofs.lines.turn.Statement.{statement}
+use Rattle.text_values.proofs.lines.turn.Tie as tie
+
+ordinate-at-requires : tie.Need-ordinate-at-requires
+ordinate-at-requires c κs = search needs
+
+show-requires : tie.Need-show-requires
+show-requires c κs = search needs
+
+add-all : tie.Need-add-all
+add-all c = search needs
+
+add-given : tie.Need-add-given
+add-given c = search needs
+
+put-shown-requires : tie.Need-put-shown-requires
+put-shown-requires c κs = (shows-own (c .before .before .show .ensures), omega (arith, c .before .before .before .before .before .pre .4))
+
+same-length : tie.Need-same-length
+same-length c = search needs
+
+returns : tie.Need-returns
+returns c = let a = c .before .before .before .before .before .before .before .before .args in let p = c .before .before .before .before .before .before .before .before .pre in let v = c .before .before .before .before .before .show .ensures in
+    turn-fits (shown (a .m)) (headOf (a .fr)) (map ordinate-of (a .ys .now)) (a .s) (omega (arith, p .3, length-map (a .ys .now) ordinate-of))
+    (c .before .before .before .before .before .before .ordinate-at .ensures .0) (v .width-is) (v .slim) (p .5) (c .before .before .before .before .if1 .taken) (put-as (v .text) (c .before .before .put-shown .ensures .0))
+
+put-end-requires : tie.Need-put-end-requires
+put-end-requires c κs = search needs
+
+put-head-requires : tie.Need-put-head-requires
+put-head-requires c κs = search needs
+
+put-shown-requires-2 : tie.Need-put-shown-requires-2
+put-shown-requires-2 c κs = let e = c .before .before .before .before .before .before .before .put-end .ensures .next in (shows-own (c .before .before .before .before .before .before .before .before .before .before .show .ensures), omega (arith, c .before .before .before .before .before .before .before .before .before .before .before .before .before .pre .4, c .before .before .before .put-head .ensures .1))
+
+sub-bytes : tie.Need-sub-bytes
+sub-bytes c = search needs
+
+same-length-2 : tie.Need-same-length-2
+same-length-2 c = search needs
+
+returns-2 : tie.Need-returns-2
+returns-2 c = let a = c .before .before .before .before .before .before .before .before .before .before .before .before .before .before .before .before .args in let p = c .before .before .before .before .before .before .before .before .before .before .before .before .before .before .before .before .pre in let v = c .before .before .before .before .before .before .before .before .before .before .before .before .before .show .ensures in let h = c .before .before .before .before .before .before .put-head .ensures in
+    turn-breaks (shown (a .m)) (headOf (a .fr)) (map ordinate-of (a .ys .now)) (a .s) (omega (arith, p .3, length-map (a .ys .now) ordinate-of))
+    (c .before .before .before .before .before .before .before .before .before .before .before .before .before .before .ordinate-at .ensures .0) (v .width-is) (v .slim) (p .5) (c .before .before .before .before .before .before .before .before .before .before .before .before .if1 .left) (c .before .before .before .before .before .before .before .before .before .before .put-end .ensures) (h .0) (h .1) (put-as (v .text) (c .before .before .put-shown2 .ensures .0))
+
+pub turn-spec : {M : Type 1} → statement M
+turn-spec =
+    tie.close
+    (tie.spec
+    ordinate-at-requires
+    show-requires
+    add-all
+    add-given
+    put-shown-requires
+    same-length
+    returns
+    put-end-requires
+    put-head-requires
+    put-shown-requires-2
+    sub-bytes
+    same-length-2
+    returns-2)
