@@ -266,6 +266,45 @@ pub const TABLE: [u8; 256] = [
     240,
 ];
 
+// So many entries has a kind: an entry divided by it is the kind, and what is left the digit.
+pub const KIND: u64 = 16;
+
+// The first entry that is no digit's: a digit's is the digit itself.
+pub const PAST_DIGITS: u64 = 16;
+
+// The first entry of DIF, of 0; the other digits follow, and then DIF that is minus.
+pub const DIF: u64 = 32;
+
+// The first entry of DIF that is minus.
+pub const DIF_MINUS: u64 = 48;
+
+// The entry of `?`, a missing ordinate.
+pub const MISSING: u64 = 96;
+
+// The entry of a blank: space or tab.
+pub const BLANK: u64 = 112;
+
+// The entry of `+`.
+pub const PLUS: u64 = 128;
+
+// The entry of `-`.
+pub const MINUS: u64 = 144;
+
+// The entry of the point.
+pub const POINT: u64 = 160;
+
+// The entry of LF, which ends a line.
+pub const LF: u64 = 176;
+
+// The entry of CR, which ends a line with LF after it.
+pub const CR: u64 = 192;
+
+// The entry of `$`, two of which begin a comment.
+pub const DOLLAR: u64 = 208;
+
+// What stands at the end of the text: no byte has this entry.
+pub const END: u64 = 256;
+
 // A run of digits: its number, the place after it, and the entry that stands there.
 pub struct Run {
     pub v: u64,
@@ -287,7 +326,7 @@ pub fn entry_of(t: &[u8; 256], b: u8) -> u64
     wide(t[b as usize])
 }
 
-// The entry of the byte at a place, 256 at the end of the text.
+// The entry of the byte at a place, END at the end of the text.
 pub fn entry_at(t: &[u8; 256], s: &[u8], i: usize) -> u64
     requires { ⌜ now t ≡ table ⌝ }
     ensures { λ r. ⌜ r ≡ entryAt (now (s .entry)) i ⌝ }
@@ -295,7 +334,7 @@ pub fn entry_at(t: &[u8; 256], s: &[u8], i: usize) -> u64
     if i < s.len() {
         return entry_of(t, s[i]);
     }
-    256
+    END
 }
 
 // The digits from a place on, after the number v: at most `most` of them are taken, and as many as there are up to that (01, "A digit run is always as long as it can be").
@@ -306,7 +345,7 @@ pub fn digits(t: &[u8; 256], s: &[u8], from: usize, v: u64, most: usize) -> Run
     let mut w = v;
     let mut i = from;
     let mut e = entry_at(t, s, i);
-    while e < 16 {
+    while e < PAST_DIGITS {
         if i - from >= most {
             return Run { v: w, at: i, e };
         }

@@ -5,14 +5,12 @@ ghost use lib.ListN.{length};
 ghost use Rattle.alphabet_spec.specs.Entries.{table};
 ghost use Rattle.decimal_spec.specs.Number.{mantissaOf};
 ghost use Rattle.decimal.specs.Found.{MantissaFound, ExponentFound, PowerFound, UnsignedFound, NumberFound, CountFound};
+use alphabet::PAST_DIGITS;
 use decimal_spec::Count;
 use decimal_spec::Exponent;
 use decimal_spec::Mantissa;
 use decimal_spec::Number;
 use text::byte_at;
-
-// An entry of the byte table below this one is a digit's.
-const PAST_DIGITS: u64 = 16;
 
 // The most digits of a number, those after the point counted.
 const MOST_DIGITS: usize = 12;

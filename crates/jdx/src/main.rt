@@ -1,24 +1,32 @@
 // The program (01, "Bench samples"): reads a file from standard input and prints its table, or why it is refused. A read that fails or ends early ends the input: what came before it is the file.
 use file_spec::FileRead;
 use file_spec::FileTable;
+use report::INPUT;
+use report::OUTPUT;
 use terms::Refusal;
 
+// The most bytes that are read (01, "Bench samples").
+const LONGEST_INPUT: usize = 49152;
+
+// The most points that there is room for.
+const MOST_POINTS: usize = 4096;
+
 // `ok`, the points, F and L, and then each ordinate on a line.
-fn show(table: FileTable, out: &[i32; 4096]) {
-    io::write_all(1, b"ok ");
-    io::print_decimal(1, table.points as u64);
-    io::write_all(1, b" ");
+fn show(table: FileTable, out: &[i32; MOST_POINTS]) {
+    io::write_all(OUTPUT, b"ok ");
+    io::print_decimal(OUTPUT, table.points as u64);
+    io::write_all(OUTPUT, b" ");
     report::print_abscissa(table.first);
-    io::write_all(1, b" ");
+    io::write_all(OUTPUT, b" ");
     report::print_abscissa(table.last);
     report::end_line();
     show_points(out, table.points);
 }
 
 // The first n ordinates, a line each.
-fn show_points(out: &[i32; 4096], n: usize) {
+fn show_points(out: &[i32; MOST_POINTS], n: usize) {
     let mut i = 0;
-    while i < 4096 {
+    while i < MOST_POINTS {
         if i >= n {
             return;
         }
@@ -37,7 +45,7 @@ fn refuse(file: &[u8], r: Refusal) {
 
 // The answer to a file.
 fn answer(file: &[u8]) {
-    let mut out = [0i32; 4096];
+    let mut out = [0i32; MOST_POINTS];
     match file::read_file(file, &mut out) {
         FileRead::Accepted(table) => show(table, &out),
         FileRead::Refused(r) => refuse(file, r),
@@ -45,9 +53,9 @@ fn answer(file: &[u8]) {
 }
 
 fn main() {
-    let mut file = [0u8; 49153];
-    let n = io::read_full(0, &mut file);
-    if n > 49152 {
+    let mut file = [0u8; LONGEST_INPUT + 1];
+    let n = io::read_full(INPUT, &mut file);
+    if n > LONGEST_INPUT {
         refuse(&file, text::refusal_in(&file, 19, 0));
     } else {
         answer(&file[..n]);

@@ -1,18 +1,34 @@
 // What the programs print (01, "Bench samples"): ordinates, abscissas and refusals. What is printed is tested against stored output; nothing is claimed of it.
+use signed::ZERO_ORDINATE;
 use terms::Refusal;
+
+// Standard input.
+pub const INPUT: i32 = 0;
+
+// Standard output.
+pub const OUTPUT: i32 = 1;
+
+// Standard error.
+const ERRORS: i32 = 2;
+
+// Where zero stands on the scale of abscissas.
+const ZERO_ABSCISSA: u64 = 10000000000;
+
+// The first refusal that only a file can have.
+const FIRST_OF_FILES: u64 = 19;
 
 // A line's end.
 pub fn end_line() {
-    io::write_all(1, b"\n");
+    io::write_all(OUTPUT, b"\n");
 }
 
 // A number that stands so far above or below zero on its scale, with a sign if it is negative.
 fn print_scaled(u: u64, zero: u64) {
     if u < zero {
-        io::write_all(1, b"-");
-        io::print_decimal(1, zero - u);
+        io::write_all(OUTPUT, b"-");
+        io::print_decimal(OUTPUT, zero - u);
     } else {
-        io::print_decimal(1, u - zero);
+        io::print_decimal(OUTPUT, u - zero);
     }
 }
 
@@ -20,24 +36,24 @@ fn print_scaled(u: u64, zero: u64) {
 pub fn print_ordinate(y: i32) {
     let u = signed::ordinate_of(y);
     if u == 0 {
-        io::write_all(1, b"?");
+        io::write_all(OUTPUT, b"?");
     } else {
-        print_scaled(u, 2147483648);
+        print_scaled(u, ZERO_ORDINATE);
     }
 }
 
 // An abscissa in whole thousandths, within its limit.
 pub fn print_abscissa(x: i64) {
     let u = frame::lift(x);
-    print_scaled(u, 10000000000);
+    print_scaled(u, ZERO_ABSCISSA);
 }
 
 // `refused`, a number and a place, as document 01 has it.
 pub fn print_refused(number: u64, place: usize) {
-    io::write_all(1, b"refused ");
-    io::print_decimal(1, number);
-    io::write_all(1, b" ");
-    io::print_decimal(1, place as u64);
+    io::write_all(OUTPUT, b"refused ");
+    io::print_decimal(OUTPUT, number);
+    io::write_all(OUTPUT, b" ");
+    io::print_decimal(OUTPUT, place as u64);
 }
 
 // What a refusal of a table means, in words, on standard error.
@@ -78,13 +94,13 @@ fn explain_file(number: u64) {
 
 // A line on standard error.
 fn say(words: &[u8]) {
-    io::write_all(2, words);
-    io::write_all(2, b"\n");
+    io::write_all(ERRORS, words);
+    io::write_all(ERRORS, b"\n");
 }
 
 // What a refusal's number means, on standard error.
 fn explain_number(number: u64) {
-    if number < 19 {
+    if number < FIRST_OF_FILES {
         explain_table(number);
     } else {
         explain_file(number);
@@ -124,7 +140,7 @@ fn is_line_end(text: &[u8], i: usize) -> bool {
 // A byte on standard error.
 fn show_byte(b: u8) {
     let one = [b];
-    io::write_all(2, &one);
+    io::write_all(ERRORS, &one);
 }
 
 // The rest of a line from a place on, as much as fits 80 columns.
@@ -168,11 +184,11 @@ fn shown_before(r: Refusal) -> usize {
 
 // Where a refusal stands in the text and what it means, for a person (02, T-01): line and column, the line itself and a caret. Standard output stays as document 01 has it.
 pub fn explain(text: &[u8], r: Refusal) {
-    io::write_all(2, b"line ");
-    io::print_decimal(2, r.line as u64);
-    io::write_all(2, b", column ");
-    io::print_decimal(2, r.column as u64);
-    io::write_all(2, b": ");
+    io::write_all(ERRORS, b"line ");
+    io::print_decimal(ERRORS, r.line as u64);
+    io::write_all(ERRORS, b", column ");
+    io::print_decimal(ERRORS, r.column as u64);
+    io::write_all(ERRORS, b": ");
     explain_number(r.number);
     let before = shown_before(r);
     let place = r.place;

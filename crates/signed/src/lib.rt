@@ -5,6 +5,12 @@ ghost use Prim.Native.Nat.{_<_};
 ghost use lib.ListN.{length, getD};
 ghost use Rattle.table_spec.specs.Frame.{ordinate-of, entry-for};
 
+// Where zero stands among the ordinates.
+pub const ZERO_ORDINATE: u64 = 2147483648;
+
+// No ordinate is as large as this.
+pub const PAST_ORDINATES: u64 = 4294967296;
+
 // The entry of the slice for an ordinate.
 pub fn entry_for(u: u64) -> i32
     requires { ⌜ u < 4294967296 ⌝ }

@@ -9,25 +9,18 @@ ghost use Rattle.table_lines.specs.declared.HeadRead.{HeadRead};
 ghost use Rattle.table_lines.specs.Seen.{here};
 ghost use Rattle.table_lines.specs.Ends.{Blanked, Commented, Ended, Started};
 ghost use Rattle.table_lines.specs.Heads.{Pointed, Headed};
+use alphabet::BLANK;
+use alphabet::CR;
+use alphabet::DOLLAR;
+use alphabet::END;
+use alphabet::LF;
+use alphabet::MINUS;
+use alphabet::PAST_DIGITS;
+use alphabet::PLUS;
+use alphabet::POINT;
 use alphabet::Run;
 use alphabet::digits;
 use alphabet::entry_at;
-
-const BLANK: u64 = 112;
-
-const SIGN: u64 = 128;
-
-const MINUS: u64 = 144;
-
-const POINT: u64 = 160;
-
-const LF: u64 = 176;
-
-const CR: u64 = 192;
-
-const DOLLAR: u64 = 208;
-
-const END: u64 = 256;
 
 // Where a line's end stands: the place of the next line, or that none stands there.
 pub enum Ending {
@@ -69,7 +62,7 @@ fn comment(s: &[u8], from: usize) -> usize
     while i < s.len() {
         let b = s[i];
         i += 1;
-        if b == 10 {
+        if b == b'\n' {
             return i;
         }
     }
@@ -181,7 +174,7 @@ fn fraction(t: &[u8; 256], s: &[u8], w: Run, minus: bool) -> HeadRead
     }
     let next = at + 1;
     let f = digits(t, s, next, v, 3);
-    if f.e < 16 {
+    if f.e < PAST_DIGITS {
         return HeadRead::NoHead;
     }
     let end = f.at;
@@ -195,21 +188,21 @@ pub fn head(t: &[u8; 256], s: &[u8], at: usize, e: u64) -> HeadRead
     ensures { λ r. ⌜ Headed (now (s .entry)) at r ⌝ }
 {
     let next = at + 1;
-    if e < 16 {
+    if e < PAST_DIGITS {
         let w = digits(t, s, next, e, 6);
-        if w.e < 16 {
+        if w.e < PAST_DIGITS {
             return HeadRead::NoHead;
         }
         return fraction(t, s, w, false);
     }
-    if e < SIGN {
+    if e < PLUS {
         return HeadRead::NoHead;
     }
     let w = digits(t, s, next, 0, 7);
     if w.at == next {
         return HeadRead::NoHead;
     }
-    if w.e < 16 {
+    if w.e < PAST_DIGITS {
         return HeadRead::NoHead;
     }
     fraction(t, s, w, e >= MINUS)

@@ -11,18 +11,22 @@ ghost use Rattle.table_spec.specs.Frame.{entry-for};
 ghost use Rattle.table_spec.specs.Values.{own, by, times, By, copies, moved, room};
 ghost use Rattle.table_values.specs.Numbers.{leadOf, valueAt, below, Token, Numbered};
 ghost use Rattle.table_values.specs.States.{shiftedTo, difForm, rowAfter, Reaches, Sits, Went, Stepped, Lined};
+use alphabet::BLANK;
+use alphabet::DIF;
+use alphabet::DIF_MINUS;
+use alphabet::KIND;
+use alphabet::MISSING;
+use alphabet::PAST_DIGITS;
+use alphabet::PLUS;
+use alphabet::POINT;
 use alphabet::digits;
 use alphabet::entry_at;
+use signed::PAST_ORDINATES;
+use signed::ZERO_ORDINATE;
 use signed::entry_for;
 use table_lines::Ending;
 use table_lines::blanks;
 use table_lines::line_end;
-
-const MISSING: u64 = 96;
-
-const BLANK: u64 = 112;
-
-const POINT: u64 = 160;
 
 // A number: itself, the place after it and the entry there; or one that is misspelled.
 enum NumberRead {
@@ -31,7 +35,7 @@ enum NumberRead {
 }
 
 // Within a line: the place and the entry there; how many points; the ordinate before (0: none on this line, or missing); the ordinate that a check line's first value must equal (0: not
-// asked); the size of the last difference; and the form of the value before: 0 none, or a DUP that is not DIF; 1 a DUP that is; 2 a value of its own; 32 to 63 a difference, its first byte's entry.
+// asked); the size of the last difference; and the form of the value before: 0 none, or a DUP that is not DIF; 1 a DUP that is; 2 a value of its own; from DIF on a difference, its first byte's entry.
 struct Cur {
     at: usize,
     e: u64,
@@ -70,10 +74,10 @@ fn further(e: u64) -> usize
     requires { ⌜ (16 ≤ e) × (e < 96) ⌝ }
     ensures { λ r. ⌜ r ≡ room (leadOf e) (e % 16) ⌝ }
 {
-    if e < 32 {
+    if e < DIF {
         return 4;
     }
-    if e % 16 == 0 {
+    if e % KIND == 0 {
         return 0;
     }
     9
@@ -85,8 +89,8 @@ fn packed(t: &[u8; 256], s: &[u8], at: usize, e: u64) -> NumberRead
     ensures { λ r. ⌜ Numbered (now (s .entry)) at e r ⌝ }
 {
     let next = at + 1;
-    let r = digits(t, s, next, e % 16, further(e));
-    if r.e < 16 {
+    let r = digits(t, s, next, e % KIND, further(e));
+    if r.e < PAST_DIGITS {
         return NumberRead::Misspelled;
     }
     NumberRead::Read(r.v, r.at, r.e)
@@ -102,7 +106,7 @@ fn signed_number(t: &[u8; 256], s: &[u8], at: usize, e: u64) -> NumberRead
     if r.at == next {
         return NumberRead::Misspelled;
     }
-    if r.e < 16 {
+    if r.e < PAST_DIGITS {
         return NumberRead::Misspelled;
     }
     NumberRead::Read(r.v, r.at, r.e)
@@ -118,7 +122,7 @@ fn plain_number(t: &[u8; 256], s: &[u8], at: usize, e: u64) -> NumberRead
     }
     let next = at + 1;
     let r = digits(t, s, next, e, 9);
-    if r.e < 16 {
+    if r.e < PAST_DIGITS {
         return NumberRead::Misspelled;
     }
     NumberRead::Read(r.v, r.at, r.e)
@@ -129,10 +133,10 @@ fn number(t: &[u8; 256], s: &[u8], at: usize, e: u64) -> NumberRead
     requires { ⌜ (now t ≡ table) × (e ≡ entryAt (now s) at) × (e < 160) × (0 < at) × (e < 96 ⊎ 128 ≤ e) ⌝ }
     ensures { λ r. ⌜ Numbered (now (s .entry)) at e r ⌝ }
 {
-    if e < 16 {
+    if e < PAST_DIGITS {
         return plain_number(t, s, at, e);
     }
-    if e >= 128 {
+    if e >= PLUS {
         return signed_number(t, s, at, e);
     }
     packed(t, s, at, e)
@@ -163,7 +167,7 @@ fn shifted(q: u64, minus: bool, v: u64) -> u64
         return q - v;
     }
     let u = q + v;
-    if u >= 4294967296 {
+    if u >= PAST_ORDINATES {
         return 0;
     }
     u
@@ -211,7 +215,7 @@ fn differences(t: &[u8; 256], s: &[u8], points: usize, out: &mut [i32], c: Cur) 
     if q == 0 {
         return c;
     }
-    while e / 32 == 1 {
+    while e / DIF == 1 {
         if points <= k {
             break;
         }
@@ -220,7 +224,7 @@ fn differences(t: &[u8; 256], s: &[u8], points: usize, out: &mut [i32], c: Cur) 
                 break;
             }
             NumberRead::Read(v, j, f) => {
-                let u = shifted(q, e >= 48, v);
+                let u = shifted(q, e >= DIF_MINUS, v);
                 if u == 0 {
                     break;
                 }
@@ -292,7 +296,7 @@ fn own_value(
     if v > 2147483647 {
         return Step::Refused(9);
     }
-    let u = moved_by(2147483648, minus, v);
+    let u = moved_by(ZERO_ORDINATE, minus, v);
     if want != 0 {
         if u != want {
             return Step::Refused(10);
@@ -333,7 +337,7 @@ fn difference(s: &[u8], points: usize, out: &mut [i32], c: Cur, v: u64, j: usize
     if q == 0 {
         return Step::Refused(8);
     }
-    let u = shifted(q, e >= 48, v);
+    let u = shifted(q, e >= DIF_MINUS, v);
     if u == 0 {
         return Step::Refused(9);
     }
@@ -384,7 +388,7 @@ fn steps_again(s: &[u8], points: usize, out: &mut [i32], c: Cur, n: usize, j: us
     let q = c.q;
     let d = c.step;
     let form = c.form;
-    let minus = form >= 48;
+    let minus = form >= DIF_MINUS;
     let far = d * n as u64;
     let u = shifted(q, minus, far);
     if u == 0 {
@@ -419,7 +423,7 @@ fn dup_value(s: &[u8], points: usize, out: &mut [i32], c: Cur, v: u64, j: usize,
         return Step::Refused(8);
     }
     let n = (v - 1) as usize;
-    if form < 32 {
+    if form < DIF {
         return same_again(s, points, out, c, n, j, f);
     }
     steps_again(s, points, out, c, n, j, f)
@@ -431,11 +435,11 @@ fn value(s: &[u8], points: usize, out: &mut [i32], c: Cur, v: u64, j: usize, f: 
     ensures { λ r. ⌜ Stepped points (now (s .entry)) c (now (out .entry)) (now (out .exit)) r ⌝ }
 {
     let e = c.e;
-    let kind = e / 16;
+    let kind = e / KIND;
     if kind == 1 {
         return dup_value(s, points, out, c, v, j, f);
     }
-    if e / 32 == 1 {
+    if e / DIF == 1 {
         return difference(s, points, out, c, v, j, f);
     }
     own_value(s, points, out, c, kind % 4 == 1, v, j, f)
@@ -483,7 +487,7 @@ fn in_dif(form: u64) -> bool
     if form == 1 {
         return true;
     }
-    form >= 32
+    form >= DIF
 }
 
 // The state after a line, from the last one within it; the next line stands at the place.

@@ -10,7 +10,15 @@ ghost use Rattle.table_spec.specs.Groups.{dupText};
 ghost use Rattle.table_text.specs.Digits.{further};
 ghost use Rattle.table_text.specs.Pieces.{Put, number, ordinates};
 ghost use Rattle.text_groups.specs.Tokens.{SmallToken, TokenFor, again, run, Found};
+use signed::ZERO_ORDINATE;
 use signed::ordinate_at;
+use table_text::digits::DIF;
+use table_text::digits::DIF_MINUS;
+use table_text::digits::DIF_ZERO;
+use table_text::digits::DUP;
+use table_text::digits::MISSING;
+use table_text::digits::SQZ;
+use table_text::digits::SQZ_MINUS;
 use table_text::digits::further_digits;
 use table_text::digits::put;
 use table_text::digits::put_digits;
@@ -41,18 +49,18 @@ fn own_token(y: u64) -> Token
     requires { ⌜ (0 < y) × (y < 4294967296) ⌝ }
     ensures { λ r. ⌜ TokenFor 0 y r ⌝ }
 {
-    if 2147483648 <= y {
+    if ZERO_ORDINATE <= y {
         return Token {
-            base: 64,
-            size: y - 2147483648,
+            base: SQZ,
+            size: y - ZERO_ORDINATE,
             up: 0,
             down: 0,
             dif: false,
         };
     }
     Token {
-        base: 96,
-        size: 2147483648 - y,
+        base: SQZ_MINUS,
+        size: ZERO_ORDINATE - y,
         up: 0,
         down: 0,
         dif: false,
@@ -67,7 +75,7 @@ fn dif_token(p: u64, y: u64) -> Token
     if y < p {
         let down = p - y;
         return Token {
-            base: 105,
+            base: DIF_MINUS,
             size: down,
             up: 0,
             down,
@@ -77,7 +85,7 @@ fn dif_token(p: u64, y: u64) -> Token
     let up = y - p;
     if up < 1 {
         return Token {
-            base: 37,
+            base: DIF_ZERO,
             size: 0,
             up: 0,
             down: 0,
@@ -85,7 +93,7 @@ fn dif_token(p: u64, y: u64) -> Token
         };
     }
     Token {
-        base: 73,
+        base: DIF,
         size: up,
         up,
         down: 0,
@@ -100,7 +108,7 @@ fn token_of(p: u64, y: u64) -> Token
 {
     if y == 0 {
         return Token {
-            base: 63,
+            base: MISSING,
             size: 0,
             up: 0,
             down: 0,
@@ -185,9 +193,9 @@ fn dup_byte(d: u64) -> u8
     ensures { λ r. ⌜ r ≡ leadByte dup d ⌝ }
 {
     if d == 9 {
-        return 115;
+        return b's';
     }
-    (82 + d) as u8
+    (DUP + d) as u8
 }
 
 // The DUP for m more of a token. The place after it.

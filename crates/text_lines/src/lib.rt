@@ -11,7 +11,10 @@ ghost use Rattle.table_text.specs.Pieces.{Put, headOf, ordinates};
 ghost use Rattle.text_groups.specs.Tokens.{Found};
 ghost use Rattle.text_lines.specs.Lines.{start, opening, after, from, Wrote, Started, NewLine};
 use frame::Frame;
+use signed::ZERO_ORDINATE;
 use signed::ordinate_at;
+use table_text::digits::SQZ;
+use table_text::digits::SQZ_MINUS;
 use table_text::digits::further_digits;
 use table_text::digits::put_end;
 use table_text::digits::put_number;
@@ -38,14 +41,14 @@ fn put_own(out: &mut [u8], at: usize, u: u64) -> usize
     requires { ⌜ (u < 4294967296) × (at < 2 ^ 60) ⌝ }
     ensures { λ r. ⌜ Put (now (out .entry)) at (now (out .exit)) r (sqzText u) × (r ≤ at + 10) ⌝ }
 {
-    if 2147483648 <= u {
-        let v = u - 2147483648;
+    if ZERO_ORDINATE <= u {
+        let v = u - ZERO_ORDINATE;
         let n = further_digits(v);
-        return put_number(out, at, 64, v, n);
+        return put_number(out, at, SQZ, v, n);
     }
-    let w = 2147483648 - u;
+    let w = ZERO_ORDINATE - u;
     let m = further_digits(w);
-    put_number(out, at, 96, w, m)
+    put_number(out, at, SQZ_MINUS, w, m)
 }
 
 // The head and the first value of a check line, after i points, the last of them p. The place after them.
