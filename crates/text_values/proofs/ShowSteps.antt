@@ -1,5 +1,5 @@
 -- What the showing of a value in full needs. No place of the code is named here. Assumes nothing.
-use mathlib.Core.Path.{_≡_, refl, ap, _∙_}
+use mathlib.Core.Path.{_≡_, refl, sym, ap, _∙_}
 use mathlib.Core.Bool.{Bool, true, false}
 use mathlib.Core.List.{List, _++_}
 use Prim.Native.Nat.{ℕ, _+_, _-_, _≤_, _<_}
@@ -7,8 +7,10 @@ use native.Mathlib.Omega.{arith}
 use lib.ListN.{length, set, length-append}
 use borrow.Author.Tests.{eq-eqb, ne-eqb, le-leb, lt-leb}
 use Rattle.terms.specs.Logic.{pick}
-use Rattle.table_text.specs.Digits.{further, length-low, further-le}
-use Rattle.table_text.specs.Pieces.{Put, number, put-none, put-byte}
+use Rattle.table_text.specs.Digits.{further}
+use Rattle.table_text.specs.DigitLaws.{further-le}
+use Rattle.table_text.proofs.NumberSteps.{number-length}
+use Rattle.table_text.specs.Pieces.{Put, number, put-none, put-byte, sets-past}
 use Rattle.text_values.specs.declared.Marks.{Marks}
 use Rattle.text_values.specs.declared.Shown.{Shown}
 use Rattle.text_values.specs.Shows.{mark, spelled, shown, Shows}
@@ -20,10 +22,6 @@ mark-length false b = refl
 mark-most : (q : Bool) → pick q 1 0 ≤ 1
 mark-most true = omega arith
 mark-most false = omega arith
-
-number-length : (base size : ℕ) → length (number base size) ≡ 1 + further 9 size
-unfolding number
-number-length base size = omega (arith, length-low 9 size)
 
 -- the bytes of a value
 spelled-length : (space signed : Bool) (base size : ℕ) → length (spelled space signed base size) ≡ pick space 1 0 + pick signed 1 0 + 1 + further 9 size
@@ -53,6 +51,10 @@ shows-parts space signed base size a b digits h k d x y =
 -- what holds of the text of a value holds of the value by itself
 pub shows-own : {t : List ℕ} {v : Shown} → Shows t v → Shows (spelled (v .space) (v .signed) (v .base) (v .size)) v
 shows-own h = record { text = refl; base = h .base; size = h .size; digits = h .digits; width-is = h .width-is ∙ ap length (h .text); slim = h .slim }
+
+-- where nothing is lent, a piece is only measured
+pub put-nothing : (o : List ℕ) (at : ℕ) {w : ℕ} {g : List ℕ} → length o ≡ 0 → w ≡ length g → Put o at o (at + w) g
+put-nothing o at {g = g} e f = record { next = ap (λ (n : ℕ). at + n) f; stored = sym (sets-past o at g (omega arith)) }
 
 pub put-marked : {o o' : List ℕ} (at b : ℕ) (q : Bool) → q ≡ true → o' ≡ set o at b → Put o at o' (at + 1) (mark q b)
 put-marked at b q e f = rw e (put-byte at b f)

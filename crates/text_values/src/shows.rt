@@ -6,7 +6,12 @@ ghost use Rattle.table_text.specs.Pieces.{Put};
 ghost use Rattle.text_values.specs.Shows.{mark, spelled, shown, marks-of, Based, Shows};
 use crate::Marks;
 use crate::Shown;
+use signed::ZERO_ORDINATE;
 use table_spec::Style;
+use table_text::digits::DIGIT;
+use table_text::digits::MISSING;
+use table_text::digits::SQZ;
+use table_text::digits::SQZ_MINUS;
 use table_text::digits::further_digits;
 use table_text::digits::put;
 use table_text::digits::put_number;
@@ -21,32 +26,32 @@ pub fn marks_of(style: Style) -> Marks
             up: true,
             down: true,
             signed: true,
-            plus: 48,
-            minus: 48,
+            plus: DIGIT,
+            minus: DIGIT,
         },
         Style::Pac => Marks {
             gap: false,
             up: true,
             down: false,
             signed: true,
-            plus: 48,
-            minus: 48,
+            plus: DIGIT,
+            minus: DIGIT,
         },
         Style::Sqz => Marks {
             gap: false,
             up: false,
             down: false,
             signed: false,
-            plus: 64,
-            minus: 96,
+            plus: SQZ,
+            minus: SQZ_MINUS,
         },
         Style::Difdup => Marks {
             gap: false,
             up: false,
             down: false,
             signed: false,
-            plus: 64,
-            minus: 96,
+            plus: SQZ,
+            minus: SQZ_MINUS,
         },
     }
 }
@@ -86,13 +91,13 @@ pub fn show(m: Marks, u: u64) -> Shown
     ensures { λ r. ⌜ Shows (shown m u) r ⌝ }
 {
     if u == 0 {
-        return measured(m.gap, false, 63, 0);
+        return measured(m.gap, false, MISSING, 0);
     }
-    if 2147483648 <= u {
-        let size = u - 2147483648;
+    if ZERO_ORDINATE <= u {
+        let size = u - ZERO_ORDINATE;
         return measured(m.up, false, m.plus, size);
     }
-    let below = 2147483648 - u;
+    let below = ZERO_ORDINATE - u;
     measured(m.down, m.signed, m.minus, below)
 }
 

@@ -19,9 +19,15 @@ same-length : tie.Need-same-length
 same-length c = search needs
 
 returns : tie.Need-returns
-returns c = let a = c .before .before .before .before .before .before .args in let p = c .before .before .before .before .before .before .pre in let e = c .before .before .pass .ensures in let some = p .1 .some in
+returns c =
+    let b = c .before .before .before .before in
+    let z = b .before .before in
+    let a = z .args in
+    let p = z .pre in
+    let e = c .before .before .pass .ensures in
+    let some = p .1 .some in
     put-as (form-text (a .style) (p .0) (headOf (a .fr)) (map ordinate-of (a .ys .now)) (omega (arith, p .2, length-map (a .ys .now) ordinate-of)) (e .1))
-    (rw (c .before .before .before .before .marks-of .ensures) at (e .0))
+    (rw (b .marks-of .ensures) at (e .0))
 
 pub lay-spec : {M : Type 1} → statement M
 lay-spec = tie.close (tie.spec marks-of-requires pass-requires same-length returns)

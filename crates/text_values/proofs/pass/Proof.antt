@@ -22,32 +22,52 @@ put-head-requires : tie.Need-put-head-requires Inv-loop μ-loop
 put-head-requires c κs = let p = c .before .before .pre in let some = p .1 .some in (p .1, omega arith, omega arith)
 
 loop-holds : tie.Need-loop-holds Inv-loop μ-loop
-loop-holds c = let a = c .before .before .before .before .before .args in starts (shown (a .m)) (headOf (a .fr)) (map ordinate-of (a .ys .now)) _ _ (omega (arith, c .before .before .put-head .ensures .1))
+loop-holds c =
+    let a = c .before .before .before .before .before .args in
+    starts (shown (a .m)) (headOf (a .fr)) (map ordinate-of (a .ys .now)) _ _ (omega (arith, c .before .before .put-head .ensures .1))
 
 turn-requires : tie.Need-turn-requires Inv-loop μ-loop
-turn-requires c κs = let a = c .before .before .before .before .before .before .before .before .args in let p = c .before .before .before .before .before .before .before .before .pre in let g = c .before .before .loop .inv in let is = g .is in let few = p .1 .few in
-    (p .0, p .1, p .2, omega (arith, c .before .loop-test .taken), omega (arith, going-near _ _ _ g (omega (arith, p .2, length-map (a .ys .now) ordinate-of))), g .column-most)
+turn-requires c κs =
+    let z = c .before .before .before .before .before .before .before .before in
+    let p = z .pre in
+    let g = c .before .before .loop .inv in
+    let is = g .is in
+    let few = p .1 .few in
+    let near = going-near _ _ _ g (omega (arith, p .2, length-map (z .args .ys .now) ordinate-of)) in
+    (p .0, p .1, p .2, omega (arith, c .before .loop-test .taken), omega (arith, near), g .column-most)
 
 loop-less : tie.Need-loop-less Inv-loop μ-loop
-loop-less c = let on = c .before .before .turn .ensures .on in let is = c .before .before .before .before .before .loop .inv .is in omega (arith, c .before .before .before .before .loop-test .taken)
+loop-less c =
+    let b = c .before .before .before .before in
+    let on = c .before .before .turn .ensures .on in
+    let is = b .before .loop .inv .is in
+    omega (arith, b .loop-test .taken)
 
 loop-again : tie.Need-loop-again Inv-loop μ-loop
-loop-again c = let a = c .before .before .before .before .before .before .before .before .before .before .before .args in
-    goes _ _ (map ordinate-of (a .ys .now)) (c .before .before .before .before .before .loop .inv) (omega (arith, c .before .before .before .before .loop-test .taken, length-map (a .ys .now) ordinate-of)) (c .before .before .turn .ensures)
+loop-again c =
+    let b = c .before .before .before .before in
+    let a = b .before .before .before .before .before .before .before .args in
+    goes _ _ (map ordinate-of (a .ys .now)) (b .before .loop .inv) (omega (arith, b .loop-test .taken, length-map (a .ys .now) ordinate-of))
+    (c .before .before .turn .ensures)
 
 put-end-requires : tie.Need-put-end-requires Inv-loop μ-loop
-put-end-requires c κs = let a = c .before .before .before .before .before .before .before .before .args in let p = c .before .before .before .before .before .before .before .before .pre in let few = p .1 .few in
-    omega (arith, going-near _ _ _ (c .before .before .loop .inv) (omega (arith, p .2, length-map (a .ys .now) ordinate-of)))
+put-end-requires c κs =
+    let z = c .before .before .before .before .before .before .before .before in
+    let few = z .pre .1 .few in
+    omega (arith, going-near _ _ _ (c .before .before .loop .inv) (omega (arith, z .pre .2, length-map (z .args .ys .now) ordinate-of)))
 
 same-length : tie.Need-same-length Inv-loop μ-loop
 same-length c = search needs
 
 returns : tie.Need-returns Inv-loop μ-loop
-returns c = let a = c .before .before .before .before .before .before .before .before .before .before .before .args in let h = c .before .before .before .before .before .before .before .before .put-head .ensures in let n = h .0 .next in (
-  finish (shown (a .m)) (headOf (a .fr)) (map ordinate-of (a .ys .now)) (h .0) (c .before .before .before .before .before .loop .inv)
-      (omega (arith, c .before .before .before .before .loop-test .left, length-map (a .ys .now) ordinate-of)) (c .before .before .put-end .ensures),
-  omega (arith, h .1),
-)
+returns c =
+    let b = c .before .before .before .before in
+    let h = b .before .before .before .before .put-head .ensures in
+    let a = b .before .before .before .before .before .before .before .args in
+    let n = h .0 .next in
+    let whole = finish (shown (a .m)) (headOf (a .fr)) (map ordinate-of (a .ys .now)) (h .0) (b .before .loop .inv)
+    (omega (arith, b .loop-test .left, length-map (a .ys .now) ordinate-of)) (c .before .before .put-end .ensures) in
+    (whole, omega (arith, h .1))
 
 pub pass-spec : {M : Type 1} → statement M
 pass-spec =

@@ -30,9 +30,13 @@ same-length : tie.Need-same-length
 same-length c = search needs
 
 returns : tie.Need-returns
-returns c = let a = c .before .before .before .before .before .before .before .before .args in let p = c .before .before .before .before .before .before .before .before .pre in let v = c .before .before .before .before .before .show .ensures in
-    turn-fits (shown (a .m)) (headOf (a .fr)) (map ordinate-of (a .ys .now)) (a .s) (omega (arith, p .3, length-map (a .ys .now) ordinate-of))
-    (c .before .before .before .before .before .before .ordinate-at .ensures .0) (v .width-is) (v .slim) (p .5) (c .before .before .before .before .if1 .taken) (put-as (v .text) (c .before .before .put-shown .ensures .0))
+returns c =
+    let b = c .before .before .before .before in
+    let z = b .before .before .before .before in
+    let a = z .args in
+    let v = b .before .show .ensures in
+    turn-fits (shown (a .m)) (headOf (a .fr)) (map ordinate-of (a .ys .now)) (a .s) (omega (arith, z .pre .3, length-map (a .ys .now) ordinate-of))
+    (b .before .before .ordinate-at .ensures .0) (v .width-is) (v .slim) (z .pre .5) (b .if1 .taken) (put-as (v .text) (c .before .before .put-shown .ensures .0))
 
 put-end-requires : tie.Need-put-end-requires
 put-end-requires c κs = search needs
@@ -41,7 +45,12 @@ put-head-requires : tie.Need-put-head-requires
 put-head-requires c κs = search needs
 
 put-shown-requires-2 : tie.Need-put-shown-requires-2
-put-shown-requires-2 c κs = let e = c .before .before .before .before .before .before .before .put-end .ensures .next in (shows-own (c .before .before .before .before .before .before .before .before .before .before .show .ensures), omega (arith, c .before .before .before .before .before .before .before .before .before .before .before .before .before .pre .4, c .before .before .before .put-head .ensures .1))
+put-shown-requires-2 c κs =
+    let h = c .before .before .before in
+    let e = h .before .before .before .before in
+    let b = e .before .before in
+    let n = e .put-end .ensures .next in
+    (shows-own (b .before .show .ensures), omega (arith, b .before .before .before .before .pre .4, h .put-head .ensures .1))
 
 sub-bytes : tie.Need-sub-bytes
 sub-bytes c = search needs
@@ -50,9 +59,16 @@ same-length-2 : tie.Need-same-length-2
 same-length-2 c = search needs
 
 returns-2 : tie.Need-returns-2
-returns-2 c = let a = c .before .before .before .before .before .before .before .before .before .before .before .before .before .before .before .before .args in let p = c .before .before .before .before .before .before .before .before .before .before .before .before .before .before .before .before .pre in let v = c .before .before .before .before .before .before .before .before .before .before .before .before .before .show .ensures in let h = c .before .before .before .before .before .before .put-head .ensures in
-    turn-breaks (shown (a .m)) (headOf (a .fr)) (map ordinate-of (a .ys .now)) (a .s) (omega (arith, p .3, length-map (a .ys .now) ordinate-of))
-    (c .before .before .before .before .before .before .before .before .before .before .before .before .before .before .ordinate-at .ensures .0) (v .width-is) (v .slim) (p .5) (c .before .before .before .before .before .before .before .before .before .before .before .before .if1 .left) (c .before .before .before .before .before .before .before .before .before .before .put-end .ensures) (h .0) (h .1) (put-as (v .text) (c .before .before .put-shown2 .ensures .0))
+returns-2 c =
+    let h = c .before .before .before .before .before .before in
+    let e = h .before .before .before .before in
+    let b = e .before .before in
+    let z = b .before .before .before .before in
+    let a = z .args in
+    let v = b .before .show .ensures in
+    turn-breaks (shown (a .m)) (headOf (a .fr)) (map ordinate-of (a .ys .now)) (a .s) (omega (arith, z .pre .3, length-map (a .ys .now) ordinate-of))
+    (b .before .before .ordinate-at .ensures .0) (v .width-is) (v .slim) (z .pre .5) (b .if1 .left)
+    (e .put-end .ensures) (h .put-head .ensures .0) (h .put-head .ensures .1) (put-as (v .text) (c .before .before .put-shown2 .ensures .0))
 
 pub turn-spec : {M : Type 1} → statement M
 turn-spec =
