@@ -20,7 +20,7 @@ length-of-requires : tie.Need-length-of-requires
 length-of-requires c κs = search needs
 
 returns-2 : tie.Need-returns-2
-returns-2 c = ap (λ (n : ℕ). leb n (c .before .before .before .args .room)) (c .before .length-of .ensures)
+returns-2 c = ap (λ (n : ℕ). leb n (c .before .before .args .room)) (c .length-of .ensures)
 
 pub fits-spec : {M : Type 1} → statement M
 fits-spec = tie.close (tie.spec mul-if1 add-if1 returns length-of-requires returns-2)
