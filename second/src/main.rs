@@ -2,9 +2,11 @@
 
 mod body;
 mod cases;
+mod difdup;
 mod file;
 mod frame;
 mod line;
+mod plain;
 mod random;
 mod selftest;
 mod stored;
