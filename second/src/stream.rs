@@ -268,7 +268,7 @@ pub fn count(input: impl Read) -> io::Result<()> {
         for ((_, number), times) in counts.range((name, 0)..=(name, u32::MAX)) {
             let answer = match *number {
                 0 => "accepted".into(),
-                ABSENT => "absent".into(),
+                ABSENT => if name == "R" { "absent" } else { "no form" }.into(),
                 n => format!("refused {n}"),
             };
             println!("  {answer}: {times}");
