@@ -6,7 +6,7 @@ use crate::random::Random;
 use crate::stream::WriteCase;
 use crate::text::{head, write_body, TextForm, LONGEST_LINE};
 
-/// Numbers that are no form's: the next ones, and those that would be a form's if cut to 8 or 16 bits or taken as signed.
+/// Numbers that are no form's: the next ones, and those that would be a form's if cut to fewer bits or taken as signed.
 const NO_FORMS: &[u32] = &[4, 5, 6, 7, 8, 255, 256, 257, 65_536, 65_539, 1 << 30, 1 << 31, (1 << 31) + 2, u32::MAX];
 
 /// One writer's case.
