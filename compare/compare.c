@@ -334,9 +334,9 @@ static void compare_body(void)
     free(expected);
 }
 
-/* A table to be written, and the second writer's answer; n, room and length are those of the three that follow. */
+/* A table of n ordinates to be written into `room` bytes, and the second writer's answer, a text of `length` bytes. */
 struct write_case {
-    int64_t first, last, number;
+    int64_t first, last, number, place;
     uint64_t points;
     uint32_t form, n, room;
     size_t length;
@@ -357,10 +357,7 @@ static struct write_case take_write_case(void)
     c.number = take_u32();
     if (c.number == UINT32_MAX)
         c.number = LASTARUNC_NO_FORM;
-    if (take_u64() != 0) {
-        fprintf(stderr, "compare: a writer's refusal with another place than 0\n");
-        exit(2);
-    }
+    c.place = take_i64();
     c.length = take_u64();
     c.expected = take_bytes(c.length);
     return c;
@@ -395,7 +392,7 @@ static void free_written(struct written *w)
 /* What is wrong with an answer, or with what was lent; NULL if nothing is. */
 static const char *written_differs(const struct write_case *c, const struct written *w)
 {
-    if (w->answer->refused != c->number || w->returned != c->number)
+    if (w->answer->refused != c->number || w->returned != c->number || c->place != 0)
         return "number";
     if (w->answer->length != (int64_t)c->length)
         return "length";
