@@ -41,6 +41,12 @@ extern "C" {
 #define LASTARUNC_MOST_BYTES 1048576
 #define LASTARUNC_LARGEST_ABSCISSA INT64_C(9999999999)
 
+/* The forms in which a table is written. */
+enum lastarunc_form { LASTARUNC_DIFDUP = 0, LASTARUNC_AFFN = 1, LASTARUNC_PAC = 2, LASTARUNC_SQZ = 3 };
+
+/* What lastarunc_write_form answers for a form that is none of these. No refusal has this number. */
+#define LASTARUNC_NO_FORM INT64_C(-1)
+
 /* What lastarunc_read_table answers. */
 struct lastarunc_table {
     int64_t refused, place, line, column;
@@ -82,6 +88,13 @@ int64_t lastarunc_read_table(int64_t first, int64_t last, size_t points, const u
  */
 int64_t lastarunc_write_table(int64_t first, int64_t last, size_t points, const int32_t *ordinates, size_t n,
                               uint8_t *text, size_t room, struct lastarunc_text *answer);
+
+/*
+ * Writes the table in one of the four forms, with the answers of lastarunc_write_table.
+ * A form that is none of them: answer->refused is LASTARUNC_NO_FORM, the length 0, and text as it was.
+ */
+int64_t lastarunc_write_form(uint64_t form, int64_t first, int64_t last, size_t points, const int32_t *ordinates,
+                             size_t n, uint8_t *text, size_t room, struct lastarunc_text *answer);
 
 /*
  * Reads a simple JCAMP-DX file, from TITLE to END, with one XYDATA table.
