@@ -19,20 +19,28 @@ ALWAYS_INLINE unsigned digit_count(uint32_t v)
     return v < 10 ? n : v < 100 ? n + 1 : v < 1000 ? n + 2 : n + 3;
 }
 
-/* Puts v's n digits at `to`. */
+/* The numbers 0 to 99 in two digits each. */
+static const char pairs[] = "00010203040506070809101112131415161718192021222324252627282930313233343536373839"
+                            "40414243444546474849505152535455565758596061626364656667686970717273747576777879"
+                            "8081828384858687888990919293949596979899";
+
+/* Puts v, which has n digits, at `to`, two digits at a time from the last ones on. */
 ALWAYS_INLINE void put_digits(uint8_t *to, uint32_t v, unsigned n)
 {
-    for (uint8_t *p = to + n; p > to; v /= 10)
-        *--p = (uint8_t)('0' + v % 10);
+    uint8_t *p = to + n;
+    for (; v >= 100; v /= 100)
+        memcpy(p -= 2, pairs + 2 * (v % 100), 2);
+    if (v >= 10)
+        memcpy(p - 2, pairs + 2 * v, 2);
+    else
+        p[-1] = (uint8_t)('0' + v);
 }
 
-/* Puts v's n digits at `to`, the first one by a row of pseudo-digits. */
+/* Puts v, which has n digits, at `to`, the first one by a row of pseudo-digits. */
 ALWAYS_INLINE void put_pseudo(uint8_t *to, uint32_t v, unsigned n, const char *row)
 {
-    uint8_t *p = to + n;
-    for (; --p > to; v /= 10)
-        *p = (uint8_t)('0' + v % 10);
-    *p = (uint8_t)row[v];
+    put_digits(to, v, n);
+    *to = (uint8_t)row[*to - '0'];
 }
 
 /* The magnitude of an ordinate or a difference, which fits in 32 bits. */
@@ -57,8 +65,9 @@ static unsigned put_head(const struct frame *f, int64_t i, uint8_t *to)
         *to = '-';
         put_digits(to + minus, whole, n);
         if (places) {
+            part += 1000; /* for the leading zeros; the point goes over the 1 */
+            put_digits(to + minus + n, places == 3 ? part : places == 2 ? part / 10 : part / 100, places + 1);
             to[minus + n] = '.';
-            put_digits(to + minus + n + 1, places == 3 ? part : places == 2 ? part / 10 : part / 100, places);
         }
     }
     return minus + n + (places ? places + 1 : 0);
