@@ -133,12 +133,35 @@ ALWAYS_INLINE size_t lay_out_difdup(const struct frame *f, const int32_t *restri
     return start;
 }
 
+/*
+ * The number of decimal digits of a value in full. Such values have any length, so it is found without a jump: the
+ * entry for v's highest bit, added to v, has the number in its high half.
+ */
+ALWAYS_INLINE unsigned full_digit_count(uint32_t v)
+{
+#define D(count, least) (((uint64_t)(count) << 32) - (least))
+    static const uint64_t entries[32] = {
+        D(1, 0), D(1, 0), D(1, 0), D(2, 10),
+        D(2, 0), D(2, 0), D(3, 100),
+        D(3, 0), D(3, 0), D(4, 1000),
+        D(4, 0), D(4, 0), D(4, 0), D(5, 10000),
+        D(5, 0), D(5, 0), D(6, 100000),
+        D(6, 0), D(6, 0), D(7, 1000000),
+        D(7, 0), D(7, 0), D(7, 0), D(8, 10000000),
+        D(8, 0), D(8, 0), D(9, 100000000),
+        D(9, 0), D(9, 0), D(10, 1000000000),
+        D(10, 0), D(10, 0),
+    };
+#undef D
+    return (unsigned)((v + entries[31 ^ __builtin_clz(v | 1)]) >> 32);
+}
+
 /* The length of a value in a plain form. */
 ALWAYS_INLINE unsigned value_length(enum form form, int32_t y)
 {
     if (UNLIKELY(y == MISSING_ORDINATE))
         return form == FORM_AFFN ? 2 : 1;
-    return digit_count(magnitude(y)) + (form == FORM_AFFN ? 1 + (y < 0) : form == FORM_PAC ? 1 : 0);
+    return full_digit_count(magnitude(y)) + (form == FORM_AFFN ? 1 + (y < 0) : form == FORM_PAC ? 1 : 0);
 }
 
 /* Puts a value of that length in a plain form. */
