@@ -3,7 +3,7 @@
  * (second/README.md), gives each case to the functions of include/lastarunc.h, and compares every field of the answer,
  * every entry of lent memory, and that what is only lent to be read is unaltered.
  *
- * -DCOMPARE_C compares the C reader and writer of benchmark/c_table.c instead, which have tables only, and no line and
+ * -DCOMPARE_C compares the C reader and writer of benchmark/c_table.h instead, which have tables only, and no line and
  * column; -DREADER=NAME takes another reader of it.
  */
 #include "lastarunc.h"
