@@ -2,7 +2,7 @@
 use mathlib.Core.Path.{_≡_, refl, _∙_}
 use mathlib.Core.Bool.{true}
 use mathlib.Core.List.{List, [], _∷_, _++_, map}
-use Prim.Native.Nat.{ℕ, zero, suc, _+_, _-_, _*_, _≤_, _<_}
+use Prim.Native.Nat.{ℕ, zero, suc, _+_, _*_, _≤_, _<_}
 use native.Mathlib.Omega.{arith}
 use lib.Dec.{ltb, leb}
 use lib.IntN.{ℤ}
@@ -11,7 +11,7 @@ use lib.Seq.{length-take-le}
 use lib.Signed.{mag}
 use borrow.Author.Tests.{ltb-false, leb-true}
 use Rattle.terms.specs.Logic.{pick, by-case, both-true}
-use Rattle.table_spec.specs.Frame.{frame-legal, abscissa-legal, abscissa, apart, rules, longest-body, zero-ordinate, ordinate-of, entry-for}
+use Rattle.table_spec.specs.Frame.{frame-legal, abscissa-legal, abscissa, rules, longest-body, zero-ordinate, ordinate-of, entry-for}
 use Rattle.table_spec.specs.Writing.{declined, wrote, fitted, written, writeTable}
 use Rattle.table_spec.specs.Reading.{accept, read, readTable, stored}
 use Rattle.signed.specs.Scale.{lift-small, lower-lift}
@@ -58,7 +58,6 @@ module _ (st : Style) (f l : ℤ) (n : ℕ) (es : List ℤ) (space : ℕ) (t : L
   record Taken : Type 0 where
     pub legal : frame-legal f l n ≡ true
     pub enough : n ≤ length es
-    pub far : n - 1 ≤ apart (abscissa l) (abscissa f)
     pub is : written st (abscissa f) (abscissa l) n (map ordinate-of (take n es)) ≡ t
 
   never : {A : Type 0} {c : ℕ} → declined c ≡ wrote t → A
@@ -70,17 +69,12 @@ module _ (st : Style) (f l : ℤ) (n : ℕ) (es : List ℤ) (space : ℕ) (t : L
   taken : writeTable st f l n es space ≡ wrote t → Taken
   unfolding writeTable
   taken =
-      by-case (λ a. frame-legal f l n ≡ a → pick a (pick (ltb (length es) n) (declined 2)
-      (pick (ltb (apart (abscissa l) (abscissa f)) (n - 1)) (declined 14) (fitted space body))) (declined 1) ≡ wrote t → Taken)
-      (frame-legal f l n)
-      (λ _ a. by-case (λ b. ltb (length es) n ≡ b → pick b (declined 2) (pick (ltb (apart (abscissa l) (abscissa f)) (n - 1)) (declined 14) (fitted space body)) ≡ wrote t → Taken) (ltb (length es) n)
+      by-case (λ a. frame-legal f l n ≡ a → pick a (pick (ltb (length es) n) (declined 2) (fitted space body)) (declined 1) ≡ wrote t → Taken) (frame-legal f l n)
+      (λ _ a. by-case (λ b. ltb (length es) n ≡ b → pick b (declined 2) (fitted space body) ≡ wrote t → Taken) (ltb (length es) n)
       (λ _ b e. never e)
-      (λ _ b. by-case (λ c. ltb (apart (abscissa l) (abscissa f)) (n - 1) ≡ c → pick c (declined 14) (fitted space body) ≡ wrote t → Taken) (ltb (apart (abscissa l) (abscissa f)) (n - 1))
-      (λ _ c e. never e)
-      (λ _ c. by-case (λ d. pick d (declined 15) (wrote body) ≡ wrote t → Taken) (ltb space (length body))
+      (λ _ b. by-case (λ d. pick d (declined 15) (wrote body) ≡ wrote t → Taken) (ltb space (length body))
       (λ _ e. never e)
-      (λ _ e. let z : body ≡ t = cc in
-      record { legal = a; enough = ltb-false (length es) n b; far = ltb-false (apart (abscissa l) (abscissa f)) (n - 1) c; is = z })) refl) refl)
+      (λ _ e. let z : body ≡ t = cc in record { legal = a; enough = ltb-false (length es) n b; is = z })) refl)
       (λ _ a e. never e) refl
 
   takes : Taken → Takes (abscissa f) (abscissa l) n
@@ -89,7 +83,7 @@ module _ (st : Style) (f l : ℤ) (n : ℕ) (es : List ℤ) (space : ℕ) (t : L
       let a = both-true (abscissa-legal f) _ (k .legal) in let b = both-true (abscissa-legal l) _ (a .1) in
       let c = both-true (leb 1 n) _ (b .1) in let d = both-true (leb n 65536) _ (c .1) in
       let x = legal-abscissa f (a .0) in let y = legal-abscissa l (b .0) in
-      record { low-first = x .0; low-last = y .0; high-first = x .1; high-last = y .1; some = leb-true 1 n (c .0); few = leb-true n 65536 (d .0); apart-enough = k .far }
+      record { low-first = x .0; low-last = y .0; high-first = x .1; high-last = y .1; some = leb-true 1 n (c .0); few = leb-true n 65536 (d .0) }
 
   counted : Taken → length (map ordinate-of (take n es)) ≡ n
   counted k = length-map (take n es) ordinate-of ∙ length-take-le n es (k .enough)
