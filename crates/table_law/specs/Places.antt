@@ -11,8 +11,9 @@ use Rattle.alphabet_spec.specs.Digits.{Run, long, run, digits, some}
 use Rattle.alphabet_spec.specs.Bytes.{Byte, digit, lead, sign, quest, blank, point, lf, cr, dollar, other, kind}
 use Rattle.table_spec.specs.Frame.{Rules, rules, abscissa, longest-body, frame-legal}
 use Rattle.table_spec.specs.Values.{Value, own, Form, Spot, first, after, lastOr, room, valueOf, index}
-use Rattle.table_spec.specs.Reading.{Tokens, over, fault, head, HeadDigits, no-head, sized, value, line, Ending, ends, none, ending, Mode, fresh, inner, ended, headed, valued, thousandths, opening, inside}
-use Rattle.table_spec.specs.Reading.{step, stop, tokens, Says, adds, refuses, says, Answer, refuse, accept, push, bare, difBefore, took, checked, finish, judge, read, readTable}
+use Rattle.table_spec.specs.Reading.{Tokens, over, fault, head, HeadDigits, no-head, sized, value, line, Ending, ends, none, ending, Mode, fresh, inner, ended, headed, valued}
+use Rattle.table_spec.specs.Reading.{thousandths, opening, inside, step, stop, tokens, Says, adds, refuses, says, Answer, refuse, accept, push, bare, difBefore, took, checked}
+use Rattle.table_spec.specs.Reading.{finish, judge, read, readTable}
 
 -- every place is at most z
 abbrev pub Low : ℕ → Tokens → Type 0
@@ -113,7 +114,8 @@ module _ (R : Rules) (z : ℕ) where
   judge-low (over a) l i p w = picked z (ltb i (R .points)) (refuse 12 a) _ l (picked z (difBefore w) (refuse 13 a) (accept []) l tt)
   judge-low (fault c a) l i p w = l
   judge-low (head a h u r) l i p w =
-      picked z (R .passing h u (index (difBefore w) i)) _ (refuse 6 a) (picked z (bare r) (refuse 7 a) (judge R r i p (first (difBefore w))) (l .0) (judge-low r (l .1) i p (first (difBefore w)))) (l .0)
+      picked z (R .passing h u (index (difBefore w) i)) _ (refuse 6 a)
+      (picked z (bare r) (refuse 7 a) (judge R r i p (first (difBefore w))) (l .0) (judge-low r (l .1) i p (first (difBefore w)))) (l .0)
   judge-low (value a v r) l i p w = took-low (λ j q f. judge R r j q (after f)) a i p (says w p v) (l .0) (λ j q f. judge-low r (l .1) j q (after f))
   judge-low (line r) l i p w = judge-low r l i p w
 

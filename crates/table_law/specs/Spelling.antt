@@ -1,6 +1,6 @@
 -- Which texts spell which ordinates, said from the ordinates to the bytes (01, "Spelling of a body"). Nothing here runs a reader or takes a text apart. Assumes nothing.
--- `R x t s`: the text t is x, spelled, and then s. With reading this shares the names of values, forms and spots and the frame's rules (how many points, which heads of which unit pass, is a tab a blank);
--- every other rule is said here once more, in its own words.
+-- `R x t s`: the text t is x, spelled, and then s. With reading this shares the names of values, forms and spots and the frame's rules (how many points, which heads of which unit
+-- pass, is a tab a blank); every other rule is said here once more, in its own words.
 use mathlib.Core.Path.{_≡_}
 use mathlib.Core.Bool.{Bool, true, false}
 use mathlib.Core.List.{List, [], _∷_, _++_}
