@@ -4,38 +4,38 @@ use mathlib.Core.List.{List}
 use Prim.Native.Nat.{ℕ, zero, suc, _+_, _*_, _^_}
 use lib.Dec.{ltb, eqb}
 use lib.IntN.{ℤ, pos, negsuc}
-use lib.ListN.{take}
+use lib.ListN.{length}
 use Rattle.terms.specs.Logic.{pick, both}
 use Rattle.label_spec.specs.Space.{pastSpace}
 use Rattle.table_spec.specs.Frame.{largest-abscissa, zero-ordinate}
 use Rattle.table_spec.specs.Values.{signed}
 use Rattle.decimal_spec.specs.Number.{numberAt, countAt}
-use Rattle.decimal_spec.specs.Quotient.{roundedOf}
+use Rattle.decimal_spec.specs.Quotient.{quotientOf}
 use Rattle.decimal_spec.specs.declared.Number.{Number}
 use Rattle.decimal_spec.specs.declared.Count.{Count}
 use Rattle.decimal_spec.specs.declared.Rounded.{Rounded}
-use Rattle.file_spec.specs.declared.Span.{Span}
+use Rattle.decimal_spec.specs.declared.Quotient.{Quotient}
 use Rattle.file_spec.specs.declared.Needed.{Needed}
 use Rattle.file_spec.specs.declared.Decimal.{Decimal}
 use Rattle.file_spec.specs.declared.Given.{Given}
 use Rattle.file_spec.specs.declared.Given.the-variants as given
 use Rattle.file_spec.specs.declared.Figures.{Figures}
 use Rattle.file_spec.specs.declared.Figures.the-variants as figures
-use Rattle.file_spec.specs.Texts.{markOf}
+use Rattle.file_spec.specs.Texts.{textIn, markOf}
 
 -- ---- 26: "Blanks, line ends and comments around"
 
--- only those stand from j on to the end b of the part p
-abbrev pub endsThere : List ℕ → ℕ → ℕ → Bool
-endsThere p b j = eqb (pastSpace p j) b
+-- only those stand from j on to the end of the text p
+abbrev pub endsThere : List ℕ → ℕ → Bool
+endsThere p j = eqb (pastSpace p j) (length p)
 
-unfoldable pub alone : List ℕ → ℕ → Number → Given
-alone p b Number.Misspelled = given.Misspelled
-alone p b (Number.Decimal minus m e j) = pick (endsThere p b j) (given.Is (record { minus = minus; mantissa = m; power = e })) given.Misspelled
+unfoldable pub alone : List ℕ → Number → Given
+alone p Number.Misspelled = given.Misspelled
+alone p (Number.Decimal minus m e j) = pick (endsThere p j) (given.Is (record { minus = minus; mantissa = m; power = e })) given.Misspelled
 
--- the number that the text of a record is
-unfoldable pub decimalIn : List ℕ → Span → Given
-decimalIn s t = alone (take (t .to) s) (t .to) (numberAt (take (t .to) s) (pastSpace (take (t .to) s) (t .from)))
+-- the number that a text is
+unfoldable pub decimalIn : List ℕ → Given
+decimalIn p = alone p (numberAt p (pastSpace p 0))
 
 -- "XFACTOR and YFACTOR exceed zero"
 unfoldable pub exceeding : Given → Given
@@ -43,12 +43,12 @@ exceeding given.Misspelled = given.Misspelled
 exceeding (given.Is d) = pick (both (pick (d .minus) false true) (ltb 0 (d .mantissa))) (given.Is d) given.Misspelled
 
 -- NPOINTS
-unfoldable pub aloneCount : List ℕ → ℕ → Count → Count
-aloneCount p b Count.Misspelled = Count.Misspelled
-aloneCount p b (Count.Counted v j) = pick (endsThere p b j) (Count.Counted v j) Count.Misspelled
+unfoldable pub aloneCount : List ℕ → Count → Count
+aloneCount p Count.Misspelled = Count.Misspelled
+aloneCount p (Count.Counted v j) = pick (endsThere p j) (Count.Counted v j) Count.Misspelled
 
-unfoldable pub countIn : List ℕ → Span → Count
-countIn s t = aloneCount (take (t .to) s) (t .to) (countAt (take (t .to) s) (pastSpace (take (t .to) s) (t .from)))
+unfoldable pub countIn : List ℕ → Count
+countIn p = aloneCount p (countAt p (pastSpace p 0))
 
 abbrev pub withDecimal : ℕ → Given → (Decimal → Figures) → Figures
 withDecimal a given.Misspelled f = figures.Wrong a
@@ -61,21 +61,21 @@ withCount a (Count.Counted v j) f = f v
 -- "26 in the order that 25 lists"
 unfoldable pub figuresOf : List ℕ → Needed → Figures
 figuresOf s t =
-    withDecimal (markOf s (t .xfactor)) (exceeding (decimalIn s (t .xfactor))) (λ xf.
-    withDecimal (markOf s (t .yfactor)) (exceeding (decimalIn s (t .yfactor))) (λ yf.
-    withDecimal (markOf s (t .firstx)) (decimalIn s (t .firstx)) (λ fx.
-    withDecimal (markOf s (t .lastx)) (decimalIn s (t .lastx)) (λ lx.
-    withCount (markOf s (t .npoints)) (countIn s (t .npoints)) (λ n.
-    withDecimal (markOf s (t .firsty)) (decimalIn s (t .firsty)) (λ fy.
+    withDecimal (markOf s (t .xfactor)) (exceeding (decimalIn (textIn s (t .xfactor)))) (λ xf.
+    withDecimal (markOf s (t .yfactor)) (exceeding (decimalIn (textIn s (t .yfactor)))) (λ yf.
+    withDecimal (markOf s (t .firstx)) (decimalIn (textIn s (t .firstx))) (λ fx.
+    withDecimal (markOf s (t .lastx)) (decimalIn (textIn s (t .lastx))) (λ lx.
+    withCount (markOf s (t .npoints)) (countIn (textIn s (t .npoints))) (λ n.
+    withDecimal (markOf s (t .firsty)) (decimalIn (textIn s (t .firsty))) (λ fy.
     figures.All (record { xfactor = xf; yfactor = yf; firstx = fx; lastx = lx; npoints = n; firsty = fy })))))))
 
 -- ---- quotients: of a decimal by a factor above zero, in units of ten to the -k
 
-unfoldable pub ratio : ℕ → Decimal → Decimal → Rounded
-ratio k d c = roundedOf largest-abscissa (d .minus) (d .mantissa * 10 ^ (d .power + k)) (c .mantissa * 10 ^ (c .power))
+unfoldable pub ratio : ℕ → Decimal → Decimal → Quotient
+ratio k d c = quotientOf largest-abscissa (d .minus) (d .mantissa * 10 ^ (d .power + k)) (c .mantissa * 10 ^ (c .power))
 
 -- "F is FIRSTX/XFACTOR and L is LASTX/XFACTOR, to the nearest thousandth"
-abbrev pub abscissa-of : Decimal → Decimal → Rounded
+abbrev pub abscissa-of : Decimal → Decimal → Quotient
 abscissa-of d c = ratio 3 d c
 
 -- a size with its sign

@@ -1,7 +1,7 @@
 -- 01, "The file": the seven records, where a fault in one stands, and the list of XYDATA. Assumes nothing.
 use mathlib.Core.Bool.{Bool, true, false}
 use mathlib.Core.List.{List, [], _∷_}
-use Prim.Native.Nat.{ℕ, suc}
+use Prim.Native.Nat.{ℕ, suc, _+_, _-_}
 use lib.Dec.{eqb}
 use lib.ListN.{length, getD, drop, take}
 use Rattle.terms.specs.Logic.{pick, both}
@@ -38,6 +38,11 @@ FIRSTY = 70 ∷ 73 ∷ 82 ∷ 83 ∷ 84 ∷ 89 ∷ []
 abbrev pub XYDATA : List ℕ
 XYDATA = 88 ∷ 89 ∷ 68 ∷ 65 ∷ 84 ∷ 65 ∷ []
 
+-- ---- "The text of a record is shown as the part of the file from after `=` to the next label's `##`"
+
+abbrev pub textIn : List ℕ → Span → List ℕ
+textIn s t = take (t .to - t .from) (drop (t .from) s)
+
 -- ---- 25: all seven, among the labels from a place on and before END's
 
 abbrev pub withText : Found → (Span → Gathered) → Gathered
@@ -65,9 +70,13 @@ unfoldable pub firstMark : List ℕ → ℕ → ℕ
 firstMark [] i = i
 firstMark (b ∷ s) i = pick (spacing b (getD s 0 0)) (firstMark s (suc i)) i
 
--- in the text of a record
+-- of a text, counted in it
+abbrev pub markIn : List ℕ → ℕ
+markIn p = firstMark p 0
+
+-- of the text of a record, counted in the file
 unfoldable pub markOf : List ℕ → Span → ℕ
-markOf s t = firstMark (drop (t .from) (take (t .to) s)) (t .from)
+markOf s t = t .from + markIn (textIn s t)
 
 -- ---- 27: "the rest of XYDATA's line after `=`, blanks dropped, is not `(X++(Y..Y))`"
 
@@ -89,5 +98,6 @@ unfoldable pub listedAs : List ℕ → ℕ → List ℕ → Listed
 listedAs [] i w = ended w i
 listedAs (b ∷ s) i w = pick (eqb b 10) (ended w (suc i)) (pick (spacing b (getD s 0 0)) (listedAs s (suc i) w) (matched b w (listedAs s (suc i))))
 
-unfoldable pub listedIn : List ℕ → Span → Listed
-listedIn s t = listedAs (drop (t .from) (take (t .to) s)) (t .from) LIST
+-- of the text of XYDATA: the body starts at a place of that text
+unfoldable pub listedIn : List ℕ → Listed
+listedIn p = listedAs p 0 LIST
