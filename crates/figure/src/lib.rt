@@ -6,6 +6,7 @@ ghost use Rattle.table_spec.specs.Frame.{largest-abscissa, zero-ordinate, ordin
 ghost use Rattle.table_spec.specs.Values.{signed};
 ghost use Rattle.file_spec.specs.Figures.{exceeding, ratio, whole, agrees};
 ghost use Rattle.figure.specs.Bounds.{Small, givenIn, Factor, factorIn, roundedIn};
+use decimal_spec::Quotient;
 use decimal_spec::Rounded;
 use file_spec::Decimal;
 use file_spec::Given;
@@ -31,19 +32,18 @@ pub fn exceed(g: Given) -> Given
 }
 
 // The quotient of a decimal by a factor, in units of ten to the -k.
-pub fn ratio_of(k: u64, d: Decimal, c: Decimal) -> Rounded
+pub fn ratio_of(k: u64, d: Decimal, c: Decimal) -> Quotient
     requires { ⌜ (k ≤ 3) × Small d × Factor c ⌝ }
-    ensures { λ r. ⌜ (r ≡ ratio k d c) × roundedIn r ⌝ }
+    ensures { λ r. ⌜ (r ≡ ratio k d c) × roundedIn (r .rounded) ⌝ }
 {
-    let q = quotient::quotient(
+    quotient::quotient(
         d.minus,
         d.mantissa,
         d.power + k,
         c.mantissa,
         c.power,
         Frame::LARGEST_ABSCISSA as u64,
-    );
-    q.rounded
+    )
 }
 
 // A size with its sign.

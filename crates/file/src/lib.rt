@@ -1,6 +1,6 @@
 // Reading a file (01, "The file"): labels, the seven records, their numbers, the table, and FIRSTY. The file is lent and never written to; a refusal leaves every lent ordinate as it was.
 ghost use mathlib.Core.Path.{_≡_};
-ghost use Prim.Native.Nat.{_+_, _≤_};
+ghost use Prim.Native.Nat.{_+_, _-_, _≤_};
 ghost use lib.ListN.{length};
 ghost use Rattle.label_spec.specs.File.{longestFile};
 ghost use Rattle.file_spec.specs.Figures.{figuresOf, ratio};
@@ -59,19 +59,23 @@ fn read_body(
     first: i64,
     last: i64,
 ) -> FileStaged
-    requires { ⌜ AllWithin (length (now file)) x × AllSmall n × (start ≤ x .xydata .to) × (length (now file) ≤ longestFile) ⌝ }
+    requires { ⌜ AllWithin (length (now file)) x × AllSmall n × (start ≤ x .xydata .to - x .xydata .from) × (length (now file) ≤ longestFile) ⌝ }
     ensures { λ r. ⌜ StageSays (byTable (now (file .entry)) (length (now (out .entry))) x n start first last) (now (out .entry)) (now (out .exit)) r ⌝ }
 {
     let s = x.xydata;
+    let from = s.from;
     let to = s.to;
-    let body = &file[start..to];
+    let place = from + start;
+    let body = &file[place..to];
     let points = n.npoints as usize;
     match table_read::check_table(first, last, points, body, out.len()) {
-        Checked::Refused(r) => refused_in(r, start),
+        Checked::Refused(r) => refused_in(r, place),
         Checked::First(y) => {
             let firsty = n.firsty;
             let yfactor = n.yfactor;
-            if !agree(y, ratio_of(0, firsty, yfactor)) {
+            let q = ratio_of(0, firsty, yfactor);
+            let rounded = q.rounded;
+            if !agree(y, rounded) {
                 let t = x.firsty;
                 return refused(29, mark_in(file, t));
             }
@@ -87,28 +91,34 @@ fn read_body(
 
 // F and L (28), then the table.
 fn read_abscissas(file: &[u8], out: &mut [i32], x: Needed, n: Numbers, start: usize) -> FileStaged
-    requires { ⌜ AllWithin (length (now file)) x × AllSmall n × (start ≤ x .xydata .to) × (length (now file) ≤ longestFile) ⌝ }
-    ensures { λ r. ⌜ StageSays (byAbscissas (now (file .entry)) (length (now (out .entry))) x n start (ratio 3 (n .firstx) (n .xfactor))) (now (out .entry)) (now (out .exit)) r ⌝ }
+    requires { ⌜ AllWithin (length (now file)) x × AllSmall n × (start ≤ x .xydata .to - x .xydata .from) × (length (now file) ≤ longestFile) ⌝ }
+    ensures { λ r. ⌜ StageSays (byAbscissas (now (file .entry)) (length (now (out .entry))) x n start (ratio 3 (n .firstx) (n .xfactor) .rounded)) (now (out .entry)) (now (out .exit)) r ⌝ }
 {
     let firstx = n.firstx;
     let lastx = n.lastx;
     let xfactor = n.xfactor;
-    match ratio_of(3, firstx, xfactor) {
+    let f = ratio_of(3, firstx, xfactor);
+    let first_rounded = f.rounded;
+    match first_rounded {
         Rounded::Beyond => {
             let t = x.firstx;
             refused(28, mark_in(file, t))
         }
-        Rounded::Whole { minus: m, size: p } => match ratio_of(3, lastx, xfactor) {
-            Rounded::Beyond => {
-                let t = x.lastx;
-                refused(28, mark_in(file, t))
+        Rounded::Whole { minus: m, size: p } => {
+            let l = ratio_of(3, lastx, xfactor);
+            let last_rounded = l.rounded;
+            match last_rounded {
+                Rounded::Beyond => {
+                    let t = x.lastx;
+                    refused(28, mark_in(file, t))
+                }
+                Rounded::Whole { minus: k, size: q } => {
+                    let first = whole_of(m, p);
+                    let last = whole_of(k, q);
+                    read_body(file, out, x, n, start, first, last)
+                }
             }
-            Rounded::Whole { minus: k, size: q } => {
-                let first = whole_of(m, p);
-                let last = whole_of(k, q);
-                read_body(file, out, x, n, start, first, last)
-            }
-        },
+        }
     }
 }
 

@@ -92,6 +92,6 @@ ended-full k i e = rw e refl
 pub ended-short : (k i : ℕ) → k ≤ 11 → (k ≡ 11 → ⊥) → listed.Unlisted ≡ ended (drop k LIST) i
 ended-short k i l n = let g : k < 11 = omega (arith, n) in rw (byte-of k g) refl
 
-pub ended-in : (w : List ℕ) (i a b : ℕ) → a ≤ i → i ≤ b → listedWithin (record { from = a; to = b }) (ended w i)
-ended-in [] i a b l h = (l, h)
-ended-in (c ∷ w) i a b l h = tt
+pub ended-in : (w : List ℕ) (i b : ℕ) → i ≤ b → listedWithin b (ended w i)
+ended-in [] i b h = h
+ended-in (c ∷ w) i b h = tt

@@ -1,11 +1,11 @@
 // What the text of a record says (01, "The file"): where a fault in it stands, the list of XYDATA, and the number that it is.
 ghost use mathlib.Core.Path.{_≡_};
-ghost use Prim.Native.Nat.{_≤_};
+ghost use Prim.Native.Nat.{_-_, _≤_};
 ghost use lib.ListN.{length, drop};
 ghost use Rattle.alphabet_spec.specs.Entries.{table};
-ghost use Rattle.file_spec.specs.Texts.{«spacing», firstMark, markOf, LIST, ended, listedAs, listedIn};
+ghost use Rattle.file_spec.specs.Texts.{«spacing», textIn, markIn, markOf, LIST, ended, listedIn};
 ghost use Rattle.file_spec.specs.Figures.{decimalIn, exceeding, countIn};
-ghost use Rattle.file_texts.specs.Spans.{Within, countSmall, listedWithin, listStep, decimalFrom, countFrom};
+ghost use Rattle.file_texts.specs.Spans.{Within, countSmall, listedWithin, listStep};
 ghost use Rattle.figure.specs.Bounds.{givenIn, factorIn};
 use decimal_spec::Count;
 use decimal_spec::Number;
@@ -36,12 +36,11 @@ fn spacing(b: u8, c: u8) -> bool
     c == b'\n'
 }
 
-// The first place from here on with no blank and no line end.
-fn first_mark(s: &[u8], from: usize) -> usize
-    requires { ⌜ from ≤ length (now s) ⌝ }
-    ensures { λ r. ⌜ r ≡ firstMark (drop from (now (s .entry))) from ⌝ }
+// The first place of a text with no blank and no line end.
+fn first_mark(s: &[u8]) -> usize
+    ensures { λ r. ⌜ (r ≡ markIn (now (s .entry))) × (r ≤ length (now (s .entry))) ⌝ }
 {
-    let mut i = from;
+    let mut i: usize = 0;
     while i < s.len() {
         let next = i + 1;
         if !spacing(s[i], byte_at(s, next)) {
@@ -52,14 +51,14 @@ fn first_mark(s: &[u8], from: usize) -> usize
     i
 }
 
-// Where a fault in the text of a record stands (26).
+// Where a fault in the text of a record stands (26), counted in the file.
 pub fn mark_in(file: &[u8], t: Span) -> usize
     requires { ⌜ Within (length (now file)) t ⌝ }
     ensures { λ r. ⌜ r ≡ markOf (now (file .entry)) t ⌝ }
 {
     let from = t.from;
     let to = t.to;
-    first_mark(&file[..to], from)
+    from + first_mark(&file[from..to])
 }
 
 // How much of the list of XYDATA stands after the byte b, with c after it: the same after a blank, one more where b is the next of it, 12 where it is not.
@@ -90,12 +89,11 @@ fn list_ended(k: usize, i: usize) -> Listed
     Listed::Unlisted
 }
 
-// The rest of a line from a place on against the list of XYDATA (27).
-fn list_line(s: &[u8], from: usize) -> Listed
-    requires { ⌜ from ≤ length (now s) ⌝ }
-    ensures { λ r. ⌜ (r ≡ listedAs (drop from (now (s .entry))) from LIST) × listedWithin (record { from = from; to = length (now (s .entry)) }) r ⌝ }
+// The first line of a text against the list of XYDATA (27).
+fn list_line(s: &[u8]) -> Listed
+    ensures { λ r. ⌜ (r ≡ listedIn (now (s .entry))) × listedWithin (length (now (s .entry))) r ⌝ }
 {
-    let mut i = from;
+    let mut i: usize = 0;
     let mut k: usize = 0;
     while i < s.len() {
         let b = s[i];
@@ -113,32 +111,32 @@ fn list_line(s: &[u8], from: usize) -> Listed
     list_ended(k, i)
 }
 
-// The list of XYDATA: where the body starts.
+// The list of XYDATA: where in its text the body starts.
 pub fn list_in(file: &[u8], t: Span) -> Listed
     requires { ⌜ Within (length (now file)) t ⌝ }
-    ensures { λ r. ⌜ (r ≡ listedIn (now (file .entry)) t) × listedWithin t r ⌝ }
+    ensures { λ r. ⌜ (r ≡ listedIn (textIn (now (file .entry)) t)) × listedWithin (t .to - t .from) r ⌝ }
 {
     let from = t.from;
     let to = t.to;
-    list_line(&file[..to], from)
+    list_line(&file[from..to])
 }
 
 // The decimal that the text of a record is, with blanks, line ends and comments around it.
 pub fn decimal_in(t: &[u8; 256], file: &[u8], x: Span) -> Given
     requires { ⌜ (now t ≡ table) × Within (length (now file)) x ⌝ }
-    ensures { λ r. ⌜ (r ≡ decimalIn (now (file .entry)) x) × givenIn r ⌝ }
+    ensures { λ r. ⌜ (r ≡ decimalIn (textIn (now (file .entry)) x)) × givenIn r ⌝ }
 {
     let from = x.from;
     let to = x.to;
-    decimal_alone(t, &file[..to], from)
+    decimal_alone(t, &file[from..to])
 }
 
-// The decimal that a text is from a place on.
-fn decimal_alone(t: &[u8; 256], part: &[u8], from: usize) -> Given
-    requires { ⌜ (now t ≡ table) × (from ≤ length (now part)) ⌝ }
-    ensures { λ r. ⌜ (r ≡ decimalFrom (now (part .entry)) from) × givenIn r ⌝ }
+// The decimal that a text is.
+fn decimal_alone(t: &[u8; 256], part: &[u8]) -> Given
+    requires { ⌜ now t ≡ table ⌝ }
+    ensures { λ r. ⌜ (r ≡ decimalIn (now (part .entry))) × givenIn r ⌝ }
 {
-    let at = past_space(part, from);
+    let at = past_space(part, 0);
     match decimal::number(t, part, at) {
         Number::Misspelled => Given::Misspelled,
         Number::Decimal {
@@ -162,17 +160,17 @@ fn decimal_alone(t: &[u8; 256], part: &[u8], from: usize) -> Given
 // The factor that the text of a record is.
 pub fn factor_in(t: &[u8; 256], file: &[u8], x: Span) -> Given
     requires { ⌜ (now t ≡ table) × Within (length (now file)) x ⌝ }
-    ensures { λ r. ⌜ (r ≡ exceeding (decimalIn (now (file .entry)) x)) × factorIn r ⌝ }
+    ensures { λ r. ⌜ (r ≡ exceeding (decimalIn (textIn (now (file .entry)) x))) × factorIn r ⌝ }
 {
     exceed(decimal_in(t, file, x))
 }
 
-// The count that a text is from a place on (NPOINTS).
-fn count_alone(t: &[u8; 256], part: &[u8], from: usize) -> Count
-    requires { ⌜ (now t ≡ table) × (from ≤ length (now part)) ⌝ }
-    ensures { λ r. ⌜ (r ≡ countFrom (now (part .entry)) from) × countSmall r ⌝ }
+// The count that a text is (NPOINTS).
+fn count_alone(t: &[u8; 256], part: &[u8]) -> Count
+    requires { ⌜ now t ≡ table ⌝ }
+    ensures { λ r. ⌜ (r ≡ countIn (now (part .entry))) × countSmall r ⌝ }
 {
-    let at = past_space(part, from);
+    let at = past_space(part, 0);
     match decimal::count(t, part, at) {
         Count::Misspelled => Count::Misspelled,
         Count::Counted { value, end } => {
@@ -187,9 +185,9 @@ fn count_alone(t: &[u8; 256], part: &[u8], from: usize) -> Count
 // The count that the text of a record is.
 pub fn count_in(t: &[u8; 256], file: &[u8], x: Span) -> Count
     requires { ⌜ (now t ≡ table) × Within (length (now file)) x ⌝ }
-    ensures { λ r. ⌜ (r ≡ countIn (now (file .entry)) x) × countSmall r ⌝ }
+    ensures { λ r. ⌜ (r ≡ countIn (textIn (now (file .entry)) x)) × countSmall r ⌝ }
 {
     let from = x.from;
     let to = x.to;
-    count_alone(t, &file[..to], from)
+    count_alone(t, &file[from..to])
 }

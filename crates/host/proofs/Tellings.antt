@@ -65,11 +65,11 @@ told-declined x e o = let z = text-declined x e in record { numbers = z; returne
 
 file-accepted : (s : List ℕ) (x : FileAnswer) {t : FileTable} → files.Accepted t ≡ toldFile s x → 0 ∷ 0 ∷ 0 ∷ 0 ∷ t .points ∷ bits (t .first) ∷ bits (t .last) ∷ [] ≡ fileAnswer s x
 file-accepted s (refuse-file c a) e = zero-one cc
-file-accepted s (accept-file n f l ys) {t} e = let z : t ≡ record { points = n; first = f; last = l } = cc in rw z refl
+file-accepted s (accept-file x ys) {t} e = let z : t ≡ x = cc in rw z refl
 
 file-refused : (s : List ℕ) (x : FileAnswer) {r : Refusal} → files.Refused r ≡ toldFile s x → r .number ∷ r .place ∷ r .line ∷ r .column ∷ 0 ∷ 0 ∷ 0 ∷ [] ≡ fileAnswer s x
 file-refused s (refuse-file c a) {r} e = let z : r ≡ refusalIn s c a = cc in rw z refl
-file-refused s (accept-file n f l ys) e = zero-one cc
+file-refused s (accept-file t ys) e = zero-one cc
 
 module _ {file : List ℕ} {out out' : List ℤ} where
   pub told-file : {t : FileTable} {f l : ℕ} → FileSays file out out' (files.Accepted t) → f ≡ bits (t .first) → l ≡ bits (t .last)

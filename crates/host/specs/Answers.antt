@@ -71,7 +71,7 @@ bits (negsuc n) = 18446744073709551615 - n
 -- a file read: refused, place, line, column, points, first, last
 abbrev pub fileAnswer : List ℕ → FileAnswer → List ℕ
 fileAnswer s (refuse-file c a) = c ∷ a ∷ lineOf s a ∷ columnOf s a ∷ 0 ∷ 0 ∷ 0 ∷ []
-fileAnswer s (accept-file n f l ys) = 0 ∷ 0 ∷ 0 ∷ 0 ∷ n ∷ bits f ∷ bits l ∷ []
+fileAnswer s (accept-file t ys) = 0 ∷ 0 ∷ 0 ∷ 0 ∷ t .points ∷ bits (t .first) ∷ bits (t .last) ∷ []
 
 pub record FileTold (file : List ℕ) (out out' : List ℤ) (answer : List ℕ) (r : ℕ) : Type 0 where
   pub numbers : answer ≡ fileAnswer file (readFile file (length out))

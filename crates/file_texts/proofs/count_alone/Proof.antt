@@ -24,17 +24,17 @@ returns : tie.Need-returns
 returns c =
     let known = c .before .before .before in let read = known .before .before in
     let said = sym (known .value .given .1) ∙ read .count .ensures .says in
-    (count-late _ _ _ (read .before .past-space .ensures .is) _ _ said _ (c .before .past-space2 .ensures .is) (c .if1 .taken), tt)
+    (count-late _ _ (read .before .past-space .ensures .is) _ _ said _ (c .before .past-space2 .ensures .is) (c .if1 .taken), tt)
 
 returns-2 : tie.Need-returns-2
-returns-2 c = let read = c .before .before in (count-no _ _ _ (read .before .past-space .ensures .is) (sym (c .enum-told .given .1) ∙ read .count .ensures .says), tt)
+returns-2 c = let read = c .before .before in (count-no _ _ (read .before .past-space .ensures .is) (sym (c .enum-told .given .1) ∙ read .count .ensures .says), tt)
 
 returns-3 : tie.Need-returns-3
 returns-3 c =
     let known = c .before .before .before in let read = known .before .before in
     let said = sym (known .value .given .1) ∙ read .count .ensures .says in
     let good = rw (known .value .given .1) at (read .count .ensures .good) in
-    (count-is _ _ _ (read .before .past-space .ensures .is) _ _ said _ (c .before .past-space2 .ensures .is) (c .if1 .left), good .0)
+    (count-is _ _ (read .before .past-space .ensures .is) _ _ said _ (c .before .past-space2 .ensures .is) (c .if1 .left), good .0)
 
 pub count-alone-spec : {M : Type 1} → statement M
 count-alone-spec =

@@ -24,17 +24,17 @@ returns : tie.Need-returns
 returns c =
     let known = c .before .before .before in let read = known .before .before in
     let said = sym (known .minus .given .1) ∙ read .number .ensures .says in
-    (decimal-late _ _ _ (read .before .past-space .ensures .is) _ _ _ _ said _ (c .before .past-space2 .ensures .is) (c .if1 .taken), tt)
+    (decimal-late _ _ (read .before .past-space .ensures .is) _ _ _ _ said _ (c .before .past-space2 .ensures .is) (c .if1 .taken), tt)
 
 returns-2 : tie.Need-returns-2
-returns-2 c = let read = c .before .before in (decimal-no _ _ _ (read .before .past-space .ensures .is) (sym (c .enum-told .given .1) ∙ read .number .ensures .says), tt)
+returns-2 c = let read = c .before .before in (decimal-no _ _ (read .before .past-space .ensures .is) (sym (c .enum-told .given .1) ∙ read .number .ensures .says), tt)
 
 returns-3 : tie.Need-returns-3
 returns-3 c =
     let known = c .before .before .before in let read = known .before .before in
     let said = sym (known .minus .given .1) ∙ read .number .ensures .says in
     let good = rw (known .minus .given .1) at (read .number .ensures .good) in
-    (decimal-is _ _ _ (read .before .past-space .ensures .is) _ _ _ _ said _ (c .before .past-space2 .ensures .is) (c .if1 .left), record { mantissa = good .0; power = good .1 })
+    (decimal-is _ _ (read .before .past-space .ensures .is) _ _ _ _ said _ (c .before .past-space2 .ensures .is) (c .if1 .left), record { mantissa = good .0; power = good .1 })
 
 pub decimal-alone-spec : {M : Type 1} → statement M
 decimal-alone-spec =

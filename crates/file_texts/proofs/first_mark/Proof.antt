@@ -1,23 +1,23 @@
 -- `file_texts::first_mark` meets its contract: what is passed is blanks and line ends.
-use mathlib.Core.Path.{_≡_, sym, _∙_}
+use mathlib.Core.Path.{_≡_, refl, sym, _∙_}
 use Prim.Native.Nat.{_-_, _≤_}
 use native.Mathlib.Omega.{arith}
 use lib.ListN.{length, drop}
 use borrow.Author.Needs.{needs}
 use borrow.Author.Tests.{not-true, not-false}
-use Rattle.file_spec.specs.Texts.{firstMark}
+use Rattle.file_spec.specs.Texts.{firstMark, markIn}
 use Rattle.file_texts.proofs.TextLaws.{mark-end, mark-here, mark-on}
 use Rattle.file_texts.proofs.first_mark.Statement.{statement}
 use Rattle.file_texts.proofs.first_mark.Tie as tie
 
 abbrev Inv-loop : tie.InvT-loop
-Inv-loop s from i₀ i = (from ≤ i) × (i ≤ length s) × (firstMark (drop from s) from ≡ firstMark (drop i s) i)
+Inv-loop s i₀ i = (i ≤ length s) × (markIn s ≡ firstMark (drop i s) i)
 
 abbrev μ-loop : tie.MeasureT-loop
-μ-loop s from i₀ i = length s - i
+μ-loop s i₀ i = length s - i
 
 loop-holds : tie.Need-loop-holds Inv-loop μ-loop
-loop-holds c = search needs
+loop-holds c = (omega arith, refl)
 
 add-next : tie.Need-add-next Inv-loop μ-loop
 add-next c = search needs
@@ -35,7 +35,7 @@ returns : tie.Need-returns Inv-loop μ-loop
 returns c =
     let read = c .before .before in let turn = read .before .before in let l = turn .before .loop in let s = turn .before .before .before .args .s .now in
     let e = rw (read .byte-at .ensures) at (c .before .spacing .ensures) in
-    sym (l .inv .2 ∙ mark-here s (l .i) (turn .loop-test .taken) (sym e ∙ not-true _ (c .if1 .taken)))
+    (sym (l .inv .1 ∙ mark-here s (l .i) (turn .loop-test .taken) (sym e ∙ not-true _ (c .if1 .taken))), l .inv .0)
 
 loop-less : tie.Need-loop-less Inv-loop μ-loop
 loop-less c = search needs
@@ -43,11 +43,11 @@ loop-less c = search needs
 loop-again : tie.Need-loop-again Inv-loop μ-loop
 loop-again c =
     let read = c .before .before in let turn = read .before .before in let l = turn .before .loop in let s = turn .before .before .before .args .s .now in
-    let e = rw (read .byte-at .ensures) at (c .before .spacing .ensures) in let x = l .inv .0 in
-    (omega arith, omega arith, l .inv .2 ∙ mark-on s (l .i) (turn .loop-test .taken) (sym e ∙ not-false _ (c .if1 .left)))
+    let e = rw (read .byte-at .ensures) at (c .before .spacing .ensures) in
+    (omega arith, l .inv .1 ∙ mark-on s (l .i) (turn .loop-test .taken) (sym e ∙ not-false _ (c .if1 .left)))
 
 returns-2 : tie.Need-returns-2 Inv-loop μ-loop
-returns-2 c = let l = c .before .loop in sym (l .inv .2 ∙ mark-end (c .before .before .before .args .s .now) (l .i) (c .loop-test .left))
+returns-2 c = let l = c .before .loop in (sym (l .inv .1 ∙ mark-end (c .before .before .before .args .s .now) (l .i) (c .loop-test .left)), l .inv .0)
 
 pub first-mark-spec : {M : Type 1} → statement M
 first-mark-spec =

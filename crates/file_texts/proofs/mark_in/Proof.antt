@@ -1,19 +1,36 @@
--- `file_texts::mark_in` meets its contract: the text of a record is a text that ends where it does.
-use mathlib.Core.Path.{sym}
+-- `file_texts::mark_in` meets its contract: the record's start, and the place within its text.
+use mathlib.Core.Path.{refl}
 use Rattle.file_spec.specs.Texts.{markOf}
-use Rattle.file_texts.proofs.NumberLaws.{part-length}
+use borrow.Author.Needs.{needs}
 use Rattle.file_texts.proofs.mark_in.Statement.{statement}
 use Rattle.file_texts.proofs.mark_in.Tie as tie
 
-slice-aggregate-first-mark : tie.Need-slice-aggregate-first-mark
-slice-aggregate-first-mark c = let a = c .before .before .args in sym (part-length (a .file .now) (a .t) (c .before .before .pre))
+sub-first-mark : tie.Need-sub-first-mark
+sub-first-mark c = search needs
+
+part-first-mark-start : tie.Need-part-first-mark-start
+part-first-mark-start c = search needs
+
+part-first-mark-end : tie.Need-part-first-mark-end
+part-first-mark-end c = search needs
 
 first-mark-requires : tie.Need-first-mark-requires
-first-mark-requires c κs = let a = c .before .before .args in rw (part-length (a .file .now) (a .t) (c .before .before .pre)) (c .before .before .pre .low)
+first-mark-requires c κs = search needs
+
+add-result : tie.Need-add-result
+add-result c = search needs
 
 returns : tie.Need-returns
 unfolding markOf
-returns c = c .first-mark .ensures
+returns c = rw (c .first-mark .ensures .0) refl
 
 pub mark-in-spec : {M : Type 1} → statement M
-mark-in-spec = tie.close (tie.spec slice-aggregate-first-mark first-mark-requires returns)
+mark-in-spec =
+    tie.close
+    (tie.spec
+    sub-first-mark
+    part-first-mark-start
+    part-first-mark-end
+    first-mark-requires
+    add-result
+    returns)
