@@ -69,14 +69,15 @@ first-state at e k want = record { at = at; e = e; k = k; q = 0; want = want; st
 module _ {N : ℕ} {s : List ℕ} {at e k want : ℕ} {b : Cur} {out mid : List ℤ} (out' : List ℤ) (g : Went N s (first-state at e k want) b out mid) where
   pub went-line : {j : ℕ} → Stepped N s b mid out' (step.Line j) → Lined N s at k want out out' (linewise.Next (rowAfter b j))
   went-line {j} h =
-      let x = g .low in let y = h .0 in let z = g .sits in let l = h .3 in let q = z .stands in (
-        omega arith,
-        h .1,
-        z .small,
-        z .few,
-        record { stop = b .at; low = x; clear = g .clear; ends = omega arith; next = h .4 },
-        λ p w v. rw (h .2) (gone-done N s at k p w out mid b (g .law p w v) j (h .5)),
-      )
+      let x = g .low in let y = h .low in let z = g .sits in let l = h .ends in let q = z .stands in
+      record {
+        low = omega arith;
+        high = h .high;
+        small = z .small;
+        few = z .few;
+        ends = record { stop = b .at; low = x; clear = g .clear; ends = omega arith; next = h .next };
+        done = λ p w v. rw (h .same) (gone-done N s at k p w out mid b (g .law p w v) j (h .law));
+      }
 
   pub went-refused : {n : ℕ} → Stepped N s b mid out' (step.Refused n) → Lined N s at k want out out' (linewise.Refused n (b .at))
   went-refused {n} h = λ p w v. rw (h .0) (gone-broken N s at k p w out mid b (g .law p w v) n (b .at) (h .1))

@@ -4,13 +4,13 @@ ghost use mathlib.Core.List.{map};
 ghost use mathlib.Core.Logic.{_⊎_};
 ghost use Prim.Native.Nat.{_+_, _%_, _<_, _≤_};
 ghost use lib.Dec.{leb};
-ghost use lib.ListN.{length, set};
+ghost use lib.ListN.{set};
 ghost use lib.Seq.{sets};
 ghost use Rattle.alphabet_spec.specs.Entries.{entryAt, table};
 ghost use Rattle.table_spec.specs.Frame.{entry-for};
 ghost use Rattle.table_spec.specs.Values.{own, by, times, By, copies, moved, room};
-ghost use Rattle.table_values.specs.Numbers.{leadOf, valueAt, below, Token, Numbered};
-ghost use Rattle.table_values.specs.States.{shiftedTo, difForm, rowAfter, Reaches, Sits, Went, Stepped, Lined};
+ghost use Rattle.table_values.specs.Numbers.{leadOf, Token, Numbered};
+ghost use Rattle.table_values.specs.States.{shiftedTo, difForm, rowAfter, Reaches, Sits, Valued, Again, Went, Stepped, FirstValue, Lined};
 use alphabet::BLANK;
 use alphabet::DIF;
 use alphabet::DIF_MINUS;
@@ -358,7 +358,7 @@ fn difference(s: &[u8], points: usize, out: &mut [i32], c: Cur, v: u64, j: usize
 
 // A DUP of a value of its own, or of a missing one: n further copies of the ordinate.
 fn same_again(s: &[u8], points: usize, out: &mut [i32], c: Cur, n: usize, j: usize, f: u64) -> Step
-    requires { ⌜ Sits points (now s) c × (points ≤ 65536) × (2 ≤ c .form) × (c .form < 32) × (1 ≤ n) × (n < 100000) × Token (now s) (c .at) (times (n + 1)) j f ⌝ }
+    requires { ⌜ Again points (now s) c n j f × (2 ≤ c .form) × (c .form < 32) ⌝ }
     ensures { λ r. ⌜ Stepped points (now (s .entry)) c (now (out .entry)) (now (out .exit)) r ⌝ }
 {
     let k = c.k;
@@ -381,7 +381,7 @@ fn same_again(s: &[u8], points: usize, out: &mut [i32], c: Cur, n: usize, j: usi
 
 // A DUP of a difference: n further steps.
 fn steps_again(s: &[u8], points: usize, out: &mut [i32], c: Cur, n: usize, j: usize, f: u64) -> Step
-    requires { ⌜ Sits points (now s) c × (points ≤ 65536) × (32 ≤ c .form) × (1 ≤ n) × (n < 100000) × Token (now s) (c .at) (times (n + 1)) j f ⌝ }
+    requires { ⌜ Again points (now s) c n j f × (32 ≤ c .form) ⌝ }
     ensures { λ r. ⌜ Stepped points (now (s .entry)) c (now (out .entry)) (now (out .exit)) r ⌝ }
 {
     let k = c.k;
@@ -431,7 +431,7 @@ fn dup_value(s: &[u8], points: usize, out: &mut [i32], c: Cur, v: u64, j: usize,
 
 // The value at the place, whose number is v.
 fn value(s: &[u8], points: usize, out: &mut [i32], c: Cur, v: u64, j: usize, f: u64) -> Step
-    requires { ⌜ Sits points (now s) c × (points ≤ 65536) × (c .e < 160) × (c .e < 96 ⊎ 128 ≤ c .e) × (v < below (c .e)) × Token (now s) (c .at) (valueAt (c .e) v) j f ⌝ }
+    requires { ⌜ Valued points (now s) c v j f ⌝ }
     ensures { λ r. ⌜ Stepped points (now (s .entry)) c (now (out .entry)) (now (out .exit)) r ⌝ }
 {
     let e = c.e;
@@ -514,7 +514,7 @@ pub fn values(
     k: usize,
     want: u64,
 ) -> LineRead
-    requires { ⌜ (now t ≡ table) × (points ≤ 65536) × (0 < at) × (at ≤ length (now s)) × (e ≡ entryAt (now s) at) × (k ≤ points) ⌝ }
+    requires { ⌜ FirstValue points (now t) (now s) at e k ⌝ }
     ensures { λ r. ⌜ Lined points (now (s .entry)) at k want (now (out .entry)) (now (out .exit)) r ⌝ }
 {
     let mut c = Cur {
