@@ -1,4 +1,3 @@
-pub mod NumberLaws
 pub mod Moves
 pub mod Turns
 pub mod Meanings

@@ -12,7 +12,7 @@ use lib.ListN.{length, set, length-set}
 use lib.Seq.{sets}
 use Rattle.table_spec.specs.Frame.{entry-for}
 use Rattle.table_spec.specs.Values.{Value, by, By, Spot, moved, copies}
-use Rattle.table_values.specs.Numbers.{Token}
+use Rattle.table_numbers.specs.Numbers.{Token}
 use Rattle.table_values.specs.States.{shiftedTo, Reaches, dif, Holds, opening, checking, going, Sits, Went, Stepped, rowAfter, Lined}
 use Rattle.table_values.specs.declared.Cur.{Cur}
 use Rattle.table_values.specs.declared.Step.the-variants as step

@@ -16,7 +16,7 @@ use Rattle.table_spec.specs.Reading.{line, fresh, inRange, difBefore}
 use Rattle.table_lines.specs.Seen.{seen, here}
 use Rattle.table_lines.specs.Ends.{endAt}
 use Rattle.table_lines.specs.declared.Ending.the-variants as ending
-use Rattle.table_values.specs.Numbers.{valueAt, Clear, Token, below}
+use Rattle.table_numbers.specs.Numbers.{valueAt, Clear, Token, below}
 use Rattle.table_values.specs.LineValues.{whole, broken, given, line-says}
 use Rattle.table_values.specs.declared.Cur.{Cur}
 use Rattle.table_values.specs.declared.Step.{Step}

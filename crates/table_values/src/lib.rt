@@ -1,25 +1,21 @@
 // The values of a line (01, "Values", "Meaning"). The byte table is lent to each function, and the state goes in and comes back by value.
 ghost use mathlib.Core.Path.{_≡_};
 ghost use mathlib.Core.List.{map};
-ghost use mathlib.Core.Logic.{_⊎_};
-ghost use Prim.Native.Nat.{_+_, _%_, _<_, _≤_};
+ghost use Prim.Native.Nat.{_+_, _<_, _≤_};
 ghost use lib.Dec.{leb};
 ghost use lib.ListN.{set};
 ghost use lib.Seq.{sets};
-ghost use Rattle.alphabet_spec.specs.Entries.{entryAt, table};
+ghost use Rattle.alphabet_spec.specs.Entries.{table};
 ghost use Rattle.table_spec.specs.Frame.{entry-for};
-ghost use Rattle.table_spec.specs.Values.{own, by, times, By, copies, moved, room};
-ghost use Rattle.table_values.specs.Numbers.{leadOf, Token, Numbered};
+ghost use Rattle.table_spec.specs.Values.{own, by, times, By, copies, moved};
+ghost use Rattle.table_numbers.specs.Numbers.{Token};
 ghost use Rattle.table_values.specs.States.{shiftedTo, difForm, rowAfter, Reaches, Sits, Valued, Again, Went, Stepped, FirstValue, Lined};
 use alphabet::BLANK;
 use alphabet::DIF;
 use alphabet::DIF_MINUS;
 use alphabet::KIND;
 use alphabet::MISSING;
-use alphabet::PAST_DIGITS;
-use alphabet::PLUS;
 use alphabet::POINT;
-use alphabet::digits;
 use alphabet::entry_at;
 use signed::PAST_ORDINATES;
 use signed::ZERO_ORDINATE;
@@ -27,12 +23,9 @@ use signed::entry_for;
 use table_lines::Ending;
 use table_lines::blanks;
 use table_lines::line_end;
-
-// A number: itself, the place after it and the entry there; or one that is misspelled.
-enum NumberRead {
-    Read(u64, usize, u64),
-    Misspelled,
-}
+use table_numbers::NumberRead;
+use table_numbers::number;
+use table_numbers::packed;
 
 // Within a line: the place and the entry there; how many points; the ordinate before (0: none on this line, or missing); the ordinate that a check line's first value must equal (0: not
 // asked); the size of the last difference; and the form of the value before: 0 none, or a DUP that is not DIF; 1 a DUP that is; 2 a value of its own; from DIF on a difference, its first byte's entry.
@@ -65,81 +58,6 @@ pub struct Row {
 pub enum LineRead {
     Next(Row),
     Refused(u64, usize),
-}
-
-// ---- numbers
-
-// How many digits may follow the pseudo-digit with the entry e: ten with it, five for DUP, none after @ and %.
-fn further(e: u64) -> usize
-    requires { ⌜ (16 ≤ e) × (e < 96) ⌝ }
-    ensures { λ r. ⌜ r ≡ room (leadOf e) (e % 16) ⌝ }
-{
-    if e < DIF {
-        return 4;
-    }
-    if e % KIND == 0 {
-        return 0;
-    }
-    9
-}
-
-// A pseudo-digit and its digits, at a place whose entry is e.
-fn packed(t: &[u8; 256], s: &[u8], at: usize, e: u64) -> NumberRead
-    requires { ⌜ (now t ≡ table) × (e ≡ entryAt (now s) at) × (16 ≤ e) × (e < 96) ⌝ }
-    ensures { λ r. ⌜ Numbered (now (s .entry)) at e r ⌝ }
-{
-    let next = at + 1;
-    let r = digits(t, s, next, e % KIND, further(e));
-    if r.e < PAST_DIGITS {
-        return NumberRead::Misspelled;
-    }
-    NumberRead::Read(r.v, r.at, r.e)
-}
-
-// A sign and digits, at a place whose entry is e.
-fn signed_number(t: &[u8; 256], s: &[u8], at: usize, e: u64) -> NumberRead
-    requires { ⌜ (now t ≡ table) × (e ≡ entryAt (now s) at) × (128 ≤ e) × (e < 160) ⌝ }
-    ensures { λ r. ⌜ Numbered (now (s .entry)) at e r ⌝ }
-{
-    let next = at + 1;
-    let r = digits(t, s, next, 0, 10);
-    if r.at == next {
-        return NumberRead::Misspelled;
-    }
-    if r.e < PAST_DIGITS {
-        return NumberRead::Misspelled;
-    }
-    NumberRead::Read(r.v, r.at, r.e)
-}
-
-// Digits directly after a blank, at a place whose entry is the digit e.
-fn plain_number(t: &[u8; 256], s: &[u8], at: usize, e: u64) -> NumberRead
-    requires { ⌜ (now t ≡ table) × (e ≡ entryAt (now s) at) × (e < 16) × (0 < at) ⌝ }
-    ensures { λ r. ⌜ Numbered (now (s .entry)) at e r ⌝ }
-{
-    if entry_at(t, s, at - 1) != BLANK {
-        return NumberRead::Misspelled;
-    }
-    let next = at + 1;
-    let r = digits(t, s, next, e, 9);
-    if r.e < PAST_DIGITS {
-        return NumberRead::Misspelled;
-    }
-    NumberRead::Read(r.v, r.at, r.e)
-}
-
-// The number of the value at a place whose entry is e, below a point's, and neither `?` nor a blank.
-fn number(t: &[u8; 256], s: &[u8], at: usize, e: u64) -> NumberRead
-    requires { ⌜ (now t ≡ table) × (e ≡ entryAt (now s) at) × (e < 160) × (0 < at) × (e < 96 ⊎ 128 ≤ e) ⌝ }
-    ensures { λ r. ⌜ Numbered (now (s .entry)) at e r ⌝ }
-{
-    if e < PAST_DIGITS {
-        return plain_number(t, s, at, e);
-    }
-    if e >= PLUS {
-        return signed_number(t, s, at, e);
-    }
-    packed(t, s, at, e)
 }
 
 // ---- ordinates

@@ -3,7 +3,7 @@ use mathlib.Core.Path.{_≡_, refl, subst}
 use Prim.Native.Nat.{ℕ, _+_, _-_}
 use native.Mathlib.Omega.{arith}
 use Rattle.table_spec.specs.Values.{times}
-use Rattle.table_values.specs.Numbers.{Token}
+use Rattle.table_numbers.specs.Numbers.{Token}
 use Rattle.table_values.proofs.Turns.{value-not}
 use Rattle.table_values.proofs.Meanings.{dup-nowhere, dup-few}
 use borrow.Author.Needs.{needs}

@@ -1,5 +1,5 @@
 -- `table_values::token` meets its contract: whatever stands next on a line.
-use Rattle.table_values.proofs.NumberLaws.{kinds}
+use Rattle.table_numbers.proofs.NumberLaws.{kinds}
 use mathlib.Core.Path.{refl}
 use Prim.Native.Nat.{_-_}
 use native.Mathlib.Omega.{arith}
@@ -72,8 +72,8 @@ value-requires c κs =
       before-point = c .before .before .before .before .before .before .before .if1 .left;
       kind = kinds _ _ _ (p .2 .stands) (c .before .before .before .before .before .before .before .if1 .left)
           (c .before .before .before .before .before .before .if2 .left) (c .before .before .before .before .before .if3 .left);
-      small = x .0;
-      token = x .1;
+      small = x .small;
+      token = x .token;
     }
 
 returns-5 : tie.Need-returns-5

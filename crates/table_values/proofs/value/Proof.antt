@@ -1,7 +1,7 @@
 -- `table_values::value` meets its contract: the value at the place, whose number is v.
 use Prim.Native.Nat.{_-_, _<_, _≤_}
 use native.Mathlib.Omega.{arith}
-use Rattle.table_values.proofs.NumberLaws.{below-ten, dup-at, dif-at, own-at-all}
+use Rattle.table_numbers.proofs.NumberLaws.{below-ten, dup-at, dif-at, own-at-all}
 use borrow.Author.Needs.{needs}
 use Rattle.table_values.proofs.value.Statement.{statement}
 use Rattle.table_values.proofs.value.Tie as tie
