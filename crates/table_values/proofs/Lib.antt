@@ -1,4 +1,3 @@
-pub mod Moves
 pub mod Turns
 pub mod Meanings
 pub mod Walks

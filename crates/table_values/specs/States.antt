@@ -3,7 +3,7 @@ use mathlib.Core.Path.{_≡_}
 use mathlib.Core.Bool.{Bool, true, false}
 use mathlib.Core.List.{List, [], map}
 use mathlib.Core.Logic.{_⊎_}
-use Prim.Native.Nat.{ℕ, _+_, _*_, _<_, _≤_}
+use Prim.Native.Nat.{ℕ, _+_, _<_, _≤_}
 use lib.Dec.{leb, eqb}
 use lib.IntN.{ℤ}
 use lib.ListN.{length}
@@ -11,8 +11,8 @@ use lib.Seq.{sets}
 use Rattle.terms.specs.Logic.{pick}
 use Rattle.alphabet_spec.specs.Entries.{entryAt, table}
 use Rattle.table_spec.specs.Frame.{entry-for}
-use Rattle.table_spec.specs.Values.{times, Form, Own, Gap, By, Dup, Spot, first, after, moved}
-use Rattle.table_spec.specs.Reading.{line, fresh, inRange, difBefore}
+use Rattle.table_spec.specs.Values.{times, Form, Own, Gap, By, Dup, Spot, first, after}
+use Rattle.table_spec.specs.Reading.{line, fresh, difBefore}
 use Rattle.table_lines.specs.Seen.{seen, here}
 use Rattle.table_lines.specs.Ends.{endAt}
 use Rattle.table_lines.specs.declared.Ending.the-variants as ending
@@ -24,15 +24,6 @@ use Rattle.table_values.specs.declared.Step.the-variants as step
 use Rattle.table_values.specs.declared.Row.{Row}
 use Rattle.table_values.specs.declared.LineRead.{LineRead}
 use Rattle.table_values.specs.declared.LineRead.the-variants as linewise
-
--- an ordinate moved by a difference, or 0 where that is out of range
-abbrev pub shiftedTo : Bool → ℕ → ℕ → ℕ
-shiftedTo m v q = pick (inRange (moved m v q)) (moved m v q) 0
-
--- n steps of a size from an ordinate keep within 32 bits
-abbrev pub Reaches : Bool → ℕ → ℕ → ℕ → Type 0
-Reaches true d n q = d * n ≤ q
-Reaches false d n q = q + d * n < 4294967296
 
 -- ---- within a line
 

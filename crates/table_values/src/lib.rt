@@ -1,15 +1,11 @@
 // The values of a line (01, "Values", "Meaning"). The byte table is lent to each function, and the state goes in and comes back by value.
 ghost use mathlib.Core.Path.{_≡_};
-ghost use mathlib.Core.List.{map};
-ghost use Prim.Native.Nat.{_+_, _<_, _≤_};
+ghost use Prim.Native.Nat.{_<_, _≤_};
 ghost use lib.Dec.{leb};
-ghost use lib.ListN.{set};
-ghost use lib.Seq.{sets};
 ghost use Rattle.alphabet_spec.specs.Entries.{table};
-ghost use Rattle.table_spec.specs.Frame.{entry-for};
-ghost use Rattle.table_spec.specs.Values.{own, by, times, By, copies, moved};
+ghost use Rattle.table_spec.specs.Values.{own, by, times};
 ghost use Rattle.table_numbers.specs.Numbers.{Token};
-ghost use Rattle.table_values.specs.States.{shiftedTo, difForm, rowAfter, Reaches, Sits, Valued, Again, Went, Stepped, FirstValue, Lined};
+ghost use Rattle.table_values.specs.States.{difForm, rowAfter, Sits, Valued, Again, Went, Stepped, FirstValue, Lined};
 use alphabet::BLANK;
 use alphabet::DIF;
 use alphabet::DIF_MINUS;
@@ -17,15 +13,17 @@ use alphabet::KIND;
 use alphabet::MISSING;
 use alphabet::POINT;
 use alphabet::entry_at;
-use signed::PAST_ORDINATES;
 use signed::ZERO_ORDINATE;
-use signed::entry_for;
 use table_lines::Ending;
 use table_lines::blanks;
 use table_lines::line_end;
 use table_numbers::NumberRead;
 use table_numbers::number;
 use table_numbers::packed;
+use table_ordinates::moved_by;
+use table_ordinates::put;
+use table_ordinates::repeat;
+use table_ordinates::shifted;
 
 // Within a line: the place and the entry there; how many points; the ordinate before (0: none on this line, or missing); the ordinate that a check line's first value must equal (0: not
 // asked); the size of the last difference; and the form of the value before: 0 none, or a DUP that is not DIF; 1 a DUP that is; 2 a value of its own; from DIF on a difference, its first byte's entry.
@@ -58,63 +56,6 @@ pub struct Row {
 pub enum LineRead {
     Next(Row),
     Refused(u64, usize),
-}
-
-// ---- ordinates
-
-// An ordinate and a difference, where the sum is one.
-fn moved_by(q: u64, minus: bool, v: u64) -> u64
-    requires { ⌜ Reaches minus v 1 q ⌝ }
-    ensures { λ r. ⌜ r ≡ moved minus v q ⌝ }
-{
-    if minus {
-        return q - v;
-    }
-    q + v
-}
-
-// An ordinate and a difference, or 0 if that is no ordinate.
-fn shifted(q: u64, minus: bool, v: u64) -> u64
-    requires { ⌜ (q < 4294967296) × (v < 1000000000000000) ⌝ }
-    ensures { λ r. ⌜ r ≡ shiftedTo minus v q ⌝ }
-{
-    if minus {
-        if v >= q {
-            return 0;
-        }
-        return q - v;
-    }
-    let u = q + v;
-    if u >= PAST_ORDINATES {
-        return 0;
-    }
-    u
-}
-
-// Stores an ordinate, if there is room for it.
-fn put(out: &mut [i32], k: usize, u: u64)
-    requires { ⌜ u < 4294967296 ⌝ }
-    ensures { λ _. ⌜ now (out .exit) ≡ set (now (out .entry)) k (entry-for u) ⌝ }
-{
-    if k < out.len() {
-        out[k] = entry_for(u);
-    }
-}
-
-// Stores n ordinates, each a step from the one before.
-fn repeat(out: &mut [i32], k: usize, q: u64, minus: bool, d: u64, n: usize)
-    requires { ⌜ (k + n ≤ 200000) × (q < 4294967296) × Reaches minus d n q ⌝ }
-    ensures { λ _. ⌜ now (out .exit) ≡ sets (now (out .entry)) k (map entry-for (copies n (By minus d) q)) ⌝ }
-{
-    let mut i = k;
-    let mut u = q;
-    let mut left = n;
-    while left > 0 {
-        u = moved_by(u, minus, d);
-        put(out, i, u);
-        i += 1;
-        left -= 1;
-    }
 }
 
 // ---- one value

@@ -7,7 +7,7 @@ use lib.ListN.{length}
 use borrow.Author.Needs.{needs}
 use Rattle.table_values.specs.States.{Went}
 use Rattle.table_numbers.proofs.NumberLaws.{below-ten, dif-at}
-use Rattle.table_values.proofs.Moves.{shift-some}
+use Rattle.table_ordinates.proofs.Moves.{shift-some}
 use Rattle.table_values.proofs.Walks.{went-none, went-on}
 use Rattle.table_values.proofs.differences.Statement.{statement}
 use Rattle.table_values.proofs.differences.Tie as tie

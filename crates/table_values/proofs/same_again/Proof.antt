@@ -6,7 +6,7 @@ use native.Mathlib.Omega.{arith}
 use Rattle.table_spec.specs.Values.{By}
 use Rattle.table_values.specs.States.{going, dup-not}
 use Rattle.table_values.proofs.Turns.{value-full, value-adds, value-stepped}
-use Rattle.table_values.proofs.Moves.{copies-length, same-last}
+use Rattle.table_ordinates.proofs.Moves.{copies-length, same-last}
 use Rattle.table_values.proofs.Meanings.{dup-same}
 use Rattle.table_values.proofs.Walks.{sits-next}
 use borrow.Author.Needs.{needs}

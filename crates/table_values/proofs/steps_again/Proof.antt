@@ -6,7 +6,7 @@ use lib.Dec.{leb}
 use Rattle.table_spec.specs.Values.{By}
 use Rattle.table_values.specs.States.{going, dup-dif}
 use Rattle.table_values.proofs.Turns.{value-not, value-full, value-adds, value-stepped}
-use Rattle.table_values.proofs.Moves.{copies-length, steps-last, shift-some, reaches, far-small}
+use Rattle.table_ordinates.proofs.Moves.{copies-length, steps-last, shift-some, reaches, far-small}
 use Rattle.table_values.proofs.Meanings.{repeats, dup-out, dup-steps}
 use Rattle.table_values.proofs.Walks.{sits-next}
 use borrow.Author.Needs.{needs}
