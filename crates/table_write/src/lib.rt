@@ -53,9 +53,9 @@ fn is_full(style: Style) -> bool
     }
 }
 
-// The text in a form, from the start of the lent bytes. Its length.
+// The text in a form, from the start of the lent bytes, which hold it. Its length.
 fn lay(style: Style, ys: &[i32], text: &mut [u8], fr: Frame) -> usize
-    requires { ⌜ Sound fr × (length (now ys) ≡ fr .points) ⌝ }
+    requires { ⌜ Sound fr × (length (now ys) ≡ fr .points) × (length (lines-of style (headOf fr) (ordinates (now ys))) ≤ length (now text)) ⌝ }
     ensures { λ r. ⌜ Put (now (text .entry)) 0 (now (text .exit)) r (lines-of style (headOf fr) (ordinates (now (ys .entry)))) ⌝ }
 {
     if is_full(style) {
@@ -71,7 +71,7 @@ fn length_of(style: Style, ys: &[i32], fr: Frame) -> usize
 {
     let mut none = [0u8; 1];
     if is_full(style) {
-        return text_values::lay(style, ys, &mut none[..0], fr);
+        return text_values::measure(style, ys, &mut none[..0], fr);
     }
     measure(ys, &mut none[..0], fr)
 }

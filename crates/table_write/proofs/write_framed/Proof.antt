@@ -43,7 +43,8 @@ lay-requires : tie.Need-lay-requires
 lay-requires c κs =
     let b = c .before .before .before .before .before .before in
     let s = b .before .before in
-    (s .pre, length-take-le (s .args .fr .points) (s .args .ordinates .now) (b .if1 .left))
+    let few = length-take-le (s .args .fr .points) (s .args .ordinates .now) (b .if1 .left) in
+    (s .pre, few, leb-true _ _ (sym (c .before .before .fits2 .ensures) ∙ c .before .if3 .taken))
 
 same-length : tie.Need-same-length
 same-length c = search needs
