@@ -1,4 +1,5 @@
--- 01, "Bench samples": those marked P, and one for each form of 02, T-02: one table under one theorem about the definitions, by computation. Frame F = 0, L = 3000, N = 4; `/` stands for LF, CR LF where written.
+-- 01, "Bench samples": those marked P, and one for each form of 02, T-02: one table under one theorem about the definitions, by computation.
+-- Frame F = 0, L = 3000, N = 4; `/` stands for LF, CR LF where written.
 -- Assumes nothing.
 use mathlib.Core.Path.{_≡_, refl}
 use mathlib.Core.List.{List, [], _∷_}

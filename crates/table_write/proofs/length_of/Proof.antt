@@ -4,7 +4,6 @@ use Rattle.table_write.proofs.FormSteps.{only-difdup}
 use borrow.Author.Needs.{needs}
 use Rattle.table_write.proofs.length_of.Statement.{statement}
 use Rattle.table_write.proofs.length_of.Tie as tie
-use Rattle.text_values.proofs.measure.Reads as measure-reads′
 
 is-full-requires : tie.Need-is-full-requires
 is-full-requires c κs = search needs

@@ -1,7 +1,6 @@
 -- `text_values::measure` meets its contract: the count with the marks of a form is the length of its text.
 use mathlib.Core.Path.{sym, ap, _∙_}
-use mathlib.Core.List.{List, map}
-use Prim.Native.Nat.{ℕ}
+use mathlib.Core.List.{map}
 use native.Mathlib.Nat.{zero-add}
 use lib.ListN.{length, length-map}
 use Rattle.table_spec.specs.Frame.{ordinate-of}

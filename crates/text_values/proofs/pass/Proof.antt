@@ -36,8 +36,10 @@ turn-requires c κs =
     let is = g .is in
     let few = p .1 .few in
     let same = g .same in
-    let near = going-near _ _ _ g (omega (arith, p .2, length-map (z .args .ys .now) ordinate-of)) in
-    (record { based = p .0; sound = p .1; all = p .2; left = omega (arith, c .before .loop-test .taken); near = omega (arith, near); column = g .column-most }, omega (arith, p .3, left-of _ _ _ h g, put-length h))
+    let near = going-near _ _ _ g (omega (arith, p .2, length-map (z .args .ys .now) ordinate-of)) in (
+      record { based = p .0; sound = p .1; all = p .2; left = omega (arith, c .before .loop-test .taken); near = omega (arith, near); column = g .column-most },
+      omega (arith, p .3, left-of _ _ _ h g, put-length h),
+    )
 
 loop-less : tie.Need-loop-less Inv-loop μ-loop
 loop-less c =
