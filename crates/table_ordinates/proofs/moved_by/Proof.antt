@@ -1,9 +1,9 @@
--- `table_values::moved_by` meets its contract: an ordinate and a difference, where the sum is one.
+-- `table_ordinates::moved_by` meets its contract: an ordinate and a difference, where the sum is one.
 use mathlib.Core.Path.{refl}
 use native.Mathlib.Omega.{arith}
-use Rattle.table_values.proofs.Moves.{reach-down, reach-up}
-use Rattle.table_values.proofs.moved_by.Statement.{statement}
-use Rattle.table_values.proofs.moved_by.Tie as tie
+use Rattle.table_ordinates.proofs.Moves.{reach-down, reach-up}
+use Rattle.table_ordinates.proofs.moved_by.Statement.{statement}
+use Rattle.table_ordinates.proofs.moved_by.Tie as tie
 
 sub-result : tie.Need-sub-result
 sub-result c = let z = reach-down _ _ (c .if1 .taken) (c .before .pre) in omega arith

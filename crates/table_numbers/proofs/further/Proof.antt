@@ -1,7 +1,7 @@
--- `table_values::further` meets its contract: how many digits may follow the pseudo-digit with the entry e.
-use Rattle.table_values.proofs.NumberLaws.{further-dup, further-none, further-nine}
-use Rattle.table_values.proofs.further.Statement.{statement}
-use Rattle.table_values.proofs.further.Tie as tie
+-- `table_numbers::further` meets its contract: how many digits may follow the pseudo-digit with the entry e.
+use Rattle.table_numbers.proofs.NumberLaws.{further-dup, further-none, further-nine}
+use Rattle.table_numbers.proofs.further.Statement.{statement}
+use Rattle.table_numbers.proofs.further.Tie as tie
 
 returns : tie.Need-returns
 returns c = further-dup _ (c .if1 .taken)

@@ -1,10 +1,10 @@
--- `table_values::repeat` meets its contract: stores n ordinates, each a step from the one before.
+-- `table_ordinates::repeat` meets its contract: stores n ordinates, each a step from the one before.
 use Prim.Native.Nat.{_-_}
 use native.Mathlib.Omega.{arith}
 use borrow.Author.Needs.{needs}
-use Rattle.table_values.proofs.Walks.{Repeating, repeat-start, repeat-reach, repeat-small, repeat-turn, repeat-end}
-use Rattle.table_values.proofs.repeat.Statement.{statement}
-use Rattle.table_values.proofs.repeat.Tie as tie
+use Rattle.table_ordinates.proofs.Repeats.{Repeating, repeat-start, repeat-reach, repeat-small, repeat-turn, repeat-end}
+use Rattle.table_ordinates.proofs.repeat.Statement.{statement}
+use Rattle.table_ordinates.proofs.repeat.Tie as tie
 
 abbrev Inv-loop : tie.InvT-loop
 Inv-loop out₀ k q minus d n i₀ u₀ left₀ out i u left = Repeating out₀ out k q n i u left minus d

@@ -1,11 +1,11 @@
--- `table_values::put` meets its contract: stores an ordinate, if there is room for it.
+-- `table_ordinates::put` meets its contract: stores an ordinate, if there is room for it.
 use mathlib.Core.Path.{refl, sym}
 use borrow.Author.Needs.{needs, sfits-of}
 use mir.Syntax.{w32}
 use mir.Facts.{toZ-ofZ}
 use lib.Seq.{set-out}
-use Rattle.table_values.proofs.put.Statement.{statement}
-use Rattle.table_values.proofs.put.Tie as tie
+use Rattle.table_ordinates.proofs.put.Statement.{statement}
+use Rattle.table_ordinates.proofs.put.Tie as tie
 
 entry-for-requires : tie.Need-entry-for-requires
 entry-for-requires c κs = search needs

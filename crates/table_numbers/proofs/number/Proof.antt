@@ -1,10 +1,10 @@
--- `table_values::number` meets its contract: the number of the value at a place whose entry is e, below a point's, and neither `?` nor a blank.
+-- `table_numbers::number` meets its contract: the number of the value at a place whose entry is e, below a point's, and neither `?` nor a blank.
 use mathlib.Core.Logic.{_⊎_, ⊎-elim}
 use Prim.Native.Nat.{_-_}
 use native.Mathlib.Omega.{arith}
 use borrow.Author.Needs.{needs}
-use Rattle.table_values.proofs.number.Statement.{statement}
-use Rattle.table_values.proofs.number.Tie as tie
+use Rattle.table_numbers.proofs.number.Statement.{statement}
+use Rattle.table_numbers.proofs.number.Tie as tie
 
 plain-number-requires : tie.Need-plain-number-requires
 plain-number-requires c κs = search needs

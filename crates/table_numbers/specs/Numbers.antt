@@ -2,17 +2,18 @@
 use mathlib.Core.Path.{_≡_}
 use mathlib.Core.Bool.{true, false}
 use mathlib.Core.List.{List}
-use Prim.Native.Nat.{ℕ, _<_, _≤_}
+use Prim.Native.Nat.{ℕ, _+_, _<_, _≤_}
 use lib.Dec.{ltb, leb}
 use lib.ListN.{length}
 use Rattle.terms.specs.Logic.{pick}
 use Rattle.alphabet_spec.specs.Kinds.{Lead, sqz, dif, dup}
 use Rattle.alphabet_spec.specs.Entries.{entryAt}
+use Rattle.alphabet.specs.Ran.{AllDigits}
 use Rattle.table_spec.specs.Values.{Value, own, valueOf}
 use Rattle.table_spec.specs.Reading.{value, fault}
 use Rattle.table_lines.specs.Seen.{here}
-use Rattle.table_values.specs.declared.NumberRead.{NumberRead}
-use Rattle.table_values.specs.declared.NumberRead.the-variants.{Read, Misspelled}
+use Rattle.table_numbers.specs.declared.NumberRead.{NumberRead}
+use Rattle.table_numbers.specs.declared.NumberRead.the-variants.{Read, Misspelled}
 
 -- the kind of value that a pseudo-digit's entry begins
 abbrev pub leadOf : ℕ → Lead
@@ -38,7 +39,14 @@ pub record Token (s : List ℕ) (i : ℕ) (x : Value) (j f : ℕ) : Type 0 where
 abbrev pub below : ℕ → ℕ
 below e = pick (ltb e 16) 10000000000 (pick (ltb e 32) 100000 10000000000)
 
+-- the number v of the value that begins at the place i with the entry e: digits follow up to j, where the entry f stands and no digit
+pub record NumberAt (s : List ℕ) (i e v j f : ℕ) : Type 0 where
+  pub small : v < below e
+  pub token : Token s i (valueAt e v) j f
+  pub digits : AllDigits s (i + 1) j
+  pub over : 16 ≤ f
+
 -- a number was read; or it is misspelled
 abbrev pub Numbered : List ℕ → ℕ → ℕ → NumberRead → Type 0
-Numbered s i e (Read v j f) = (v < below e) × Token s i (valueAt e v) j f
+Numbered s i e (Read v j f) = NumberAt s i e v j f
 Numbered s i e Misspelled = here s i ≡ fault 5 i

@@ -1,9 +1,9 @@
--- `table_values::signed_number` meets its contract: a sign and digits, at a place whose entry is e.
+-- `table_numbers::signed_number` meets its contract: a sign and digits, at a place whose entry is e.
 use native.Mathlib.Omega.{arith}
 use Rattle.alphabet_spec.specs.EntryLaws.{entry-in}
-use Rattle.table_values.proofs.NumberLaws.{sign-alone, signed-long, signed-token}
-use Rattle.table_values.proofs.signed_number.Statement.{statement}
-use Rattle.table_values.proofs.signed_number.Tie as tie
+use Rattle.table_numbers.proofs.NumberLaws.{sign-alone, signed-long, signed-token}
+use Rattle.table_numbers.proofs.signed_number.Statement.{statement}
+use Rattle.table_numbers.proofs.signed_number.Tie as tie
 
 add-next : tie.Need-add-next
 add-next c = let p = c .before .pre in let z = entry-in (c .before .args .s .now) (c .before .args .at) (λ x. omega (arith, p .1)) in omega arith

@@ -1,9 +1,9 @@
--- `table_values::packed` meets its contract: a pseudo-digit and its digits, at a place whose entry is e.
+-- `table_numbers::packed` meets its contract: a pseudo-digit and its digits, at a place whose entry is e.
 use native.Mathlib.Omega.{arith}
-use Rattle.table_values.proofs.NumberLaws.{lead-in, lead-fits, below-ten, packed-long, packed-token}
+use Rattle.table_numbers.proofs.NumberLaws.{lead-in, lead-fits, below-ten, packed-long, packed-token}
 use borrow.Author.Needs.{needs}
-use Rattle.table_values.proofs.packed.Statement.{statement}
-use Rattle.table_values.proofs.packed.Tie as tie
+use Rattle.table_numbers.proofs.packed.Statement.{statement}
+use Rattle.table_numbers.proofs.packed.Tie as tie
 
 add-next : tie.Need-add-next
 add-next c = let p = c .before .pre in let z = lead-in _ _ _ (p .1) (p .2) (p .3) in omega arith

@@ -11,7 +11,7 @@ use borrow.Author.Tests.{lt-ltb, le-ltb, le-leb, ltb-true, ltb-false, leb-true, 
 use Rattle.terms.specs.Logic.{pick, by-case, no-way}
 use Rattle.table_spec.specs.Values.{Form, Own, Gap, By, moved, copies, lastOr}
 use Rattle.table_spec.specs.Reading.{inRange, allIn}
-use Rattle.table_values.specs.States.{shiftedTo, Reaches}
+use Rattle.table_ordinates.specs.Reach.{shiftedTo, Reaches}
 
 -- ---- one difference
 

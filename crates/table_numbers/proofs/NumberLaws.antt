@@ -23,8 +23,8 @@ use Rattle.table_spec.specs.Values.{Value, own, gap, by, times, valueOf, room}
 use Rattle.table_spec.specs.Reading.{Tokens, value, fault, Mode, inner, valued, inside, step}
 use Rattle.table_lines.specs.Seen.{behind, here, later-seen, later-none, seen-kind, byte-back, not-behind}
 use Rattle.table_lines.proofs.HeadLaws.{clear-after, digit-kind, sign-kind, some-more, some-none, run-there}
-use Rattle.table_values.specs.Numbers.{leadOf, valueAt, below, Clear, Token, Numbered}
-use Rattle.table_values.specs.declared.NumberRead.the-variants.{Read, Misspelled}
+use Rattle.table_numbers.specs.Numbers.{leadOf, valueAt, below, Clear, Token, Numbered}
+use Rattle.table_numbers.specs.declared.NumberRead.the-variants.{Read, Misspelled}
 
 -- ---- entries of pseudo-digits
 
@@ -148,7 +148,7 @@ module _ (s : List ℕ) (i e : ℕ) (g : e ≡ entryAt s i) (l : 16 ≤ e) (h : 
     packed-token k =
         let b = lead-fits m z in let y = ran-below r in
         let x = run-token s i (lead (leadOf e) (e % 16)) (valueOf (leadOf e)) lead-in lead-here (λ x. omega arith) (omega arith) r lead-opens k in
-        (lt-of-lt-of-le y b, rw (valued-at w) x)
+        record { small = lt-of-lt-of-le y b; token = rw (valued-at w) x; digits = r .all; over = k }
 
 -- ---- a sign
 
@@ -177,7 +177,7 @@ module _ (s : List ℕ) (i e : ℕ) (g : e ≡ entryAt s i) (l : 128 ≤ e) (h :
   signed-token n k =
       let y = ran-below r in
       let x = run-token s i (sign (leb 144 e)) (own (leb 144 e)) sign-in sign-here (λ x. omega arith) (omega arith) r (sign-opens n) k in
-      (rw (le-ltb e 16 (omega arith), le-ltb e 32 (omega arith)) (omega arith), rw (own-at w) x)
+      record { small = rw (le-ltb e 16 (omega arith), le-ltb e 32 (omega arith)) (omega arith); token = rw (own-at w) x; digits = r .all; over = k }
 
 -- ---- a digit, after a blank or not
 
@@ -208,7 +208,7 @@ module _ (s : List ℕ) (i e : ℕ) (g : e ≡ entryAt s i) (l : e < 16) where
     plain-token k =
         let y = ran-below r in let d = digit-here .1 in
         let x = run-token s i (digit e) (own false) (digit-here .0) digit-kind-here (λ x. omega arith) (omega arith) r digit-opens k in
-        (rw (lt-ltb e 16 l) (omega arith), rw (lt-ltb e 16 l) x)
+        record { small = rw (lt-ltb e 16 l) (omega arith); token = rw (lt-ltb e 16 l) x; digits = r .all; over = k }
 
 -- ---- a missing ordinate
 

@@ -1,8 +1,8 @@
--- `table_values::shifted` meets its contract: an ordinate and a difference, or 0 if that is no ordinate.
-use Rattle.table_values.proofs.Moves.{shift-down, shift-less, shift-over, shift-more}
+-- `table_ordinates::shifted` meets its contract: an ordinate and a difference, or 0 if that is no ordinate.
+use Rattle.table_ordinates.proofs.Moves.{shift-down, shift-less, shift-over, shift-more}
 use borrow.Author.Needs.{needs}
-use Rattle.table_values.proofs.shifted.Statement.{statement}
-use Rattle.table_values.proofs.shifted.Tie as tie
+use Rattle.table_ordinates.proofs.shifted.Statement.{statement}
+use Rattle.table_ordinates.proofs.shifted.Tie as tie
 
 returns : tie.Need-returns
 returns c = shift-down _ _ (c .before .if1 .taken) (c .if2 .taken)

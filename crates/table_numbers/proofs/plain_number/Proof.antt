@@ -1,10 +1,10 @@
--- `table_values::plain_number` meets its contract: digits directly after a blank, at a place whose entry is the digit e.
+-- `table_numbers::plain_number` meets its contract: digits directly after a blank, at a place whose entry is the digit e.
 use mathlib.Core.Path.{sym, _∙_}
 use native.Mathlib.Omega.{arith}
-use Rattle.table_values.proofs.NumberLaws.{digit-here, digit-late, plain-long, plain-token}
+use Rattle.table_numbers.proofs.NumberLaws.{digit-here, digit-late, plain-long, plain-token}
 use borrow.Author.Needs.{needs}
-use Rattle.table_values.proofs.plain_number.Statement.{statement}
-use Rattle.table_values.proofs.plain_number.Tie as tie
+use Rattle.table_numbers.proofs.plain_number.Statement.{statement}
+use Rattle.table_numbers.proofs.plain_number.Tie as tie
 
 sub-entry-at : tie.Need-sub-entry-at
 sub-entry-at c = search needs
