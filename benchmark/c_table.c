@@ -1,10 +1,7 @@
-/* A reader and a writer of table bodies with all checks of document 01, in plain C. */
+/* Readers of table bodies with all checks of document 01, in plain C. */
 #include "c_table.h"
 
 #include <string.h>
-
-#define ALWAYS_INLINE static inline __attribute__((always_inline))
-#define UNLIKELY(x) __builtin_expect(!!(x), 0)
 
 #define K(kind, digit) ((kind) << 4 | (digit))
 #define RUN9(first, kind, from)                                                                                        \
@@ -52,8 +49,6 @@ bool c_frame_in_limits(int64_t first, int64_t last, size_t points)
     return first >= -most && first <= most && last >= -most && last <= most && points >= 1 && points <= MOST_POINTS
         && (points == 1) == (first == last);
 }
-
-/* ---- Reading ---- */
 
 /* The text that is being read. */
 struct text {
@@ -379,171 +374,4 @@ uint64_t c_read_table_scratch(int64_t first, int64_t last, size_t points, const 
     if (!number)
         memcpy(out, scratch, points * sizeof *out);
     return number;
-}
-
-/* ---- Writing ---- */
-
-enum { LONGEST_LINE = 80 };
-
-/* The pseudo-digits for 0 to 9, of numbers that are not negative and of negative ones; a space stands for none. */
-static const char sqz[2][11] = {"@ABCDEFGHI", " abcdefghi"};
-static const char dif[2][11] = {"%JKLMNOPQR", " jklmnopqr"};
-static const char dup[11] = " STUVWXYZs";
-
-/* The number of decimal digits of v; small numbers are by far the most. */
-ALWAYS_INLINE unsigned digit_count(uint32_t v)
-{
-    unsigned n = 1;
-    for (; UNLIKELY(v >= 10000); v /= 10000)
-        n += 4;
-    return v < 10 ? n : v < 100 ? n + 1 : v < 1000 ? n + 2 : n + 3;
-}
-
-/* Puts v's n digits at `to`. */
-ALWAYS_INLINE void put_digits(uint8_t *to, uint32_t v, unsigned n)
-{
-    for (uint8_t *p = to + n; p > to; v /= 10)
-        *--p = (uint8_t)('0' + v % 10);
-}
-
-/* Puts v's n digits at `to`, the first one by a row of pseudo-digits. */
-ALWAYS_INLINE void put_pseudo(uint8_t *to, uint32_t v, unsigned n, const char *row)
-{
-    uint8_t *p = to + n;
-    for (; --p > to; v /= 10)
-        *p = (uint8_t)('0' + v % 10);
-    *p = (uint8_t)row[v];
-}
-
-/* The magnitude of an ordinate or a difference, which fits in 32 bits. */
-ALWAYS_INLINE uint32_t magnitude(int64_t v)
-{
-    return (uint32_t)(v < 0 ? -v : v);
-}
-
-/* Puts the head of point i, if `to` is not null; returns its length. */
-static unsigned put_head(const struct frame *f, int64_t i, uint8_t *to)
-{
-    int64_t h = f->first;
-    if (f->points > 1) {
-        int64_t steps = f->points - 1;
-        int64_t above = 2 * i * (f->last - f->first) + steps;
-        h += above / (2 * steps) - (above % (2 * steps) < 0); /* rounded down */
-    }
-    uint32_t whole = (uint32_t)((h < 0 ? -h : h) / 1000), part = (uint32_t)((h < 0 ? -h : h) % 1000);
-    unsigned minus = h < 0, n = digit_count(whole);
-    unsigned places = part == 0 ? 0 : part % 10 ? 3 : part % 100 ? 2 : 1;
-    if (to) {
-        *to = '-';
-        put_digits(to + minus, whole, n);
-        if (places) {
-            to[minus + n] = '.';
-            put_digits(to + minus + n + 1, places == 3 ? part : places == 2 ? part / 10 : part / 100, places);
-        }
-    }
-    return minus + n + (places ? places + 1 : 0);
-}
-
-/* Lays out the whole text, stores it if asked to, and returns its length. */
-ALWAYS_INLINE size_t lay_out(const struct frame *f, const int32_t *restrict y, bool storing, uint8_t *restrict text)
-{
-    const int32_t *const end = y + f->points;
-    const int32_t *next = y;        /* the next point */
-    enum { PLAIN, GAP, SLOPE } form; /* that of the value before */
-    bool check = false;             /* the line before ended in DIF form */
-    size_t start = 0;               /* where the line starts */
-
-    while (next < end || check) {
-        size_t at = start + put_head(f, next - y - check, storing ? text + start : NULL);
-        const size_t full = start + LONGEST_LINE;
-        form = GAP; /* a line starts as if a point were missing before it */
-        if (check) {
-            unsigned n = digit_count(magnitude(next[-1]));
-            if (storing)
-                put_pseudo(text + at, magnitude(next[-1]), n, sqz[next[-1] < 0]);
-            at += n;
-            form = PLAIN;
-        }
-        while (next < end) {
-            const int32_t *after = next + 1; /* the point after the group */
-            const char *row = "?";
-            int64_t value = 0;
-            unsigned more = 0; /* digits of the group's DUP */
-            if (*next == MISSING_ORDINATE) {
-                while (after < end && *after == MISSING_ORDINATE)
-                    after++;
-            } else if (form == GAP) {
-                value = *next;
-                row = sqz[value < 0];
-            } else {
-                value = (int64_t)next[0] - next[-1];
-                while (after < end && (int64_t)after[0] - after[-1] == value && *after != MISSING_ORDINATE)
-                    after++;
-                row = dif[value < 0];
-            }
-            unsigned lead = digit_count(magnitude(value));
-            if (after - next > 1)
-                more = digit_count((uint32_t)(after - next));
-            if (at + lead + more > full)
-                break;
-            if (storing) {
-                put_pseudo(text + at, magnitude(value), lead, row);
-                if (more)
-                    put_pseudo(text + at + lead, (uint32_t)(after - next), more, dup);
-            }
-            at += lead + more;
-            form = *next == MISSING_ORDINATE ? GAP : form == GAP ? PLAIN : SLOPE;
-            next = after;
-        }
-        if (storing)
-            memcpy(text + at, "\r\n", 2);
-        start = at + 2;
-        check = form == SLOPE;
-    }
-    return start;
-}
-
-static size_t measure(const struct frame *f, const int32_t *y)
-{
-    return lay_out(f, y, false, NULL);
-}
-
-static size_t put_text(const struct frame *f, const int32_t *restrict y, uint8_t *restrict text)
-{
-    return lay_out(f, y, true, text);
-}
-
-/* Refusals 1, 2 and 14; 0 if there is none. */
-ALWAYS_INLINE uint64_t judge_table(int64_t first, int64_t last, size_t points, size_t n)
-{
-    if (!c_frame_in_limits(first, last, points))
-        return 1;
-    if (n < points)
-        return 2;
-    int64_t span = last < first ? first - last : last - first;
-    return span < (int64_t)points - 1 ? 14 : 0;
-}
-
-uint64_t c_write_table(int64_t first, int64_t last, size_t points, const int32_t *ordinates, size_t n, uint8_t *text,
-                       size_t room, uint64_t *length)
-{
-    *length = 0;
-    uint64_t number = judge_table(first, last, points, n);
-    if (number)
-        return number;
-    struct frame f = {first, last, (int64_t)points};
-    if (measure(&f, ordinates) > room)
-        return 15;
-    *length = put_text(&f, ordinates, text);
-    return 0;
-}
-
-uint64_t c_write_table_unchecked(int64_t first, int64_t last, size_t points, const int32_t *ordinates, size_t n,
-                                 uint8_t *text, size_t room, uint64_t *length)
-{
-    (void)n;
-    (void)room;
-    struct frame f = {first, last, (int64_t)points};
-    *length = put_text(&f, ordinates, text);
-    return 0;
 }

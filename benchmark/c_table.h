@@ -1,6 +1,7 @@
 /*
- * Hand-written C readers and a writer of table bodies, for comparison with the proved library. They take what
- * lastarunc_read_table and lastarunc_write_table of include/lastarunc.h take, and answer without line and column.
+ * Hand-written C readers and writers of table bodies, for comparison with the proved library. They take what
+ * lastarunc_read_table, lastarunc_write_table and lastarunc_write_form of include/lastarunc.h take, and answer without
+ * line and column.
  */
 #ifndef C_TABLE_H
 #define C_TABLE_H
@@ -35,6 +36,17 @@ table_writer c_write_table;
 /* No checks of room, one pass: for a text that is known to fit. */
 table_writer c_write_table_unchecked;
 
+/* The forms in which a table is written. */
+enum form { FORM_DIFDUP, FORM_AFFN, FORM_PAC, FORM_SQZ };
+
+/* A writer of table bodies in any of the forms; a form that is none of them gets UINT64_MAX and *length = 0. */
+typedef uint64_t form_writer(uint64_t form, int64_t first, int64_t last, size_t points, const int32_t *ordinates,
+                             size_t n, uint8_t *text, size_t room, uint64_t *length);
+
+/* The same two for every form: c_write_table's checks and two passes, and none and one pass. */
+form_writer c_write_form;
+form_writer c_write_form_unchecked;
+
 /* What a byte is: its kind in the high four bits, its digit in the low four. */
 enum kind { DIGIT, SQZ, SQZ_MINUS, DIF, DIF_MINUS, DUP, MISSING, PLUS, MINUS, BLANK, LF, CR, DOLLAR, POINT, OUTSIDE };
 extern const uint8_t c_kinds[256];
@@ -46,6 +58,9 @@ struct frame {
 
 /* Whether the frame keeps its limits. */
 bool c_frame_in_limits(int64_t first, int64_t last, size_t points);
+
+#define ALWAYS_INLINE static inline __attribute__((always_inline))
+#define UNLIKELY(x) __builtin_expect(!!(x), 0)
 
 enum { MOST_POINTS = 65536, MOST_BYTES = 1048576 };
 #define LARGEST_ORDINATE INT64_C(2147483647)

@@ -13,7 +13,7 @@
 #include <string.h>
 #include <time.h>
 
-/* The library's reader and writer with the signatures of those in C. */
+/* The library's reader and writers with the signatures of those in C. */
 static uint64_t read_library(int64_t first, int64_t last, size_t points, const uint8_t *body, size_t body_len,
                              int32_t *out, size_t out_len, uint64_t *place)
 {
@@ -23,11 +23,13 @@ static uint64_t read_library(int64_t first, int64_t last, size_t points, const u
     return (uint64_t)refused;
 }
 
-static uint64_t write_library(int64_t first, int64_t last, size_t points, const int32_t *ordinates, size_t n,
-                              uint8_t *text, size_t room, uint64_t *length)
+static uint64_t write_library(uint64_t form, int64_t first, int64_t last, size_t points, const int32_t *ordinates,
+                              size_t n, uint8_t *text, size_t room, uint64_t *length)
 {
     struct lastarunc_text answer;
-    int64_t refused = lastarunc_write_table(first, last, points, ordinates, n, text, room, &answer);
+    int64_t refused = form == FORM_DIFDUP
+        ? lastarunc_write_table(first, last, points, ordinates, n, text, room, &answer)
+        : lastarunc_write_form(form, first, last, points, ordinates, n, text, room, &answer);
     *length = (uint64_t)answer.length;
     return (uint64_t)refused;
 }
@@ -46,13 +48,13 @@ static const struct {
 /* Writers, and whether they are lent just the text's length, or as much as any text of so many points needs. */
 static const struct {
     const char *name;
-    table_writer *function;
+    form_writer *function;
     bool roomy;
 } writers[] = {
     {"write-library", write_library, false},
     {"write-library-roomy", write_library, true},
-    {"write-two", c_write_table, false},
-    {"write-unchecked", c_write_table_unchecked, false},
+    {"write-two", c_write_form, false},
+    {"write-unchecked", c_write_form_unchecked, false},
 };
 
 /* Ends the program: the answer was not what the table holds. */
@@ -74,13 +76,14 @@ static void run_reader(const char *name, table_reader *read, const struct table 
         wrong(name);
 }
 
-/* Writes the table TIMES times into so much room, and looks at the text once. */
-static void run_writer(const char *name, table_writer *write, const struct table *t, size_t room, long times)
+/* Writes the table TIMES times in its form into so much room, and looks at the text once. */
+static void run_writer(const char *name, form_writer *write, const struct table *t, size_t room, long times)
 {
     uint8_t *text = malloc(room);
     uint64_t length;
     for (long i = 0; i < times; i++)
-        if (write(t->first, t->last, t->points, t->ordinates, t->points, text, room, &length) || length != t->length)
+        if (write(t->form, t->first, t->last, t->points, t->ordinates, t->points, text, room, &length)
+            || length != t->length)
             wrong(name);
     if (memcmp(text, t->body, length))
         wrong(name);
@@ -127,6 +130,7 @@ static bool run(const char *name, const char *table, const char *times)
     struct table *t = make_table(table);
     if (!t)
         return false;
+    run_reader(table, c_read_table, t, 1); /* the body that all answers are compared with reads back */
     if (size) {
         printf("%zu %zu\n", t->length, t->points);
         return true;
@@ -145,7 +149,8 @@ int main(int argc, char **argv)
 {
     bool timed = argc == 5 && !strcmp(argv[1], "-time");
     if (argc != 4 + timed) {
-        fprintf(stderr, "measure [-time] FUNCTION typical|quiet|noisy|plain[-POINTS]|file-POINTS|labels-BYTES TIMES|size\n");
+        fprintf(stderr, "measure [-time] FUNCTION TABLE TIMES|size, where TABLE is (typical|quiet|noisy)[-POINTS]"
+                        "[.AFFN|.PAC|.SQZ], plain[-POINTS], file-POINTS or labels-BYTES\n");
         return 2;
     }
     struct timespec before, after;

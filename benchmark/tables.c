@@ -69,14 +69,16 @@ static void *memory(size_t n)
     return m;
 }
 
-/* A table of this kind: ordinates, and the body as the C writer writes it. */
-static struct table *table_of(const struct spectrum *s, uint64_t seed, size_t points, int64_t last)
+/* A table of this kind, a point each 200 thousandths: ordinates, and the body as the C writer writes it. */
+static struct table *table_of(const struct spectrum *s, uint64_t seed, size_t points, uint64_t form)
 {
     struct table *t = memory(sizeof *t);
-    *t = (struct table){s->name, 0, last, points, 0, memory(points * sizeof(int32_t)), memory(34 * points + 24)};
+    const size_t room = 34 * points + 24;
+    *t = (struct table){s->name, form, 0, 200 * ((int64_t)points - 1), points, 0, memory(points * sizeof(int32_t)),
+                        memory(room)};
     make_ordinates(s, seed, t->ordinates, points);
     uint64_t length;
-    if (c_write_table(t->first, t->last, points, t->ordinates, points, t->body, 34 * points + 24, &length))
+    if (c_write_form(form, t->first, t->last, points, t->ordinates, points, t->body, room, &length))
         exit(2);
     t->length = length;
     return t;
@@ -86,7 +88,8 @@ static struct table *table_of(const struct spectrum *s, uint64_t seed, size_t po
 static struct table *plain_table(uint64_t seed, size_t points)
 {
     struct table *t = memory(sizeof *t);
-    *t = (struct table){"plain", 0, 200 * ((int64_t)points - 1), points, 0, memory(points * sizeof(int32_t)), memory(40 * points + 40)};
+    *t = (struct table){"plain", FORM_AFFN, 0, 200 * ((int64_t)points - 1), points, 0, memory(points * sizeof(int32_t)),
+                        memory(40 * points + 40)};
     char *p = (char *)t->body;
     for (size_t i = 0; i < points; i++) {
         t->ordinates[i] = (int32_t)(random_bits(&seed) % 4000000000 - 2000000000);
@@ -99,21 +102,33 @@ static struct table *plain_table(uint64_t seed, size_t points)
     return t;
 }
 
+/* The form that a table's name ends with, DIFDUP if it has no dot; one past the last if there is no such form. */
+static uint64_t form_of(const char *name)
+{
+    static const char *const forms[] = {"DIFDUP", "AFFN", "PAC", "SQZ"};
+    const char *dot = strchr(name, '.');
+    uint64_t form = FORM_DIFDUP;
+    while (dot && form <= FORM_SQZ && strcmp(dot + 1, forms[form]))
+        form++;
+    return form;
+}
+
 struct table *make_table(const char *name)
 {
     const char *dash = strchr(name, '-');
-    size_t letters = dash ? (size_t)(dash - name) : strlen(name), points = dash ? strtoul(dash + 1, NULL, 10) : 65536;
-    if (!strncmp(name, "plain", letters))
+    size_t letters = strcspn(name, "-."), points = dash ? strtoul(dash + 1, NULL, 10) : 65536;
+    uint64_t form = form_of(name);
+    if (form == FORM_DIFDUP && !strncmp(name, "plain", letters))
         return plain_table(2026, points);
     for (size_t k = 0; k < sizeof spectra / sizeof *spectra; k++)
-        if (strlen(spectra[k].name) == letters && !strncmp(name, spectra[k].name, letters))
-            return table_of(&spectra[k], 1981 + k, points, 200 * ((int64_t)points - 1)); /* a point each 200 thousandths */
+        if (form <= FORM_SQZ && strlen(spectra[k].name) == letters && !strncmp(name, spectra[k].name, letters))
+            return table_of(&spectra[k], 1981 + k, points, form);
     return NULL;
 }
 
 struct table *make_file_table(size_t points)
 {
-    return table_of(&spectra[0], 63, points, 200 * ((int64_t)points - 1));
+    return table_of(&spectra[0], 63, points, FORM_DIFDUP);
 }
 
 uint8_t *make_file(size_t points, size_t *length)

@@ -5,16 +5,20 @@
 #include <stddef.h>
 #include <stdint.h>
 
-/* A table: its frame (abscissas in thousandths), its ordinates, its body in DIFDUP form, and a name. */
+/* A table: its frame (abscissas in thousandths), its ordinates, its body, the body's form (enum form), and a name. */
 struct table {
     const char *name;
+    uint64_t form;
     int64_t first, last;
     size_t points, length;
     int32_t *ordinates;
     uint8_t *body;
 };
 
-/* Makes the table of this name (typical, quiet, noisy or plain), with 65,536 points or, as noisy-300, so many; NULL if there is none. */
+/*
+ * Makes the table of this name (typical, quiet, noisy or plain), with 65,536 points or, as noisy-300, so many; its body
+ * is in DIFDUP form or, as noisy.AFFN, in another one (that of plain is its own). NULL if there is none.
+ */
 struct table *make_table(const char *name);
 
 /* The table of the file that make_file makes. */

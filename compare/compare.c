@@ -3,7 +3,7 @@
  * (second/README.md), gives each case to the functions of include/lastarunc.h, and compares every field of the answer,
  * every entry of lent memory, and that what is only lent to be read is unaltered.
  *
- * -DCOMPARE_C compares the C reader and writer of benchmark/c_table.c instead, which have tables only, and no line and
+ * -DCOMPARE_C compares the C reader and writer of benchmark/c_table.h instead, which have tables only, and no line and
  * column; -DREADER=NAME takes another reader of it.
  */
 #include "lastarunc.h"
@@ -20,6 +20,7 @@ enum { MOST_SHOWN = 10, MOST_NUMBERS = 101, GUARD = 16 };
 #ifndef COMPARE_C
 #define read_table lastarunc_read_table
 #define write_table lastarunc_write_table
+#define write_form lastarunc_write_form
 static const bool has_lines = true;
 #else
 #include "c_table.h"
@@ -41,6 +42,15 @@ static int64_t write_table(int64_t first, int64_t last, size_t points, const int
                            uint8_t *text, size_t room, struct lastarunc_text *answer)
 {
     uint64_t length, refused = c_write_table(first, last, points, ordinates, n, text, room, &length);
+    *answer = (struct lastarunc_text){(int64_t)refused, (int64_t)length};
+    return answer->refused;
+}
+
+/* A form that is none is answered with UINT64_MAX, which is LASTARUNC_NO_FORM. */
+static int64_t write_form(uint64_t form, int64_t first, int64_t last, size_t points, const int32_t *ordinates,
+                          size_t n, uint8_t *text, size_t room, struct lastarunc_text *answer)
+{
+    uint64_t length, refused = c_write_form(form, first, last, points, ordinates, n, text, room, &length);
     *answer = (struct lastarunc_text){(int64_t)refused, (int64_t)length};
     return answer->refused;
 }
@@ -157,8 +167,23 @@ static void *filled_bytes(size_t n)
 
 /* ---- Counting and telling ---- */
 
+/* The kinds of case, writes by form, as they are counted; and what -1 means in answer to one. */
+enum kind_of_case { BODIES, WRITES, NO_FORM = WRITES + 4, FILES, RECORDS, KINDS };
+static const struct {
+    const char *name, *minus_one;
+} kinds[KINDS] = {
+    [BODIES] = {"bodies", ""},
+    [WRITES + LASTARUNC_DIFDUP] = {"writes in DIFDUP", ""},
+    [WRITES + LASTARUNC_AFFN] = {"writes in AFFN", ""},
+    [WRITES + LASTARUNC_PAC] = {"writes in PAC", ""},
+    [WRITES + LASTARUNC_SQZ] = {"writes in SQZ", ""},
+    [NO_FORM] = {"writes in no form", "so answered"},
+    [FILES] = {"files", ""},
+    [RECORDS] = {"records", "absent"},
+};
+
 static unsigned long passed, failed;
-static unsigned long counts[256][MOST_NUMBERS];
+static unsigned long counts[KINDS][MOST_NUMBERS];
 static unsigned long case_number;
 
 /* Says a text that may hold any byte, cut to a readable length. */
@@ -197,8 +222,8 @@ static void show_refusal(const char *what, struct refusal r)
            r.column);
 }
 
-/* Counts a case; true if its difference is to be shown. An absent record counts as the last number. */
-static bool counted(int kind, int64_t number, const char *difference)
+/* Counts a case; true if its difference is to be shown. -1 counts as the last number. */
+static bool counted(enum kind_of_case kind, int64_t number, const char *difference)
 {
     counts[kind][0 <= number && number < MOST_NUMBERS ? number : MOST_NUMBERS - 1]++;
     if (!difference) {
@@ -208,7 +233,7 @@ static bool counted(int kind, int64_t number, const char *difference)
     failed++;
     if (failed > MOST_SHOWN)
         return false;
-    printf("case %lu (%c) differs: %s\n", case_number, kind, difference);
+    printf("case %lu (%s) differs: %s\n", case_number, kinds[kind].name, difference);
     return true;
 }
 
@@ -292,7 +317,7 @@ static void compare_body(void)
         difference = "the body is altered";
     if (!difference)
         difference = ordinates_differ(out, room, expected, (size_t)count);
-    if (counted('B', right.number, difference)) {
+    if (counted(BODIES, right.number, difference)) {
         printf("    F %" PRId64 ", L %" PRId64 ", N %" PRIu64 ", room %" PRIu32 "\n", first, last, points, room);
         show_bytes("body", body, length);
         show_refusal("second", right);
@@ -309,46 +334,110 @@ static void compare_body(void)
     free(expected);
 }
 
+/* A table of n ordinates to be written into `room` bytes, and the second writer's answer, a text of `length` bytes. */
+struct write_case {
+    int64_t first, last, number, place;
+    uint64_t points;
+    uint32_t form, n, room;
+    size_t length;
+    int32_t *ordinates;
+    uint8_t *expected;
+};
+
+static struct write_case take_write_case(void)
+{
+    struct write_case c;
+    c.first = take_i64();
+    c.last = take_i64();
+    c.points = take_u64();
+    c.form = take_u32();
+    c.n = take_u32();
+    c.ordinates = take_ordinates(c.n);
+    c.room = take_u32();
+    c.number = take_u32();
+    if (c.number == UINT32_MAX)
+        c.number = LASTARUNC_NO_FORM;
+    c.place = take_i64();
+    c.length = take_u64();
+    c.expected = take_bytes(c.length);
+    return c;
+}
+
+/* What write_form, or write_table if `form` is NULL, was lent, and what it answers and returns. */
+struct written {
+    int32_t *lent;
+    uint8_t *text;
+    struct lastarunc_text *answer;
+    int64_t returned;
+};
+
+static struct written write_by(const struct write_case *c, const uint64_t *form)
+{
+    struct written w = {copy_of(c->ordinates, c->n * sizeof *c->ordinates), filled_bytes(c->room),
+                        filled_bytes(sizeof *w.answer), 0};
+    if (form)
+        w.returned = write_form(*form, c->first, c->last, c->points, w.lent, c->n, w.text, c->room, w.answer);
+    else
+        w.returned = write_table(c->first, c->last, c->points, w.lent, c->n, w.text, c->room, w.answer);
+    return w;
+}
+
+static void free_written(struct written *w)
+{
+    free(w->lent);
+    free(w->text);
+    free(w->answer);
+}
+
+/* What is wrong with an answer, or with what was lent; NULL if nothing is. */
+static const char *written_differs(const struct write_case *c, const struct written *w)
+{
+    if (w->answer->refused != c->number || w->returned != c->number || c->place != 0)
+        return "number";
+    if (w->answer->length != (int64_t)c->length)
+        return "length";
+    if (guard_altered(w->answer, sizeof *w->answer))
+        return "what stands behind the answer is altered";
+    if (memcmp(w->lent, c->ordinates, c->n * sizeof *c->ordinates))
+        return "the ordinates are altered";
+    return text_differs(w->text, c->room, c->expected, c->length);
+}
+
+static void show_written(const struct write_case *c, const struct written *w, const char *by)
+{
+    printf("    %s, form %" PRIu32 ", F %" PRId64 ", L %" PRId64 ", N %" PRIu64 ", room %" PRIu32 "\n", by, c->form,
+           c->first, c->last, c->points, c->room);
+    show_ordinates("ordinates", c->ordinates, c->n);
+    printf("    second: %" PRId64 ", length %zu\n", c->number, c->length);
+    printf("    here: %" PRId64 ", length %" PRId64 ", returned %" PRId64 "\n", w->answer->refused, w->answer->length,
+           w->returned);
+    show_bytes("second's text", c->expected, c->length);
+    show_bytes("the lent text now", w->text, c->room);
+}
+
+/*
+ * By write_form; then again, in fresh memory, DIFDUP by write_table, and a form that is none by a number that is too
+ * large for 32 bits and a form's in its low half. The first difference decides.
+ */
 static void compare_write(void)
 {
-    int64_t first = take_i64(), last = take_i64();
-    uint64_t points = take_u64();
-    uint32_t n = take_u32();
-    int32_t *ordinates = take_ordinates(n);
-    uint32_t room = take_u32();
-    int64_t number = take_u32(), place = take_i64(), length = take_i64();
-    uint8_t *expected = take_bytes((size_t)length);
+    struct write_case c = take_write_case();
+    const uint64_t form = c.form, large = form << 32 | form % 4;
+    const char *by = "write_form", *difference;
+    struct written w = write_by(&c, &form);
 
-    int32_t *lent = copy_of(ordinates, n * sizeof *ordinates);
-    uint8_t *text = filled_bytes(room);
-    struct lastarunc_text *answer = filled_bytes(sizeof *answer);
-    int64_t returned = write_table(first, last, points, lent, n, text, room, answer);
-
-    const char *difference = NULL;
-    if (answer->refused != number || returned != number || place != 0)
-        difference = "number";
-    else if (answer->length != length)
-        difference = "length";
-    else if (guard_altered(answer, sizeof *answer))
-        difference = "what stands behind the answer is altered";
-    else if (memcmp(lent, ordinates, n * sizeof *ordinates))
-        difference = "the ordinates are altered";
-    else
-        difference = text_differs(text, room, expected, (size_t)length);
-    if (counted('W', number, difference)) {
-        printf("    F %" PRId64 ", L %" PRId64 ", N %" PRIu64 ", room %" PRIu32 "\n", first, last, points, room);
-        show_ordinates("ordinates", ordinates, n);
-        printf("    second: %" PRId64 ", length %" PRId64 "\n", number, length);
-        printf("    here: %" PRId64 ", length %" PRId64 ", returned %" PRId64 "\n", answer->refused, answer->length,
-               returned);
-        show_bytes("second's text", expected, (size_t)length);
-        show_bytes("the lent text now", text, room);
+    difference = written_differs(&c, &w);
+    if (!difference && (form == LASTARUNC_DIFDUP || c.number == LASTARUNC_NO_FORM)) {
+        by = form == LASTARUNC_DIFDUP ? "write_table" : "write_form, a large number";
+        free_written(&w);
+        w = write_by(&c, form == LASTARUNC_DIFDUP ? NULL : &large);
+        difference = written_differs(&c, &w);
     }
-    free(lent);
-    free(text);
-    free(answer);
-    free(ordinates);
-    free(expected);
+    if (counted(c.form > LASTARUNC_SQZ ? NO_FORM : WRITES + c.form, c.number, difference))
+        show_written(&c, &w, by);
+    free_written(&w);
+    free(c.ordinates);
+    free(c.expected);
 }
 
 #ifndef COMPARE_C
@@ -377,7 +466,7 @@ static void compare_file(void)
         difference = "the file is altered";
     if (!difference)
         difference = ordinates_differ(out, room, expected, (size_t)points);
-    if (counted('F', right.number, difference)) {
+    if (counted(FILES, right.number, difference)) {
         printf("    room %" PRIu32 "\n", room);
         show_bytes("file", file, length);
         show_refusal("second", right);
@@ -416,7 +505,7 @@ static void compare_record(void)
         difference = "what stands behind the answer is altered";
     if (!difference && (memcmp(lent, file, length) || memcmp(lent_name, name, name_length)))
         difference = "the file or the name is altered";
-    if (counted('R', right.number, difference)) {
+    if (counted(RECORDS, right.number, difference)) {
         show_bytes("name", name, name_length);
         show_bytes("file", file, length);
         show_refusal("second", right);
@@ -435,25 +524,25 @@ static void compare_record(void)
 /* Says how often each answer was expected, by kind of case. */
 static void show_counts(void)
 {
-    static const struct {
-        int kind;
-        const char *name;
-    } kinds[] = {{'B', "bodies"}, {'W', "writes"}, {'F', "files"}, {'R', "records"}};
-    for (size_t k = 0; k < sizeof kinds / sizeof *kinds; k++) {
+    for (int kind = 0; kind < KINDS; kind++) {
         unsigned long all = 0;
         for (int number = 0; number < MOST_NUMBERS; number++)
-            all += counts[kinds[k].kind][number];
+            all += counts[kind][number];
         if (!all)
             continue;
-        printf("%s: %lu cases;", kinds[k].name, all);
+        printf("%s: %lu cases;", kinds[kind].name, all);
+        const char *comma = "";
         for (int number = 0; number < MOST_NUMBERS; number++) {
-            unsigned long times = counts[kinds[k].kind][number];
-            if (times && number == 0)
+            unsigned long times = counts[kind][number];
+            if (!times)
+                continue;
+            if (number == 0)
                 printf(" accepted %lu", times);
-            else if (times && number == MOST_NUMBERS - 1)
-                printf(", absent %lu", times);
-            else if (times)
-                printf(", refused %d: %lu", number, times);
+            else if (number == MOST_NUMBERS - 1)
+                printf("%s %s %lu", comma, kinds[kind].minus_one, times);
+            else
+                printf("%s refused %d: %lu", comma, number, times);
+            comma = ",";
         }
         printf("\n");
     }

@@ -1,4 +1,7 @@
-/* Writes a small table in DIFDUP form, prints the text, reads it back and prints the points. */
+/*
+ * Writes a small table in DIFDUP form, prints the text, reads it back and prints the points. Then it writes the same
+ * table in AFFN, which a person can read, and prints that.
+ */
 #include "lastarunc.h"
 
 #include <inttypes.h>
@@ -34,5 +37,12 @@ int main(void)
         else
             printf(" %" PRId32, back[i]);
     printf("\n");
+
+    if (lastarunc_write_form(LASTARUNC_AFFN, first, last, POINTS, counts, POINTS, text, sizeof text, &written)) {
+        fprintf(stderr, "not written: refused %" PRId64 "\n", written.refused);
+        return 1;
+    }
+    printf("%" PRId64 " bytes in AFFN\n", written.length);
+    fwrite(text, 1, (size_t)written.length, stdout);
     return 0;
 }

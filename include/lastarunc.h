@@ -36,6 +36,12 @@ extern "C" {
 /* What lastarunc_find_record answers for a record that is absent. No refusal has this number. */
 #define LASTARUNC_ABSENT INT64_C(-1)
 
+/* The forms in which a table is written. */
+enum lastarunc_form { LASTARUNC_DIFDUP = 0, LASTARUNC_AFFN = 1, LASTARUNC_PAC = 2, LASTARUNC_SQZ = 3 };
+
+/* What lastarunc_write_form answers for a number that is no form's. No refusal has this number. */
+#define LASTARUNC_NO_FORM INT64_C(-1)
+
 /* Most points of a table, most bytes of a body or file, largest magnitude of the first and last abscissa. */
 #define LASTARUNC_MOST_POINTS 65536
 #define LASTARUNC_MOST_BYTES 1048576
@@ -47,7 +53,7 @@ struct lastarunc_table {
     int64_t points;
 };
 
-/* What lastarunc_write_table answers. The place of a writer's refusal is always 0. */
+/* What lastarunc_write_table and lastarunc_write_form answer. The place of a writer's refusal is always 0. */
 struct lastarunc_text {
     int64_t refused;
     int64_t length;
@@ -82,6 +88,18 @@ int64_t lastarunc_read_table(int64_t first, int64_t last, size_t points, const u
  */
 int64_t lastarunc_write_table(int64_t first, int64_t last, size_t points, const int32_t *ordinates, size_t n,
                               uint8_t *text, size_t room, struct lastarunc_text *answer);
+
+/*
+ * Writes a table body as lastarunc_write_table does, in the form with this number (enum lastarunc_form). In AFFN, PAC
+ * and SQZ each value is written in full, as many on a line as fit: AFFN has a space before every value, PAC before
+ * those that are not negative and not missing, SQZ has none. Each form's text is read by lastarunc_read_table.
+ * Accepted and refused as lastarunc_write_table, which is this function with LASTARUNC_DIFDUP; 15 bytes for each point
+ * and 44 more hold every text of every form.
+ * No form has this number: answer->refused is LASTARUNC_NO_FORM, its length 0, and text is as it was; nothing else is
+ * looked at.
+ */
+int64_t lastarunc_write_form(uint64_t form, int64_t first, int64_t last, size_t points, const int32_t *ordinates,
+                             size_t n, uint8_t *text, size_t room, struct lastarunc_text *answer);
 
 /*
  * Reads a simple JCAMP-DX file, from TITLE to END, with one XYDATA table.

@@ -1,5 +1,5 @@
-"""A separate writer after the rules of document 01 ("The written text"), for the texts of tables.txt: it uses no output
-of the one in Rattle. tools/samples runs it."""
+"""A separate writer after the rules of document 01 ("The written text") and 02 (T-02), for the texts of tables.txt: it
+uses no output of the one in Rattle. tools/samples runs it."""
 from fractions import Fraction
 from math import floor
 
@@ -45,8 +45,27 @@ def group(ys, i, fresh):
     return token + dup, count, form
 
 
-def write(first, last, ys):
-    """The text of a table."""
+def in_full(y, form):
+    """A value written in full, after what separates it in AFFN, PAC or SQZ."""
+    if form == "sqz":
+        return squeezed(y)
+    word = "?" if y is MISSING else str(y)
+    return word if form == "pac" and word[0] in "-?" else " " + word
+
+
+def write_in_full(first, last, ys, form):
+    """The text in a form without differences: as many values on a line as fit in 80 bytes."""
+    lines = []
+    for i, y in enumerate(ys):
+        value = in_full(y, form)
+        if not lines or len(lines[-1] + value) > 80:
+            lines.append(head(first, last, len(ys), i))
+        lines[-1] += value
+    return "".join(line + "\r\n" for line in lines)
+
+
+def write_difdup(first, last, ys):
+    """The text in DIFDUP form."""
     n, i, lines, form = len(ys), 0, [], None
     line = head(first, last, n, 0)
     fresh = True
@@ -63,3 +82,20 @@ def write(first, last, ys):
     if form == "DIF":
         lines.append(head(first, last, n, n - 1) + squeezed(ys[-1]))
     return "".join(line + "\r\n" for line in lines)
+
+
+def write(first, last, ys, form):
+    """The text of a table in a form: difdup, affn, pac or sqz."""
+    return write_difdup(first, last, ys) if form == "difdup" else write_in_full(first, last, ys, form)
+
+
+def answer(first, last, n, ys, room, form):
+    """The answer to a table with these ordinates and this room: a refusal's number, or 0, and the text."""
+    if max(abs(first), abs(last)) > 9999999999 or not 1 <= n <= 65536 or (first == last) != (n == 1):
+        return 1, ""
+    if len(ys) < n:
+        return 2, ""
+    if abs(last - first) < n - 1:
+        return 14, ""
+    text = write(first, last, ys[:n], form)
+    return (0, text) if len(text) <= room else (15, "")

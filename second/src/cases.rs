@@ -4,11 +4,12 @@ pub mod damage;
 pub mod files;
 pub mod spell;
 pub mod tables;
+pub mod writes;
 
 use crate::frame::{Frame, LONGEST};
 use crate::random::Random;
-use crate::stream::{put_body_case, put_file_case, put_record_case, put_write_case, BodyCase, WriteCase};
-use crate::text::write_body;
+use crate::stream::{put_body_case, put_file_case, put_record_case, put_write_case, BodyCase};
+use crate::text::{write_body, TextForm};
 use std::io::{self, Write};
 
 /// Writes as many cases of each kind as are asked for; a file case is often followed by a record case.
@@ -18,7 +19,7 @@ pub fn write_cases(out: &mut impl Write, seed: u64, bodies: usize, writes: usize
         put_body_case(out, &body_case(random, index, bodies))?;
     }
     for index in 0..writes {
-        put_write_case(out, &write_case(random, index, writes))?;
+        put_write_case(out, &writes::write_case(random, index, writes))?;
     }
     for index in 0..files {
         let case = files::file_case(random, index, files);
@@ -96,7 +97,7 @@ fn long_run_case(random: &mut Random) -> BodyCase {
 fn damaged_body_case(random: &mut Random) -> BodyCase {
     let points = tables::points(random);
     let (frame, ordinates, spelled) = right_body(random, points);
-    let written = write_body(frame.first, frame.last, frame.points, &ordinates, usize::MAX);
+    let written = write_body(TextForm::Difdup, &frame, &ordinates, usize::MAX);
     let mut body = if random.once_in(5) { written.unwrap_or(spelled) } else { spelled };
     damage::damage(random, &mut body);
     BodyCase { frame, body, room: room(random, frame.points) }
@@ -147,7 +148,7 @@ fn large_body_case(random: &mut Random, kind: usize) -> BodyCase {
 fn extremes() -> (Frame, Vec<u8>) {
     let frame = Frame { first: -9_999_999_999, last: 9_999_999_999, points: 65_536 };
     let list: Vec<i32> = (0..65_536).map(|k| if k % 2 == 0 { i32::MAX } else { -i32::MAX }).collect();
-    let text = write_body(frame.first, frame.last, frame.points, &list, usize::MAX);
+    let text = write_body(TextForm::Difdup, &frame, &list, usize::MAX);
     (frame, text.unwrap_or_default())
 }
 
@@ -178,39 +179,4 @@ pub fn pad(random: &mut Random, bytes: &mut Vec<u8>, wanted: usize) {
         filler[0]
     };
     bytes.resize(wanted, filler);
-}
-
-/// One writer's case.
-pub fn write_case(random: &mut Random, index: usize, writes: usize) -> WriteCase {
-    let large = index + large_cases(writes) >= writes;
-    let points = if large { random.pick(&[65_536, 65_535, 10_000, 40_000]) } else { tables::points_to_write(random) };
-    let mut frame = match random.below(12) {
-        0..=2 => tables::tight_frame(random, points),
-        3 => Frame { first: 0, last: 1000 * (points as i64 - 1), points: points as u64 },
-        _ => tables::frame(random, points),
-    };
-    let runs = large && random.once_in(2);
-    let mut ordinates = if runs { tables::long_runs(random, points) } else { tables::ordinates(random, points) };
-    match random.below(30) {
-        0 => frame = tables::odd_frame(random),
-        1 => drop(ordinates.pop()),
-        2 => ordinates.truncate(random.below(points)),
-        3..=6 => ordinates.extend(tables::ordinates(random, 3)),
-        _ => {}
-    }
-    let room = text_room(random, &frame, &ordinates);
-    WriteCase { frame, ordinates, room }
-}
-
-/// Bytes lent to the writer: exact, one too few, none, few, or more.
-fn text_room(random: &mut Random, frame: &Frame, ordinates: &[i32]) -> u32 {
-    let text = write_body(frame.first, frame.last, frame.points, ordinates, usize::MAX);
-    let length = text.map_or(0, |text| text.len()) as u32;
-    match random.below(10) {
-        0 => length.saturating_sub(1),
-        1 => random.pick(&[0, 1, length / 2]),
-        2..=4 => length + 1 + random.below(40) as u32,
-        5 => length + 1_000,
-        _ => length,
-    }
 }

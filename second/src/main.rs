@@ -2,19 +2,22 @@
 
 mod body;
 mod cases;
+mod difdup;
 mod file;
 mod frame;
 mod line;
+mod plain;
 mod random;
 mod selftest;
 mod stored;
 mod stream;
 mod text;
 
-use frame::{Refusal, MISSING};
+use frame::{Frame, Refusal, MISSING};
 use std::fs::File;
 use std::io::{self, BufReader, BufWriter, Read, Write};
 use std::process::exit;
+use text::TextForm;
 
 /// Most bytes and points that 01's program takes (01, Bench samples).
 const PROGRAM_BYTES: usize = 49_152;
@@ -26,6 +29,7 @@ fn usage() -> ! {
     eprintln!("second stored --seed S --bodies A --writes B --files C --cases PATH --answers PATH");
     eprintln!("second count < stream");
     eprintln!("second body F L N [--room R] < body");
+    eprintln!("second write FORM F L N [--room R] < ordinates    (FORM: difdup, affn, pac or sqz)");
     eprintln!("second file [--whole] [--room R] < file    (--whole: the library's limits, not the program's)");
     eprintln!("second selftest");
     exit(2)
@@ -92,6 +96,21 @@ fn body_command(arguments: &[String]) -> io::Result<()> {
     Ok(())
 }
 
+/// Writes the ordinates on standard input, `?` for a missing one, and prints the text after its length, or the refusal.
+fn write_command(arguments: &[String]) -> io::Result<()> {
+    let [form, first, last, points, ..] = arguments else { usage() };
+    let form = TextForm::named(form).unwrap_or_else(|| usage());
+    let (Ok(first), Ok(last), Ok(points)) = (first.parse(), last.parse(), points.parse()) else { usage() };
+    let room = option(arguments, "--room", u64::MAX) as usize;
+    let words = String::from_utf8(input()?).unwrap_or_else(|_| usage());
+    let ordinate = |word: &str| if word == "?" { MISSING } else { word.parse().unwrap_or_else(|_| usage()) };
+    let ordinates: Vec<i32> = words.split_whitespace().map(ordinate).collect();
+    match text::write_body(form, &Frame { first, last, points }, &ordinates, room) {
+        Ok(text) => io::stdout().write_all(&[format!("ok {}\n", text.len()).into_bytes(), text].concat()),
+        Err(fault) => io::stdout().write_all(format!("refused {} {}\n", fault.number, fault.place).as_bytes()),
+    }
+}
+
 /// Reads a file from standard input.
 fn file_command(arguments: &[String]) -> io::Result<()> {
     let whole = arguments.iter().any(|argument| argument == "--whole");
@@ -113,6 +132,7 @@ fn main() -> io::Result<()> {
         Some("stored") => stored_command(&arguments[1..]),
         Some("count") => stream::count(BufReader::new(io::stdin().lock())),
         Some("body") => body_command(&arguments[1..]),
+        Some("write") => write_command(&arguments[1..]),
         Some("file") => file_command(&arguments[1..]),
         Some("selftest") => exit(selftest::run()),
         _ => usage(),

@@ -1,13 +1,15 @@
 //! The samples of document 01 and the readings, with answers written by hand from the documents, and three random
 //! comparisons: right spellings read back, written texts read back, places found again by line and column.
 
+mod forms;
+
 use crate::body::read_body;
 use crate::cases::{damage, spell, tables};
 use crate::file::{read_file, record_text, FileTable, RecordText};
 use crate::frame::{refusal, Frame, Refusal, MISSING};
 use crate::line::line_and_column;
 use crate::random::Random;
-use crate::text::{head, write_body};
+use crate::text::{head, write_body, TextForm, FORMS};
 
 /// What an answer of the reader should be.
 type Answer = Result<Vec<i32>, (u32, usize)>;
@@ -157,14 +159,18 @@ fn check_sample(report: &mut Report) {
     report.compare("53 points", plain(read_body(4000, 56_000, 53, right, 53)), Ok(SAMPLE.to_vec()));
     report.compare("001's print", plain(read_body(4000, 56_000, 53, printed, 53)), Err((10, printed.len() - 4)));
     let written = b"4@%UKT%TLkj%J%KLJ%njKjL%kL%jJULJ%kLK1%lLMNPNPRLJ0QTOJ1P\r\n56A28\r\n".to_vec();
-    report.compare("53 written", plain(write_body(4000, 56_000, 53, &SAMPLE, 1000)), Ok(written));
+    report.compare("53 written", plain(difdup(4000, 56_000, 53, &SAMPLE, 1000)), Ok(written));
+}
+
+/// A table written in DIFDUP form.
+fn difdup(first: i64, last: i64, points: u64, ordinates: &[i32], room: usize) -> Result<Vec<u8>, Refusal> {
+    write_body(TextForm::Difdup, &Frame { first, last, points }, ordinates, room)
 }
 
 /// Texts that 01 and the readings give, refusals of the writer, and lines that are full.
 fn check_texts(report: &mut Report) {
     let mut written = |what: &str, frame: (i64, i64), list: &[i32], expected: &str| {
-        let text =
-            write_body(frame.0, frame.1, list.len() as u64, list, 100_000).map(|t| String::from_utf8(t).unwrap());
+        let text = difdup(frame.0, frame.1, list.len() as u64, list, 100_000).map(|t| String::from_utf8(t).unwrap());
         report.compare(what, plain(text), Ok(expected.replace('/', "\r\n")));
     };
     written("one count", (0, 3000), &[0, 1, 0, 0], "0@Jj%/3@/");
@@ -181,12 +187,12 @@ fn check_texts(report: &mut Report) {
     written("full line", (0, 84_000), &steps, &full);
     check_new_lines(report);
     check_heads(report);
-    report.compare("14", plain(write_body(0, 2, 4, &[0; 4], 99)), Err((14, 0)));
-    report.compare("not 14", plain(write_body(0, 3, 4, &[0; 4], 99)), Ok(b"0@%U\r\n0.003@\r\n".to_vec()));
-    report.compare("15", plain(write_body(0, 3000, 4, &[0, 1, 0, 0], 10)), Err((15, 0)));
-    report.compare("exact", plain(write_body(0, 3000, 4, &[0, 1, 0, 0], 11)).map(|t| t.len()), Ok(11));
-    report.compare("2", plain(write_body(0, 2, 4, &[0; 3], 0)), Err((2, 0)));
-    report.compare("1", plain(write_body(0, 0, 4, &[0; 3], 0)), Err((1, 0)));
+    report.compare("14", plain(difdup(0, 2, 4, &[0; 4], 99)), Err((14, 0)));
+    report.compare("not 14", plain(difdup(0, 3, 4, &[0; 4], 99)), Ok(b"0@%U\r\n0.003@\r\n".to_vec()));
+    report.compare("15", plain(difdup(0, 3000, 4, &[0, 1, 0, 0], 10)), Err((15, 0)));
+    report.compare("exact", plain(difdup(0, 3000, 4, &[0, 1, 0, 0], 11)).map(|t| t.len()), Ok(11));
+    report.compare("2", plain(difdup(0, 2, 4, &[0; 3], 0)), Err((2, 0)));
+    report.compare("1", plain(difdup(0, 0, 4, &[0; 3], 0)), Err((1, 0)));
 }
 
 /// Heads of the middle one of three points: exact, rounded, halves to the larger.
@@ -218,7 +224,7 @@ fn check_heads(report: &mut Report) {
 fn check_new_lines(report: &mut Report) {
     let text = |list: &[i32]| {
         let last = 1000 * (list.len() as i64 - 1);
-        String::from_utf8(write_body(0, last, list.len() as u64, list, 100_000).unwrap()).unwrap()
+        String::from_utf8(difdup(0, last, list.len() as u64, list, 100_000).unwrap()).unwrap()
     };
     // 1, then 39 times missing and 0: `0A` and `?@` 39 times are 80 bytes; the two steps of 1 start at point 79.
     let mut list = vec![1];
@@ -545,17 +551,20 @@ fn check_spellings(report: &mut Report, random: &mut Random) {
     }
 }
 
-/// Written texts are read as the tables they were written from, and keep to their line length.
+/// Written texts of every form are read as the tables they were written from, and keep to their lengths (15 bytes for
+/// each point and 44 more: include/lastarunc.h).
 fn check_written(report: &mut Report, random: &mut Random) {
-    for _ in 0..20_000 {
+    for _ in 0..40_000 {
         let points = tables::points(random);
         let frame = if random.once_in(2) { tables::frame(random, points) } else { tables::tight_frame(random, points) };
         let list = tables::ordinates(random, points);
-        let Ok(text) = write_body(frame.first, frame.last, frame.points, &list, usize::MAX) else { continue };
+        let form = random.pick(&FORMS);
+        let Ok(text) = write_body(form, &frame, &list, usize::MAX) else { continue };
         let found = read_body(frame.first, frame.last, frame.points, &text, points);
-        report.compare(&format!("{frame:?} {}", text.escape_ascii()), plain(found), Ok(list));
+        report.compare(&format!("{form:?} {frame:?} {}", text.escape_ascii()), plain(found), Ok(list));
         let long = text.split(|byte| *byte == b'\n').any(|line| line.len() > 81);
         report.compare("line length", long, false);
+        report.compare("15 N + 44", text.len() <= 15 * points + 44, true);
     }
 }
 
@@ -565,6 +574,7 @@ pub fn run() -> i32 {
     check_bodies(report);
     check_sample(report);
     check_texts(report);
+    forms::check(report);
     check_file_sample(report);
     check_numbers(report);
     check_counts(report);

@@ -1,12 +1,12 @@
 //! The stored cases of crates/replay: small cases in one file, their answers in another. README.md gives the format.
 
 use crate::body::read_body;
-use crate::cases::{body_case, files, write_case};
+use crate::cases::{body_case, files, writes::write_case};
 use crate::file::read_file;
 use crate::frame::{Frame, MISSING};
 use crate::random::Random;
 use crate::stream::{BodyCase, FileCase, WriteCase};
-use crate::text::write_body;
+use crate::text::{write_body, TextForm, FORMS};
 use std::io::{self, Write};
 
 /// Most bytes of a body, a text or a file, and most ordinates lent and given, of a stored case; crates/replay has room
@@ -22,16 +22,17 @@ pub struct Stored<C: Write, A: Write> {
 }
 
 impl<C: Write, A: Write> Stored<C, A> {
-    /// Writes as many cases of each kind as are asked for, none of them large.
+    /// Writes as many cases of each kind as are asked for, none of them large; tables are written in each form in turn.
     pub fn write(&mut self, seed: u64, bodies: usize, writes: usize, files: usize) -> io::Result<()> {
         let random = &mut Random::new(seed);
         for _ in 0..bodies {
             let case = small(|| body_case(random, 0, usize::MAX), |case| case.body.len() <= MOST_BYTES);
             self.body(&case)?;
         }
-        for _ in 0..writes {
-            let case = small(|| write_case(random, 0, usize::MAX), fits);
-            self.table(&case)?;
+        for index in 0..writes {
+            let form = FORMS[index % FORMS.len()];
+            let case = small(|| write_case(random, 0, usize::MAX), |case| fits(case) && case.form == form as u32);
+            self.table(form, &case)?;
         }
         for _ in 0..files {
             let case = small(|| files::file_case(random, 0, usize::MAX), |case| case.file.len() <= MOST_BYTES);
@@ -60,13 +61,13 @@ impl<C: Write, A: Write> Stored<C, A> {
     }
 
     /// A table to write and its answer; crates/replay reads each text back, and it is always the same table.
-    fn table(&mut self, case: &WriteCase) -> io::Result<()> {
-        self.put_header(2, &case.frame, case.room, case.ordinates.len())?;
+    fn table(&mut self, form: TextForm, case: &WriteCase) -> io::Result<()> {
+        let kind = [2, 4, 5, 6][form as usize];
+        self.put_header(kind, &case.frame, case.room, case.ordinates.len())?;
         for y in &case.ordinates {
             self.cases.write_all(&((i64::from(*y) - i64::from(MISSING)) as u32).to_be_bytes())?;
         }
-        let Frame { first, last, points } = case.frame;
-        match write_body(first, last, points, &case.ordinates, case.room as usize) {
+        match write_body(form, &case.frame, &case.ordinates, case.room as usize) {
             Ok(text) => {
                 writeln!(self.answers, "ok {} same", text.len())?;
                 self.answers.write_all(&text)?;

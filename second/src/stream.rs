@@ -4,7 +4,7 @@ use crate::body::read_body;
 use crate::file::{read_file, record_text, RecordText};
 use crate::frame::Frame;
 use crate::line::Told;
-use crate::text::write_body;
+use crate::text::{write_body, TextForm};
 use std::collections::BTreeMap;
 use std::io::{self, Read, Write};
 
@@ -15,11 +15,25 @@ pub struct BodyCase {
     pub room: u32,
 }
 
-/// A table to be written.
+/// A table to be written, in the form with this number, if one has it.
 pub struct WriteCase {
+    pub form: u32,
     pub frame: Frame,
     pub ordinates: Vec<i32>,
     pub room: u32,
+}
+
+impl WriteCase {
+    /// The number, the place and the text of the answer.
+    fn answer(&self) -> (u32, u64, Vec<u8>) {
+        let Some(form) = TextForm::numbered(self.form) else {
+            return (ABSENT, 0, Vec::new());
+        };
+        match write_body(form, &self.frame, &self.ordinates, self.room as usize) {
+            Ok(text) => (0, 0, text),
+            Err(fault) => (fault.number, fault.place, Vec::new()),
+        }
+    }
 }
 
 /// A file to be read.
@@ -34,7 +48,7 @@ pub struct RecordCase {
     pub name: Vec<u8>,
 }
 
-/// The number for an absent record; no refusal has it.
+/// The number for an absent record, and for a form that is none; no refusal has it.
 const ABSENT: u32 = u32::MAX;
 
 /// A 32-bit number, little endian.
@@ -91,14 +105,13 @@ pub fn put_body_case(out: &mut impl Write, case: &BodyCase) -> io::Result<()> {
 pub fn put_write_case(out: &mut impl Write, case: &WriteCase) -> io::Result<()> {
     out.write_all(b"W")?;
     put_frame(out, &case.frame)?;
+    put_u32(out, case.form)?;
     put_u32(out, case.ordinates.len() as u32)?;
     put_ordinates(out, &case.ordinates)?;
     put_u32(out, case.room)?;
-    let Frame { first, last, points } = case.frame;
-    let answer = write_body(first, last, points, &case.ordinates, case.room as usize);
-    put_u32(out, answer.as_ref().err().map_or(0, |fault| fault.number))?;
-    put_u64(out, answer.as_ref().err().map_or(0, |fault| fault.place))?;
-    let text = answer.unwrap_or_default();
+    let (number, place, text) = case.answer();
+    put_u32(out, number)?;
+    put_u64(out, place)?;
     put_u64(out, text.len() as u64)?;
     out.write_all(&text)
 }
@@ -182,13 +195,14 @@ impl<R: Read> Stream<R> {
         Ok(if self.input.read(&mut one)? == 1 { Some(one[0]) } else { None })
     }
 
-    /// Reads the rest of a case: its number and the bytes of its body, text or file.
-    fn case(&mut self, kind: u8) -> io::Result<(u32, usize)> {
+    /// Reads the rest of a case: what it is, its number and the bytes of its body, text or file.
+    fn case(&mut self, kind: u8) -> io::Result<(&'static str, u32, usize)> {
+        let named = |name, (number, length)| (name, number, length);
         match kind {
-            b'B' => self.body_case(),
+            b'B' => Ok(named("B", self.body_case()?)),
             b'W' => self.write_case(),
-            b'F' => self.file_case(),
-            b'R' => self.record_case(),
+            b'F' => Ok(named("F", self.file_case()?)),
+            b'R' => Ok(named("R", self.record_case()?)),
             _ => Err(io::Error::new(io::ErrorKind::InvalidData, "no such kind of case")),
         }
     }
@@ -203,16 +217,18 @@ impl<R: Read> Stream<R> {
         Ok((number, length))
     }
 
-    /// The rest of a writer's case.
-    fn write_case(&mut self) -> io::Result<(u32, usize)> {
+    /// The rest of a writer's case, which is told by its form.
+    fn write_case(&mut self) -> io::Result<(&'static str, u32, usize)> {
         self.bytes(24)?;
+        let form = TextForm::numbered(self.u32()?);
         let count = self.u32()? as usize;
         self.bytes(4 * count + 4)?;
         let number = self.u32()?;
         self.u64()?;
         let length = self.u64()? as usize;
         self.bytes(length)?;
-        Ok((number, length))
+        let names = ["W difdup", "W affn", "W pac", "W sqz"];
+        Ok((form.map_or("W no form", |form| names[form as usize]), number, length))
     }
 
     /// The rest of a file case.
@@ -235,27 +251,27 @@ impl<R: Read> Stream<R> {
     }
 }
 
-/// Counts the answers of a stream by kind of case and number, and prints them.
+/// Counts the answers of a stream by kind of case, written ones by form too, and number, and prints them.
 pub fn count(input: impl Read) -> io::Result<()> {
     let mut stream = Stream { input };
-    let mut counts: BTreeMap<(u8, u32), usize> = BTreeMap::new();
-    let mut sizes: BTreeMap<u8, (usize, usize)> = BTreeMap::new();
+    let mut counts: BTreeMap<(&str, u32), usize> = BTreeMap::new();
+    let mut sizes: BTreeMap<&str, (usize, usize)> = BTreeMap::new();
     while let Some(kind) = stream.kind()? {
-        let (number, length) = stream.case(kind)?;
-        *counts.entry((kind, number)).or_default() += 1;
-        let (cases, bytes) = sizes.entry(kind).or_default();
+        let (name, number, length) = stream.case(kind)?;
+        *counts.entry((name, number)).or_default() += 1;
+        let (cases, bytes) = sizes.entry(name).or_default();
         *cases += 1;
         *bytes += length;
     }
-    for (kind, (cases, bytes)) in sizes {
-        println!("{} {cases} cases, {bytes} bytes of body, text or file", char::from(kind));
-        for ((_, number), times) in counts.range((kind, 0)..=(kind, u32::MAX)) {
-            let name = match *number {
+    for (name, (cases, bytes)) in sizes {
+        println!("{name} {cases} cases, {bytes} bytes of body, text or file");
+        for ((_, number), times) in counts.range((name, 0)..=(name, u32::MAX)) {
+            let answer = match *number {
                 0 => "accepted".into(),
-                ABSENT => "absent".into(),
+                ABSENT => if name == "R" { "absent" } else { "no form" }.into(),
                 n => format!("refused {n}"),
             };
-            println!("  {name}: {times}");
+            println!("  {answer}: {times}");
         }
     }
     Ok(())

@@ -1,27 +1,55 @@
-//! Writing a table body in DIFDUP form (01, The written text).
+//! Writing a table body: the four forms, heads, and the writer's refusals (01, The written text; 02, T-02).
 
-use crate::frame::{nearest, refusal, Frame, Refusal, MISSING};
+use crate::frame::{nearest, refusal, Frame, Refusal};
+use crate::{difdup, plain};
 
-/// Most bytes of a line before its CR LF.
-const LONGEST_LINE: usize = 80;
+/// Most bytes of a line before its line end.
+pub const LONGEST_LINE: usize = 80;
 
-/// The form of the last token of a line.
-#[derive(Clone, Copy, PartialEq, Eq)]
-enum Form {
-    Squeezed,
-    Missing,
-    Difference,
+/// What ends a written line: CR LF.
+pub const LINE_END: &[u8] = b"\r\n";
+
+/// The forms in which a table is written.
+#[derive(Clone, Copy, Debug, PartialEq, Eq)]
+pub enum TextForm {
+    Difdup,
+    Affn,
+    Pac,
+    Sqz,
 }
 
-/// A group: its bytes, the points it stands for, its form.
-struct Group {
-    bytes: Vec<u8>,
-    points: usize,
-    form: Form,
+/// The forms in the order of their numbers (include/lastarunc.h).
+pub const FORMS: [TextForm; 4] = [TextForm::Difdup, TextForm::Affn, TextForm::Pac, TextForm::Sqz];
+
+impl TextForm {
+    /// The form with this number, if one has it.
+    pub fn numbered(number: u32) -> Option<TextForm> {
+        FORMS.get(number as usize).copied()
+    }
+
+    /// The form with this name, in small letters.
+    pub fn named(name: &str) -> Option<TextForm> {
+        FORMS.into_iter().find(|form| form.name() == name)
+    }
+
+    /// Its name.
+    pub fn name(self) -> &'static str {
+        ["difdup", "affn", "pac", "sqz"][self as usize]
+    }
+
+    /// How each ordinate is spelled; none in DIFDUP form, where that rests on those before it.
+    pub fn spell(self) -> Option<plain::Spell> {
+        match self {
+            TextForm::Difdup => None,
+            TextForm::Affn => Some(plain::affn),
+            TextForm::Pac => Some(plain::pac),
+            TextForm::Sqz => Some(plain::sqz),
+        }
+    }
 }
 
 /// A number with its first digit replaced by a pseudo-digit from the row for its sign.
-fn pseudo(number: i64, rows: [&[u8; 10]; 2]) -> Vec<u8> {
+pub fn pseudo(number: i64, rows: [&[u8; 10]; 2]) -> Vec<u8> {
     let mut digits = number.unsigned_abs().to_string().into_bytes();
     let row = if number < 0 { rows[1] } else { rows[0] };
     digits[0] = row[usize::from(digits[0] - b'0')];
@@ -29,21 +57,8 @@ fn pseudo(number: i64, rows: [&[u8; 10]; 2]) -> Vec<u8> {
 }
 
 /// An ordinate in SQZ form.
-fn squeezed(ordinate: i32) -> Vec<u8> {
+pub fn squeezed(ordinate: i32) -> Vec<u8> {
     pseudo(i64::from(ordinate), [b"@ABCDEFGHI", b"_abcdefghi"])
-}
-
-/// A difference in DIF form.
-fn difference(step: i64) -> Vec<u8> {
-    pseudo(step, [b"%JKLMNOPQR", b"_jklmnopqr"])
-}
-
-/// A DUP for this count, or nothing for a token that stands once.
-fn duplicate(count: usize) -> Vec<u8> {
-    if count < 2 {
-        return Vec::new();
-    }
-    pseudo(count as i64, [b"_STUVWXYZs", b"__________"])
 }
 
 /// The head for a point: the exact abscissa rounded to the nearest thousandth.
@@ -63,72 +78,9 @@ fn thousandths(number: i128) -> Vec<u8> {
     long.trim_end_matches('0').trim_end_matches('.').as_bytes().to_vec()
 }
 
-/// The difference from the point before this one to this one; none if either is missing.
-fn step_to(ordinates: &[i32], index: usize) -> Option<i64> {
-    let (before, here) = (ordinates[index - 1], ordinates[index]);
-    (before != MISSING && here != MISSING).then(|| i64::from(here) - i64::from(before))
-}
-
-/// The group that starts at a point, if the last form on its line is `last` (none at the line's start).
-fn group(ordinates: &[i32], next: usize, last: Option<Form>) -> Group {
-    if ordinates[next] == MISSING {
-        let points = ordinates[next..].iter().take_while(|y| **y == MISSING).count();
-        return Group { bytes: [b"?".to_vec(), duplicate(points)].concat(), points, form: Form::Missing };
-    }
-    if last.is_none() || last == Some(Form::Missing) {
-        return Group { bytes: squeezed(ordinates[next]), points: 1, form: Form::Squeezed };
-    }
-    let step = step_to(ordinates, next);
-    let points = (next..ordinates.len()).take_while(|k| step_to(ordinates, *k) == step).count();
-    let token = difference(step.expect("neither point is missing"));
-    Group { bytes: [token, duplicate(points)].concat(), points, form: Form::Difference }
-}
-
-/// A line: its bytes, the next point after it, the form it ended in.
-struct Line {
-    bytes: Vec<u8>,
-    next: usize,
-    form: Option<Form>,
-}
-
-/// The line that starts at the next point, or the check line for the point before it, filled with groups.
-fn line(frame: &Frame, ordinates: &[i32], next: usize, check: bool) -> Line {
-    let mut line = if check {
-        let bytes = [head(frame, next - 1), squeezed(ordinates[next - 1])].concat();
-        Line { bytes, next, form: Some(Form::Squeezed) }
-    } else {
-        Line { bytes: head(frame, next), next, form: None }
-    };
-    while line.next < ordinates.len() {
-        let group = group(ordinates, line.next, line.form);
-        if line.bytes.len() + group.bytes.len() > LONGEST_LINE {
-            break;
-        }
-        line.bytes.extend(group.bytes);
-        line.next += group.points;
-        line.form = Some(group.form);
-    }
-    line
-}
-
-/// The text of a table whose frame was judged already.
-fn text(frame: &Frame, ordinates: &[i32]) -> Vec<u8> {
-    let mut text = Vec::new();
-    let mut next = 0;
-    let mut check = false;
-    while next < ordinates.len() || check {
-        let line = line(frame, ordinates, next, check);
-        text.extend(line.bytes);
-        text.extend(b"\r\n");
-        next = line.next;
-        check = line.form == Some(Form::Difference);
-    }
-    text
-}
-
-/// Writes a table, or refuses with 1, 2, 14, 15 in this order; `room` is the number of lent bytes.
-pub fn write_body(first: i64, last: i64, points: u64, ordinates: &[i32], room: usize) -> Result<Vec<u8>, Refusal> {
-    let frame = Frame { first, last, points };
+/// Writes a table in a form, or refuses with 1, 2, 14, 15 in this order; `room` is the number of lent bytes.
+pub fn write_body(form: TextForm, frame: &Frame, ordinates: &[i32], room: usize) -> Result<Vec<u8>, Refusal> {
+    let points = frame.points;
     if !frame.in_limits() {
         return Err(refusal(1, 0));
     }
@@ -138,7 +90,11 @@ pub fn write_body(first: i64, last: i64, points: u64, ordinates: &[i32], room: u
     if frame.span().abs() < frame.steps() {
         return Err(refusal(14, 0));
     }
-    let text = text(&frame, &ordinates[..points as usize]);
+    let given = &ordinates[..points as usize];
+    let text = match form.spell() {
+        None => difdup::text(frame, given),
+        Some(spell) => plain::text(frame, given, spell),
+    };
     if text.len() > room {
         return Err(refusal(15, 0));
     }

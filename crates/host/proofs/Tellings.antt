@@ -4,6 +4,7 @@ use mathlib.Core.List.{List, [], _∷_}
 use Prim.Native.Nat.{ℕ}
 use lib.IntN.{ℤ}
 use lib.ListN.{length}
+use borrow.Author.Tests.{ne-eqb}
 use Rattle.terms.specs.Logic.{zero-one}
 use Rattle.terms.specs.Refusals.{fault-at, refusalIn}
 use Rattle.terms.specs.declared.Fault.{Fault}
@@ -11,7 +12,7 @@ use Rattle.terms.specs.declared.Refusal.{Refusal}
 use Rattle.terms.specs.declared.TableRead.the-variants as tables
 use Rattle.terms.specs.declared.TableWritten.the-variants as texts
 use Rattle.table_spec.specs.Reading.{Answer, refuse, accept, readTable}
-use Rattle.table_spec.specs.Writing.{Outcome, declined, wrote, writeTable, laid}
+use Rattle.table_spec.specs.Writing.{Outcome, declined, wrote, laid}
 use Rattle.table_read.specs.Answers.{told, TableSays}
 use Rattle.table_text.specs.Answers as writing
 use Rattle.label_spec.specs.Records.{recordFor}
@@ -21,7 +22,7 @@ use Rattle.file_spec.specs.File.{FileAnswer, refuse-file, accept-file, readFile
 use Rattle.file_spec.specs.declared.FileTable.{FileTable}
 use Rattle.file_spec.specs.declared.FileRead.the-variants as files
 use Rattle.file.specs.Answers.{FileSays}
-use Rattle.host.specs.Answers.{refusedOf, tableAnswer, TableTold, textAnswer, TextTold, bits, fileAnswer, FileTold, recordAnswer, RecordTold}
+use Rattle.host.specs.Answers.{refusedOf, tableAnswer, TableTold, textAnswer, OutcomeTold, no-form, writeForm, bits, fileAnswer, FileTold, recordAnswer, RecordTold}
 
 -- ---- a table read
 
@@ -55,14 +56,17 @@ text-declined : (x : Outcome) {r : Fault} → texts.Refused r ≡ writing.told x
 text-declined (declined c) {r} e = let z : r ≡ fault-at c 0 = cc in rw z refl
 text-declined (wrote t) e = zero-one cc
 
-module _ {f l : ℤ} {n : ℕ} {ys : List ℤ} {text text' : List ℕ} where
-  pub told-wrote : {m : ℕ} → texts.Length m ≡ writing.told (writeTable f l n ys (length text)) → text' ≡ laid text (writeTable f l n ys (length text))
-      → TextTold f l n ys text text' (0 ∷ m ∷ []) 0
-  told-wrote e o = let z = text-wrote (writeTable f l n ys (length text)) e in record { numbers = z; returned = ap refusedOf z; leaves = o }
+pub told-wrote : (x : Outcome) {text text' : List ℕ} {m : ℕ} → texts.Length m ≡ writing.told x → text' ≡ laid text x → OutcomeTold x text text' (0 ∷ m ∷ []) 0
+told-wrote x e o = let z = text-wrote x e in record { numbers = z; returned = ap refusedOf z; leaves = o }
 
-  pub told-declined : {r : Fault} → texts.Refused r ≡ writing.told (writeTable f l n ys (length text)) → text' ≡ laid text (writeTable f l n ys (length text))
-      → TextTold f l n ys text text' (r .number ∷ 0 ∷ []) (r .number)
-  told-declined e o = let z = text-declined (writeTable f l n ys (length text)) e in record { numbers = z; returned = ap refusedOf z; leaves = o }
+pub told-declined : (x : Outcome) {text text' : List ℕ} {r : Fault} → texts.Refused r ≡ writing.told x → text' ≡ laid text x → OutcomeTold x text text' (r .number ∷ 0 ∷ []) (r .number)
+told-declined x e o = let z = text-declined x e in record { numbers = z; returned = ap refusedOf z; leaves = o }
+
+-- a number that is no form's
+pub no-such-form : (k : ℕ) (f l : ℤ) (n : ℕ) (ys : List ℤ) (text : List ℕ) → (k ≡ 0 → ⊥) → (k ≡ 1 → ⊥) → (k ≡ 2 → ⊥) → (k ≡ 3 → ⊥)
+    → OutcomeTold (writeForm k f l n ys (length text)) text text (no-form ∷ 0 ∷ []) no-form
+unfolding laid
+no-such-form k f l n ys text a b c d = rw (ne-eqb k 0 a, ne-eqb k 1 b, ne-eqb k 2 c, ne-eqb k 3 d) (record { numbers = refl; returned = refl; leaves = refl })
 
 -- ---- a file read
 

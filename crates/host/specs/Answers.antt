@@ -3,10 +3,14 @@ use mathlib.Core.Path.{_≡_}
 use mathlib.Core.List.{List, [], _∷_}
 use Prim.Native.Nat.{ℕ, _-_}
 use lib.IntN.{ℤ, pos, negsuc}
+use lib.Dec.{eqb}
 use lib.ListN.{length}
+use Rattle.terms.specs.Logic.{pick}
 use Rattle.terms.specs.Places.{lineOf, columnOf}
 use Rattle.table_spec.specs.Reading.{Answer, refuse, accept, readTable, stored}
 use Rattle.table_spec.specs.Writing.{Outcome, declined, wrote, writeTable, laid}
+use Rattle.table_spec.specs.declared.Style.{Style}
+use Rattle.table_spec.specs.declared.Style.the-variants.{Difdup, Affn, Pac, Sqz}
 use Rattle.label_spec.specs.Records.{recordFor}
 use Rattle.label_spec.specs.Names.{norm}
 use Rattle.label_spec.specs.declared.Record.{Record}
@@ -32,10 +36,32 @@ abbrev pub textAnswer : Outcome → List ℕ
 textAnswer (declined c) = c ∷ 0 ∷ []
 textAnswer (wrote t) = 0 ∷ length t ∷ []
 
-pub record TextTold (f l : ℤ) (n : ℕ) (ys : List ℤ) (text text' : List ℕ) (answer : List ℕ) (r : ℕ) : Type 0 where
-  pub numbers : answer ≡ textAnswer (writeTable f l n ys (length text))
-  pub returned : r ≡ refusedOf (textAnswer (writeTable f l n ys (length text)))
-  pub leaves : text' ≡ laid text (writeTable f l n ys (length text))
+-- what a host is told of an outcome of writing
+pub record OutcomeTold (x : Outcome) (text text' : List ℕ) (answer : List ℕ) (r : ℕ) : Type 0 where
+  pub numbers : answer ≡ textAnswer x
+  pub returned : r ≡ refusedOf (textAnswer x)
+  pub leaves : text' ≡ laid text x
+
+-- a table written in a form
+abbrev pub TextTold : Style → ℤ → ℤ → ℕ → List ℤ → List ℕ → List ℕ → List ℕ → ℕ → Type 0
+TextTold w f l n ys text text' answer r = OutcomeTold (writeTable w f l n ys (length text)) text text' answer r
+
+-- the number for a form that is none, -1 in 64 bits
+abbrev pub no-form : ℕ
+no-form = 18446744073709551615
+
+-- the forms by the header's numbers; any other is declined, whatever else is given
+abbrev pub writeForm : ℕ → ℤ → ℤ → ℕ → List ℤ → ℕ → Outcome
+writeForm k f l n ys space =
+    pick (eqb k 0) (writeTable Difdup f l n ys space)
+    (pick (eqb k 1) (writeTable Affn f l n ys space)
+    (pick (eqb k 2) (writeTable Pac f l n ys space)
+    (pick (eqb k 3) (writeTable Sqz f l n ys space)
+    (declined no-form))))
+
+-- a table written in the form of a number
+abbrev pub FormTold : ℕ → ℤ → ℤ → ℕ → List ℤ → List ℕ → List ℕ → List ℕ → ℕ → Type 0
+FormTold k f l n ys text text' answer r = OutcomeTold (writeForm k f l n ys (length text)) text text' answer r
 
 -- a number with a sign in 64 bits, in two's complement, as C has it
 abbrev pub bits : ℤ → ℕ

@@ -1,14 +1,19 @@
 // The functions that C calls (include/lastarunc.h; 02, T-01). Each fills its answer, which is a struct of 64-bit numbers for C, and returns the first of them, `refused`: 0 for acceptance.
 // Every argument is answered, every number is set, and what is not given is 0.
 ghost use mathlib.Core.Path.{_≡_};
-ghost use Rattle.host.specs.Answers.{bits, TableTold, TextTold, FileTold, RecordTold};
+ghost use Rattle.table_spec.specs.declared.Style.the-variants.{Difdup};
+ghost use Rattle.host.specs.Answers.{bits, TableTold, TextTold, FormTold, FileTold, RecordTold};
 use file_spec::FileRead;
 use label_spec::Record;
+use table_spec::Style;
 use terms::TableRead;
 use terms::TableWritten;
 
 // What is answered for a record that is absent, -1 for C (LASTARUNC_ABSENT in the header): no refusal has this number.
 const ABSENT: u64 = 18446744073709551615;
+
+// What is answered for a number that is no form's, -1 for C (LASTARUNC_NO_FORM in the header): no refusal has this number.
+const NO_FORM: u64 = 18446744073709551615;
 
 // Reads a table: refused, place, line, column, points.
 #[no_mangle]
@@ -34,7 +39,31 @@ pub extern "C" fn lastarunc_read_table(
     }
 }
 
-// Writes a table: refused, length.
+// Writes a table in a form: refused, length.
+fn write_style(
+    style: Style,
+    first: i64,
+    last: i64,
+    points: usize,
+    ordinates: &[i32],
+    text: &mut [u8],
+    answer: &mut [u64; 2],
+) -> u64
+    ensures { λ r. ⌜ TextTold style first last points (now (ordinates .entry)) (now (text .entry)) (now (text .exit)) (now (answer .exit)) r ⌝ }
+{
+    match table_write::write_form(style, first, last, points, ordinates, text) {
+        TableWritten::Length(n) => {
+            *answer = [0, n as u64];
+            0
+        }
+        TableWritten::Refused(f) => {
+            *answer = [f.number, 0];
+            f.number
+        }
+    }
+}
+
+// Writes a table in DIFDUP form: refused, length.
 #[no_mangle]
 pub extern "C" fn lastarunc_write_table(
     first: i64,
@@ -44,16 +73,32 @@ pub extern "C" fn lastarunc_write_table(
     text: &mut [u8],
     answer: &mut [u64; 2],
 ) -> u64
-    ensures { λ r. ⌜ TextTold first last points (now (ordinates .entry)) (now (text .entry)) (now (text .exit)) (now (answer .exit)) r ⌝ }
+    ensures { λ r. ⌜ TextTold Difdup first last points (now (ordinates .entry)) (now (text .entry)) (now (text .exit)) (now (answer .exit)) r ⌝ }
 {
-    match table_write::write_table(first, last, points, ordinates, text) {
-        TableWritten::Length(n) => {
-            *answer = [0, n as u64];
-            0
-        }
-        TableWritten::Refused(f) => {
-            *answer = [f.number, 0];
-            f.number
+    write_style(Style::Difdup, first, last, points, ordinates, text, answer)
+}
+
+// Writes a table in the form of this number (02, T-02): refused, length. A number that is no form's is answered too.
+#[no_mangle]
+pub extern "C" fn lastarunc_write_form(
+    form: u64,
+    first: i64,
+    last: i64,
+    points: usize,
+    ordinates: &[i32],
+    text: &mut [u8],
+    answer: &mut [u64; 2],
+) -> u64
+    ensures { λ r. ⌜ FormTold form first last points (now (ordinates .entry)) (now (text .entry)) (now (text .exit)) (now (answer .exit)) r ⌝ }
+{
+    match form {
+        0 => write_style(Style::Difdup, first, last, points, ordinates, text, answer),
+        1 => write_style(Style::Affn, first, last, points, ordinates, text, answer),
+        2 => write_style(Style::Pac, first, last, points, ordinates, text, answer),
+        3 => write_style(Style::Sqz, first, last, points, ordinates, text, answer),
+        _ => {
+            *answer = [NO_FORM, 0];
+            NO_FORM
         }
     }
 }

@@ -3,6 +3,7 @@
 // answers. Lent memory is filled first; a line `touched` tells that an entry past the answer was altered.
 use file_spec::FileRead;
 use file_spec::FileTable;
+use table_spec::Style;
 use terms::Fault;
 use terms::Refusal;
 use terms::TableRead;
@@ -265,12 +266,13 @@ fn read_table(a: Asked, body: &[u8], out: &mut [i32]) -> TableRead {
 }
 
 // Writes the table, or refusal 0 if this program has too little room.
-fn write_table(a: Asked, ys: &[i32], text: &mut [u8]) -> TableWritten {
+fn write_form(style: Style, a: Asked, ys: &[i32], text: &mut [u8]) -> TableWritten {
     let count = a.count;
     let room = a.room;
     if count <= ys.len() {
         if room <= text.len() {
-            return table_write::write_table(
+            return table_write::write_form(
+                style,
                 a.first,
                 a.last,
                 a.points,
@@ -303,12 +305,12 @@ fn body_case(a: Asked) {
     show_read(answer, &out);
 }
 
-// A table to write: its ordinates follow.
-fn write_case(a: Asked) {
+// A table to write in a form: its ordinates follow.
+fn write_case(style: Style, a: Asked) {
     let mut ys = [0i32; WRITTEN];
     take_ordinates(&mut ys, a.count);
     let mut text = [b'~'; 65536];
-    let answer = write_table(a, &ys, &mut text);
+    let answer = write_form(style, a, &ys, &mut text);
     show_written(a, answer, &ys, &text);
 }
 
@@ -321,7 +323,7 @@ fn file_case(a: Asked) {
     show_file(answer, &out);
 }
 
-// The next case, and that there was one: 1 is a body, 2 a table to write, 3 a file.
+// The next case, and that there was one: 1 is a body, 3 a file; 2 is a table to write as DIFDUP, 4 as AFFN, 5 as PAC, 6 as SQZ.
 fn next_case() -> bool {
     let kind = next_number();
     if kind == 0 {
@@ -330,7 +332,10 @@ fn next_case() -> bool {
     let a = next_asked();
     match kind {
         1 => body_case(a),
-        2 => write_case(a),
+        2 => write_case(Style::Difdup, a),
+        4 => write_case(Style::Affn, a),
+        5 => write_case(Style::Pac, a),
+        6 => write_case(Style::Sqz, a),
         _ => file_case(a),
     }
     true

@@ -1,4 +1,5 @@
--- 01, "Bench samples": those marked P, one table under one theorem about the definitions, by computation. Frame F = 0, L = 3000, N = 4; `/` stands for LF, CR LF where written.
+-- 01, "Bench samples": those marked P, and one for each form of 02, T-02: one table under one theorem about the definitions, by computation.
+-- Frame F = 0, L = 3000, N = 4; `/` stands for LF, CR LF where written.
 -- Assumes nothing.
 use mathlib.Core.Path.{_≡_, refl}
 use mathlib.Core.List.{List, [], _∷_}
@@ -13,11 +14,14 @@ use Rattle.table_spec.specs.Numerals.{top, low, numeral, fraction, magni
 use Rattle.table_spec.specs.Groups.{form, sqzText, tokenText, many, dupText, group}
 use Rattle.table_spec.specs.Writing.{wrote, writeTable, written, lines-of, text, put, check, open-line, go-on, close}
 use mathlib.Core.List.{map}
+use Rattle.table_spec.specs.declared.Style.{Style}
+use Rattle.table_spec.specs.declared.Style.the-variants.{Affn, Pac, Sqz, Difdup}
+use Rattle.table_spec.specs.Groups.{form, sqzText, plainText, pacText, affnText, tokenText, many, dupText, group}
 
--- a body and its answer; or ordinates and their text
+-- a body and its answer; or a form, ordinates and their text
 pub data Sample : Type 0 where
   reads : List ℕ → Answer → Sample
-  writes : List ℕ → List ℕ → Sample
+  writes : Style → List ℕ → List ℕ → Sample
 
 unfoldable pub samples : List Sample
 samples =
@@ -46,9 +50,15 @@ samples =
     -- `0A/1.499B`: 12 at 9: the head passes, and two points are not given
     reads (48 ∷ 65 ∷ 10 ∷ 49 ∷ 46 ∷ 52 ∷ 57 ∷ 57 ∷ 66 ∷ []) (refuse 12 9) ∷
     -- 0 1 0 0 is written `0@Jj%/3@/`
-    writes (2147483648 ∷ 2147483649 ∷ 2147483648 ∷ 2147483648 ∷ []) (48 ∷ 64 ∷ 74 ∷ 106 ∷ 37 ∷ 13 ∷ 10 ∷ 51 ∷ 64 ∷ 13 ∷ 10 ∷ []) ∷
+    writes Difdup (2147483648 ∷ 2147483649 ∷ 2147483648 ∷ 2147483648 ∷ []) (48 ∷ 64 ∷ 74 ∷ 106 ∷ 37 ∷ 13 ∷ 10 ∷ 51 ∷ 64 ∷ 13 ∷ 10 ∷ []) ∷
     -- 1 missing missing 2 is written `0A?TB/`
-    writes (2147483649 ∷ 0 ∷ 0 ∷ 2147483650 ∷ []) (48 ∷ 65 ∷ 63 ∷ 84 ∷ 66 ∷ 13 ∷ 10 ∷ []) ∷
+    writes Difdup (2147483649 ∷ 0 ∷ 0 ∷ 2147483650 ∷ []) (48 ∷ 65 ∷ 63 ∷ 84 ∷ 66 ∷ 13 ∷ 10 ∷ []) ∷
+    -- 02, T-02: 1 -1 missing 0 is written `0 1 -1 ? 0/` in AFFN,
+    writes Affn (2147483649 ∷ 2147483647 ∷ 0 ∷ 2147483648 ∷ []) (48 ∷ 32 ∷ 49 ∷ 32 ∷ 45 ∷ 49 ∷ 32 ∷ 63 ∷ 32 ∷ 48 ∷ 13 ∷ 10 ∷ []) ∷
+    -- `0 1-1? 0/` in PAC,
+    writes Pac (2147483649 ∷ 2147483647 ∷ 0 ∷ 2147483648 ∷ []) (48 ∷ 32 ∷ 49 ∷ 45 ∷ 49 ∷ 63 ∷ 32 ∷ 48 ∷ 13 ∷ 10 ∷ []) ∷
+    -- `0Aa?@/` in SQZ
+    writes Sqz (2147483649 ∷ 2147483647 ∷ 0 ∷ 2147483648 ∷ []) (48 ∷ 65 ∷ 97 ∷ 63 ∷ 64 ∷ 13 ∷ 10 ∷ []) ∷
     []
 
 -- ---- ours: what 01's proved samples leave out
@@ -78,7 +88,7 @@ ours =
 -- a sample holds, of the definitions of reading and writing, with room for 4 ordinates or 80 bytes
 abbrev pub Holds : Sample → Type 0
 Holds (reads s a) = readTable (pos 0) (pos 3000) 4 s 4 ≡ a
-Holds (writes ys t) = writeTable (pos 0) (pos 3000) 4 (map entry-for ys) 80 ≡ wrote t
+Holds (writes st ys t) = writeTable st (pos 0) (pos 3000) 4 (map entry-for ys) 80 ≡ wrote t
 
 abbrev pub AllHold : List Sample → Type 0
 AllHold [] = Unit {0}
@@ -87,8 +97,8 @@ AllHold (x ∷ xs) = Holds x × AllHold xs
 pub samples-hold : AllHold samples × AllHold ours
 unfolding samples ours readTable read frame-legal passes exact nearest kind digits judge tokens comment ending scaled pointed thousandths opening
     inside step stop again says push took checked finish writeTable written lines-of text put check open-line go-on close group many form tokenText
-    sqzText dupText numeral top low fraction magnitude headText
+    sqzText plainText pacText affnText dupText numeral top low fraction magnitude headText
 samples-hold = (
-  (refl, (refl, (refl, (refl, (refl, (refl, (refl, (refl, (refl, (refl, (refl, (refl, (refl, (refl, tt)))))))))))))),
+  (refl, (refl, (refl, (refl, (refl, (refl, (refl, (refl, (refl, (refl, (refl, (refl, (refl, (refl, (refl, (refl, (refl, tt))))))))))))))))),
   (refl, (refl, (refl, (refl, (refl, (refl, (refl, (refl, tt)))))))),
 )

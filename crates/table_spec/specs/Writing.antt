@@ -10,7 +10,8 @@ use Rattle.terms.specs.Logic.{pick}
 use Rattle.table_spec.specs.Frame.{frame-legal, abscissa, ordinate-of, apart, nearest}
 use Rattle.table_spec.specs.Values.{isDif}
 use Rattle.table_spec.specs.Numerals.{headText}
-use Rattle.table_spec.specs.Groups.{form, sqzText, many, group}
+use Rattle.table_spec.specs.declared.Style.{Style}
+use Rattle.table_spec.specs.Groups.{form, sqzText, seen-after, more-of, group}
 
 -- "Lines hold at most 80 bytes, then CR LF"
 abbrev pub longest-line : ℕ
@@ -20,11 +21,12 @@ longest-line = 80
 abbrev pub Rest : Type 0
 Rest = ℕ → ℕ → ℕ → Bool → ℕ → List ℕ
 
--- the head of point i
-module _ (head-of : ℕ → List ℕ) where
+-- the form that is written, and the head of point i
+module _ (w : Style) (head-of : ℕ → List ℕ) where
   -- a group, whatever room there is
   unfoldable pub put : Rest → ℕ → ℕ → ℕ → ℕ → List ℕ → List ℕ
-  put K col i p y ys = group p y ys ++ K (many (form p y) y ys) (suc i) y (isDif (form p y)) (col + length (group p y ys))
+  put K col i p y ys =
+      group w p y ys ++ K (more-of w (form (seen-after w p) y) y ys) (suc i) y (isDif (form (seen-after w p) y)) (col + length (group w p y ys))
 
   -- the head and the first value of a check line: they belong to the last point given, p
   unfoldable pub check : ℕ → ℕ → List ℕ
@@ -37,7 +39,7 @@ module _ (head-of : ℕ → List ℕ) where
 
   -- "A group that does not fit whole starts a new line"
   unfoldable pub go-on : Rest → Bool → ℕ → ℕ → ℕ → ℕ → List ℕ → List ℕ
-  go-on K dif col i p y ys = pick (leb (col + length (group p y ys)) longest-line) (put K col i p y ys) (13 ∷ 10 ∷ open-line K dif i p y ys)
+  go-on K dif col i p y ys = pick (leb (col + length (group w p y ys)) longest-line) (put K col i p y ys) (13 ∷ 10 ∷ open-line K dif i p y ys)
 
   -- "Text that ends in DIF form gets a last check line"
   unfoldable pub close : Bool → ℕ → ℕ → List ℕ
@@ -55,8 +57,8 @@ module _ (head-of : ℕ → List ℕ) where
   lines-of (y ∷ ys) = open-line (text ys) false 0 0 y ys
 
 -- the text of a frame and its ordinates: heads are the abscissas of the points
-unfoldable pub written : ℕ → ℕ → ℕ → List ℕ → List ℕ
-written first last n ys = lines-of (λ i. headText (nearest first last n i)) ys
+unfoldable pub written : Style → ℕ → ℕ → ℕ → List ℕ → List ℕ
+written w first last n ys = lines-of w (λ i. headText (nearest first last n i)) ys
 
 -- what writing answers: a refusal number (its place is 0), or the text
 pub data Outcome : Type 0 where
@@ -68,12 +70,12 @@ abbrev pub fitted : ℕ → List ℕ → Outcome
 fitted space t = pick (ltb space (length t)) (declined 15) (wrote t)
 
 -- "Writer order: 1 (frame), 2, 14, 15": F, L and N as they come, the lent ordinates, and how many bytes there is room for
-unfoldable pub writeTable : ℤ → ℤ → ℕ → List ℤ → ℕ → Outcome
-writeTable f l n ys space =
+unfoldable pub writeTable : Style → ℤ → ℤ → ℕ → List ℤ → ℕ → Outcome
+writeTable w f l n ys space =
     pick (frame-legal f l n)
     (pick (ltb (length ys) n) (declined 2)
     (pick (ltb (apart (abscissa l) (abscissa f)) (n - 1)) (declined 14)
-    (fitted space (written (abscissa f) (abscissa l) n (map ordinate-of (take n ys))))))
+    (fitted space (written w (abscissa f) (abscissa l) n (map ordinate-of (take n ys))))))
     (declined 1)
 
 -- the lent bytes afterwards

@@ -1,4 +1,4 @@
--- From the tests of the writer to its outcomes. No place of the code is named here. Assumes nothing.
+-- From the tests of the writer to its outcomes, in each of the four forms (02, T-02). No place of the code is named here. Assumes nothing.
 use mathlib.Core.Path.{_≡_, refl, ap, _∙_}
 use mathlib.Core.Bool.{true}
 use mathlib.Core.List.{List, map}
@@ -20,56 +20,57 @@ use Rattle.table_write_law.specs.Written.{Takes}
 use Rattle.table_write_law.specs.Lengths.{written-most}
 use Rattle.table_text.specs.Pieces.{Put, headOf, ordinates}
 use Rattle.table_text.specs.Answers.{refused, Answered, FramedAnswer}
+use Rattle.table_spec.specs.declared.Style.{Style}
 
 -- ---- in a legal frame
 
 -- the text
-abbrev body : Frame → List ℤ → List ℕ
-body fr ys = lines-of (headOf fr) (ordinates (take (fr .points) ys))
+abbrev body : Style → Frame → List ℤ → List ℕ
+body st fr ys = lines-of st (headOf fr) (map ordinate-of (take (fr .points) ys))
 
-is-body : (fr : Frame) (ys : List ℤ) → written (fr .first) (fr .last) (fr .points) (map ordinate-of (take (fr .points) ys)) ≡ body fr ys
+is-body : (st : Style) (fr : Frame) (ys : List ℤ) → written st (fr .first) (fr .last) (fr .points) (map ordinate-of (take (fr .points) ys)) ≡ body st fr ys
 unfolding written headOf
-is-body fr ys = refl
+is-body st fr ys = refl
 
-module _ (fr : Frame) (ys : List ℤ) (o : List ℕ) {o' : List ℕ} {r : TableWritten} where
-  pub too-few : length ys < fr .points → r ≡ refused 2 → o' ≡ o → FramedAnswer fr ys o o' r
+module _ (st : Style) (fr : Frame) (ys : List ℤ) (o : List ℕ) {o' : List ℕ} {r : TableWritten} where
+  pub too-few : length ys < fr .points → r ≡ refused 2 → o' ≡ o → FramedAnswer st fr ys o o' r
   unfolding laid
   too-few h e f = rw (lt-ltb (length ys) (fr .points) h) (record { answer = e; bytes = f })
 
   module _ (h : fr .points ≤ length ys) where
-    pub too-near : apart (fr .last) (fr .first) < fr .points - 1 → r ≡ refused 14 → o' ≡ o → FramedAnswer fr ys o o' r
+    pub too-near : apart (fr .last) (fr .first) < fr .points - 1 → r ≡ refused 14 → o' ≡ o → FramedAnswer st fr ys o o' r
     unfolding laid
     too-near l e f = rw (le-ltb (length ys) (fr .points) h, lt-ltb (apart (fr .last) (fr .first)) (fr .points - 1) l) (record { answer = e; bytes = f })
 
-    pub too-long : fr .points - 1 ≤ apart (fr .last) (fr .first) → length o < length (body fr ys) → r ≡ refused 15 → o' ≡ o → FramedAnswer fr ys o o' r
+    pub too-long : fr .points - 1 ≤ apart (fr .last) (fr .first) → length o < length (body st fr ys) → r ≡ refused 15 → o' ≡ o → FramedAnswer st fr ys o o' r
     unfolding laid
     too-long l k e f =
-        rw (le-ltb (length ys) (fr .points) h, le-ltb (apart (fr .last) (fr .first)) (fr .points - 1) l, is-body fr ys, lt-ltb (length o) (length (body fr ys)) k)
+        rw (le-ltb (length ys) (fr .points) h, le-ltb (apart (fr .last) (fr .first)) (fr .points - 1) l, is-body st fr ys, lt-ltb (length o) (length (body st fr ys)) k)
         (record { answer = e; bytes = f })
 
-    pub in-room : {m : ℕ} → fr .points - 1 ≤ apart (fr .last) (fr .first) → length (body fr ys) ≤ length o → Put o 0 o' m (body fr ys) → r ≡ Length m → FramedAnswer fr ys o o' r
+    pub in-room : {m : ℕ} → fr .points - 1 ≤ apart (fr .last) (fr .first) → length (body st fr ys) ≤ length o → Put o 0 o' m (body st fr ys) → r ≡ Length m → FramedAnswer st fr ys o o' r
     unfolding laid
     in-room l k p e =
-        rw (le-ltb (length ys) (fr .points) h, le-ltb (apart (fr .last) (fr .first)) (fr .points - 1) l, is-body fr ys, le-ltb (length o) (length (body fr ys)) k)
+        rw (le-ltb (length ys) (fr .points) h, le-ltb (apart (fr .last) (fr .first)) (fr .points - 1) l, is-body st fr ys, le-ltb (length o) (length (body st fr ys)) k)
         (record { answer = e ∙ ap Length (p .next ∙ omega arith); bytes = p .stored })
 
 -- so many bytes a point, and 44 more, are enough
-pub always-room : (fr : Frame) (ys : List ℤ) {room : ℕ} → Sound fr → length ys ≡ fr .points → fr .points - 1 ≤ apart (fr .last) (fr .first)
-    → 15 * fr .points + 44 ≤ room → leb (length (lines-of (headOf fr) (ordinates ys))) room ≡ true
+pub always-room : (st : Style) (fr : Frame) (ys : List ℤ) {room : ℕ} → Sound fr → length ys ≡ fr .points → fr .points - 1 ≤ apart (fr .last) (fr .first)
+    → 15 * fr .points + 44 ≤ room → leb (length (lines-of st (headOf fr) (map ordinate-of ys))) room ≡ true
 unfolding written headOf
-always-room fr ys {room} s e far enough =
-    let t : Takes (fr .first) (fr .last)
-    (fr .points) = record { low-first = s .low-first; low-last = s .low-last; high-first = s .first; high-last = s .last; some = s .some; few = s .few; apart-enough = far } in
-    let m = written-most (fr .first) (fr .last) (fr .points) (ordinates ys) t (length-map ys ordinate-of ∙ e) in
-    le-leb (length (lines-of (headOf fr) (ordinates ys))) room (omega (arith, m, enough))
+always-room st fr ys {room} s e far enough =
+    let t : Takes (fr .first) (fr .last) (fr .points) =
+    record { low-first = s .low-first; low-last = s .low-last; high-first = s .first; high-last = s .last; some = s .some; few = s .few; apart-enough = far } in
+    let m = written-most st (fr .first) (fr .last) (fr .points) (ordinates ys) t (length-map ys ordinate-of ∙ e) in
+    le-leb (length (lines-of st (headOf fr) (ordinates ys))) room (omega (arith, m, enough))
 
 -- ---- the frame
 
-module _ (f l : ℤ) (n : ℕ) {o o' : List ℕ} {r : TableWritten} (ys : List ℤ) where
-  pub outside : framed f l n ≡ Outside → r ≡ refused 1 → o' ≡ o → Answered f l n ys o o' r
+module _ (st : Style) (f l : ℤ) (n : ℕ) {o o' : List ℕ} {r : TableWritten} (ys : List ℤ) where
+  pub outside : framed f l n ≡ Outside → r ≡ refused 1 → o' ≡ o → Answered st f l n ys o o' r
   unfolding writeTable laid
   outside e a b = rw (framed-outside f l n e) (record { answer = a; bytes = b })
 
-  pub inside : (fr : Frame) → framed f l n ≡ Legal fr → FramedAnswer fr ys o o' r → Answered f l n ys o o' r
+  pub inside : (fr : Frame) → framed f l n ≡ Legal fr → FramedAnswer st fr ys o o' r → Answered st f l n ys o o' r
   unfolding writeTable
   inside fr e a = let z = framed-legal f l n e in rw (z .legal) (rw (z .is) at a)

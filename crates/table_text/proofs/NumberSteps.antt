@@ -13,6 +13,11 @@ use Rattle.table_text.specs.Digits.{further}
 use Rattle.table_text.specs.DigitLaws.{length-low, further-le}
 use Rattle.table_text.specs.Pieces.{Put, number, set-sets}
 
+-- the bytes of a number
+pub number-length : (base v : ℕ) → length (number base v) ≡ 1 + further 9 v
+unfolding number
+number-length base v = omega (arith, length-low 9 v)
+
 -- a first byte, stored after the digits that follow it
 module _ {o o₁ o₂ : List ℕ} (at v n b : ℕ) (e : n ≡ further 9 v) (e₁ : o₁ ≡ sets o (at + 1) (low 9 v [])) (e₂ : o₂ ≡ set o₁ at b) where
   lead-put : Put o at o₂ (at + 1 + n) (b ∷ low 9 v [])

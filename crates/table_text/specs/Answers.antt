@@ -12,6 +12,7 @@ use Rattle.frame.specs.declared.Frame.{Frame}
 use Rattle.terms.specs.Logic.{pick}
 use Rattle.table_spec.specs.Frame.{apart, ordinate-of}
 use Rattle.table_spec.specs.Writing.{Outcome, declined, wrote, fitted, written, writeTable, laid}
+use Rattle.table_spec.specs.declared.Style.{Style}
 
 -- a refusal of the writer stands at place 0
 abbrev pub refused : ℕ → TableWritten
@@ -27,16 +28,16 @@ pub record Tells (x : Outcome) (out₀ out : List ℕ) (r : TableWritten) : Type
   pub answer : r ≡ told x
   pub bytes : out ≡ laid out₀ x
 
--- the writer's answer and the lent bytes are what `writeTable` says
-abbrev pub Answered : ℤ → ℤ → ℕ → List ℤ → List ℕ → List ℕ → TableWritten → Type 0
-Answered f l n ys out₀ out r = Tells (writeTable f l n ys (length out₀)) out₀ out r
+-- the writer's answer and the lent bytes are what `writeTable` says of a form (02, T-02)
+abbrev pub Answered : Style → ℤ → ℤ → ℕ → List ℤ → List ℕ → List ℕ → TableWritten → Type 0
+Answered st f l n ys out₀ out r = Tells (writeTable st f l n ys (length out₀)) out₀ out r
 
 -- the same in a legal frame
-abbrev pub outcome : Frame → List ℤ → ℕ → Outcome
-outcome fr ys space =
+abbrev pub outcome : Style → Frame → List ℤ → ℕ → Outcome
+outcome st fr ys space =
     pick (ltb (length ys) (fr .points)) (declined 2)
     (pick (ltb (apart (fr .last) (fr .first)) (fr .points - 1)) (declined 14)
-    (fitted space (written (fr .first) (fr .last) (fr .points) (map ordinate-of (take (fr .points) ys)))))
+    (fitted space (written st (fr .first) (fr .last) (fr .points) (map ordinate-of (take (fr .points) ys)))))
 
-abbrev pub FramedAnswer : Frame → List ℤ → List ℕ → List ℕ → TableWritten → Type 0
-FramedAnswer fr ys out₀ out r = Tells (outcome fr ys (length out₀)) out₀ out r
+abbrev pub FramedAnswer : Style → Frame → List ℤ → List ℕ → List ℕ → TableWritten → Type 0
+FramedAnswer st fr ys out₀ out r = Tells (outcome st fr ys (length out₀)) out₀ out r

@@ -1,4 +1,4 @@
-// What a writer puts into the lent bytes (01, "The written text"): digits, heads and line ends, and the answer of a writer.
+// What the writers of the four forms share (01, "The written text"; 02, T-02): digits, heads and line ends in the lent bytes, and the answer of a writer.
 ghost use mathlib.Core.Path.{_≡_};
 ghost use Rattle.table_text.specs.Answers;
 use terms::Fault;

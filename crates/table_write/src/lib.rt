@@ -1,7 +1,11 @@
-// Writing a table (01, "The written text").
+// Writing a table in one of the four forms (01, "The written text"; 02, T-02).
 ghost use mathlib.Core.Path.{_≡_};
-ghost use Prim.Native.Nat.{_-_, _<_};
+ghost use Prim.Native.Nat.{_-_, _≤_};
+ghost use lib.Dec.{leb};
 ghost use lib.ListN.{length};
+ghost use Rattle.table_spec.specs.Frame.{apart};
+ghost use Rattle.table_spec.specs.declared.Style.the-variants.{Difdup};
+ghost use Rattle.table_spec.specs.Groups.{in-full};
 ghost use Rattle.table_spec.specs.Writing.{lines-of};
 ghost use Rattle.frame.specs.Legal.{Sound};
 ghost use Rattle.table_text.specs.Pieces.{Put, headOf, ordinates};
@@ -9,17 +13,23 @@ ghost use Rattle.table_text.specs.Answers.{Answered, FramedAnswer};
 use frame::Frame;
 use frame::Framed;
 use frame::distance;
+use table_spec::Style;
 use table_text::refused;
 use terms::TableWritten;
-use text_length::fits;
+use text_length::measure;
 use text_lines::begin;
 use text_lines::finish;
 use text_lines::turn;
 
-// The whole text from the start of the lent bytes. Its length.
+// Enough bytes for the text of any point, and for all else (table_write_law, `written-most`).
+const BYTES_A_POINT: usize = 15;
+
+const BYTES_BESIDE: usize = 44;
+
+// The whole text in DIFDUP form from the start of the lent bytes. Its length.
 fn pass(ys: &[i32], text: &mut [u8], fr: Frame) -> usize
     requires { ⌜ Sound fr × (length (now ys) ≡ fr .points) ⌝ }
-    ensures { λ r. ⌜ Put (now (text .entry)) 0 (now (text .exit)) r (lines-of (headOf fr) (ordinates (now (ys .entry)))) ⌝ }
+    ensures { λ r. ⌜ Put (now (text .entry)) 0 (now (text .exit)) r (lines-of Difdup (headOf fr) (ordinates (now (ys .entry)))) ⌝ }
 {
     let n = ys.len();
     let mut s = begin(text, fr);
@@ -31,10 +41,58 @@ fn pass(ys: &[i32], text: &mut [u8], fr: Frame) -> usize
     finish(text, fr, s)
 }
 
+// Does a form write each value in full?
+fn is_full(style: Style) -> bool
+    ensures { λ r. ⌜ r ≡ in-full style ⌝ }
+{
+    match style {
+        Style::Difdup => false,
+        Style::Affn => true,
+        Style::Pac => true,
+        Style::Sqz => true,
+    }
+}
+
+// The text in a form, from the start of the lent bytes, which hold it. Its length.
+fn lay(style: Style, ys: &[i32], text: &mut [u8], fr: Frame) -> usize
+    requires { ⌜ Sound fr × (length (now ys) ≡ fr .points) × (length (lines-of style (headOf fr) (ordinates (now ys))) ≤ length (now text)) ⌝ }
+    ensures { λ r. ⌜ Put (now (text .entry)) 0 (now (text .exit)) r (lines-of style (headOf fr) (ordinates (now (ys .entry)))) ⌝ }
+{
+    if is_full(style) {
+        return text_values::lay(style, ys, text, fr);
+    }
+    pass(ys, text, fr)
+}
+
+// The length of the text in a form; nothing is stored.
+fn length_of(style: Style, ys: &[i32], fr: Frame) -> usize
+    requires { ⌜ Sound fr × (length (now ys) ≡ fr .points) ⌝ }
+    ensures { λ r. ⌜ r ≡ length (lines-of style (headOf fr) (ordinates (now (ys .entry)))) ⌝ }
+{
+    let mut none = [0u8; 1];
+    if is_full(style) {
+        return text_values::measure(style, ys, &mut none[..0], fr);
+    }
+    measure(ys, &mut none[..0], fr)
+}
+
+// Does the text in a form fit into so many bytes? It is measured only where there are fewer than always suffice.
+fn fits(style: Style, ys: &[i32], fr: Frame, room: usize) -> bool
+    requires { ⌜ Sound fr × (length (now ys) ≡ fr .points) × (fr .points - 1 ≤ apart (fr .last) (fr .first)) ⌝ }
+    ensures { λ r. ⌜ r ≡ leb (length (lines-of style (headOf fr) (ordinates (now (ys .entry))))) room ⌝ }
+{
+    let n = fr.points;
+    if BYTES_A_POINT * n + BYTES_BESIDE <= room {
+        return true;
+    }
+    let needed = length_of(style, ys, fr);
+    needed <= room
+}
+
 // Writing in a legal frame: refusals 2, 14 and 15, or the text.
-fn write_framed(fr: Frame, ordinates: &[i32], text: &mut [u8]) -> TableWritten
+fn write_framed(style: Style, fr: Frame, ordinates: &[i32], text: &mut [u8]) -> TableWritten
     requires { ⌜ Sound fr ⌝ }
-    ensures { λ r. ⌜ FramedAnswer fr (now (ordinates .entry)) (now (text .entry)) (now (text .exit)) r ⌝ }
+    ensures { λ r. ⌜ FramedAnswer style fr (now (ordinates .entry)) (now (text .entry)) (now (text .exit)) r ⌝ }
 {
     let n = fr.points;
     if ordinates.len() < n {
@@ -45,14 +103,32 @@ fn write_framed(fr: Frame, ordinates: &[i32], text: &mut [u8]) -> TableWritten
         return refused(14);
     }
     let ys = &ordinates[..n];
-    if fits(ys, fr, text.len()) {
-        let length = pass(ys, text, fr);
+    if fits(style, ys, fr, text.len()) {
+        let length = lay(style, ys, text, fr);
         return TableWritten::Length(length);
     }
     refused(15)
 }
 
-// Writes the table of a frame, its numbers as they come, and its ordinates into the lent bytes; or refuses and leaves them as they were.
+// Writes the table of a frame, its numbers as they come, and its ordinates in a form into the lent bytes; or refuses and leaves them as they were.
+pub fn write_form(
+    style: Style,
+    first: i64,
+    last: i64,
+    points: usize,
+    ordinates: &[i32],
+    text: &mut [u8],
+) -> TableWritten
+    ensures { λ r. ⌜ Answered style first last points (now (ordinates .entry)) (now (text .entry)) (now (text .exit)) r ⌝ }
+{
+    let framed = Frame::new(first, last, points);
+    match framed {
+        Framed::Outside => refused(1),
+        Framed::Legal(fr) => write_framed(style, fr, ordinates, text),
+    }
+}
+
+// The same in DIFDUP form (01).
 pub fn write_table(
     first: i64,
     last: i64,
@@ -60,11 +136,7 @@ pub fn write_table(
     ordinates: &[i32],
     text: &mut [u8],
 ) -> TableWritten
-    ensures { λ r. ⌜ Answered first last points (now (ordinates .entry)) (now (text .entry)) (now (text .exit)) r ⌝ }
+    ensures { λ r. ⌜ Answered Difdup first last points (now (ordinates .entry)) (now (text .entry)) (now (text .exit)) r ⌝ }
 {
-    let framed = Frame::new(first, last, points);
-    match framed {
-        Framed::Outside => refused(1),
-        Framed::Legal(fr) => write_framed(fr, ordinates, text),
-    }
+    write_form(Style::Difdup, first, last, points, ordinates, text)
 }

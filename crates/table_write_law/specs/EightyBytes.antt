@@ -1,4 +1,4 @@
--- "Lines hold at most 80 bytes, then CR LF" (01, "The written text"): the written text is such lines, and no CR or LF stands within them. Assumes nothing.
+-- "Lines hold at most 80 bytes, then CR LF" (01, "The written text"): the written text is such lines in each of the four forms (02, T-02), and no CR or LF stands within them. Assumes nothing.
 use mathlib.Core.Path.{_≡_, refl}
 use mathlib.Core.Bool.{Bool, true, false}
 use mathlib.Core.List.{List, [], _∷_, _++_}
@@ -13,11 +13,15 @@ use Rattle.alphabet_spec.specs.Kinds.{Lead, sqz, dif, dup}
 use Rattle.table_spec.specs.Frame.{nearest, zero-ordinate, zero-abscissa}
 use Rattle.table_spec.specs.Values.{Form, Own, Gap, By, Dup, isDif}
 use Rattle.table_spec.specs.Numerals.{top, low, leadByte, numeral, fraction, magnitude, headText}
-use Rattle.table_spec.specs.Groups.{form, sqzText, tokenText, many, dupText, group}
+use Rattle.table_spec.specs.Groups.{form, sqzText, tokenText, dupText, group}
 use Rattle.table_spec.specs.Writing.{longest-line, put, check, open-line, go-on, close, text, lines-of, written}
-use Rattle.table_write_law.specs.Tokens.{many-le}
 use Rattle.table_write_law.specs.Written.{Takes}
-use Rattle.table_write_law.specs.Lengths.{group-most, check-most, head-most}
+use Rattle.table_write_law.specs.Lengths.{check-most, head-most}
+use Rattle.table_spec.specs.declared.Style.{Style}
+use Rattle.table_spec.specs.declared.Style.the-variants.{Affn, Pac, Sqz, Difdup}
+use Rattle.table_spec.specs.Groups.{form, sqzText, plainText, pacText, affnText, ownText, gapText, seen-after, tokenText, more-of, dupText, group}
+use Rattle.table_write_law.specs.Tokens.{more-le}
+use Rattle.table_write_law.specs.Lengths.{group-slim, check-most, head-most}
 
 -- a text after c bytes of its first line: lines of at most 80 bytes, none of them CR or LF, and after each of them CR LF
 pub data Lined : ℕ → List ℕ → Type 0 where
@@ -59,21 +63,50 @@ sqz-above u =
     by-case (λ t. Above (pick t (numeral (sqz false) (u - zero-ordinate)) (numeral (sqz true) (zero-ordinate - u)))) (leb zero-ordinate u)
     (λ _. numeral-above (sqz false) (u - zero-ordinate)) (λ _. numeral-above (sqz true) (zero-ordinate - u))
 
-token-above : (r : Form) (y : ℕ) → Above (tokenText r y)
+plain-above : (v : ℕ) → Above (plainText v)
+unfolding plainText
+plain-above v = (omega arith, low-above 9 v [] tt)
+
+affn-above : (u : ℕ) → Above (affnText u)
+unfolding affnText
+affn-above u =
+    by-case (λ t. Above (pick t (32 ∷ plainText (u - zero-ordinate)) (32 ∷ 45 ∷ plainText (zero-ordinate - u)))) (leb zero-ordinate u)
+    (λ _. (omega arith, plain-above (u - zero-ordinate))) (λ _. (omega arith, (omega arith, plain-above (zero-ordinate - u))))
+
+pac-above : (u : ℕ) → Above (pacText u)
+unfolding pacText
+pac-above u =
+    by-case (λ t. Above (pick t (32 ∷ plainText (u - zero-ordinate)) (45 ∷ plainText (zero-ordinate - u)))) (leb zero-ordinate u)
+    (λ _. (omega arith, plain-above (u - zero-ordinate))) (λ _. (omega arith, plain-above (zero-ordinate - u)))
+
+own-above : (st : Style) (u : ℕ) → Above (ownText st u)
+own-above Affn u = affn-above u
+own-above Pac u = pac-above u
+own-above Sqz u = sqz-above u
+own-above Difdup u = sqz-above u
+
+gap-above : (st : Style) → Above (gapText st)
+gap-above Affn = (omega arith, (omega arith, tt))
+gap-above Pac = (omega arith, tt)
+gap-above Sqz = (omega arith, tt)
+gap-above Difdup = (omega arith, tt)
+
+token-above : (st : Style) (r : Form) (y : ℕ) → Above (tokenText st r y)
 unfolding tokenText
-token-above Own y = sqz-above y
-token-above Gap y = (omega arith, tt)
-token-above (By m d) y = numeral-above (dif m) d
-token-above (Dup b) y = tt
+token-above st Own y = own-above st y
+token-above st Gap y = gap-above st
+token-above st (By m d) y = numeral-above (dif m) d
+token-above st (Dup b) y = tt
 
 dup-above : (n : ℕ) → Above (dupText n)
 unfolding dupText
 dup-above zero = tt
 dup-above (suc n) = numeral-above dup (suc (suc n))
 
-group-above : (p y : ℕ) (ys : List ℕ) → Above (group p y ys)
+group-above : (st : Style) (p y : ℕ) (ys : List ℕ) → Above (group st p y ys)
 unfolding group
-group-above p y ys = joined (tokenText (form p y) y) (dupText (many (form p y) y ys)) (token-above (form p y) y) (dup-above (many (form p y) y ys))
+group-above st p y ys =
+    let r = form (seen-after st p) y in joined (tokenText st r y) (dupText (more-of st r y ys)) (token-above st r y) (dup-above (more-of st r y ys))
 
 fraction-above : (f : ℕ) → Above (fraction f)
 unfolding fraction
@@ -110,43 +143,43 @@ onward c (b ∷ g) h l =
     let lf : b ≡ 10 → ⊥ = λ e. omega arith in
     byte cr lf (onward (suc c) g (h .1) (rw (add-suc c (length g), ← suc-add c (length g)) at l))
 
-module _ (N : ℕ) (few : N ≤ 65536) (hd : ℕ → List ℕ) (short : (i : ℕ) → i < N → length (hd i) ≤ 12) (above : (i : ℕ) → Above (hd i)) where
+module _ (st : Style) (N : ℕ) (few : N ≤ 65536) (hd : ℕ → List ℕ) (short : (i : ℕ) → i < N → length (hd i) ≤ 12) (above : (i : ℕ) → Above (hd i)) where
   abbrev Rows : List ℕ → Type 0
-  Rows zs = (n i p : ℕ) (d : Bool) (col : ℕ) → n ≤ length zs → 0 < i → i + length zs ≡ N → col ≤ 80 → Lined col (text hd zs n i p d col)
+  Rows zs = (n i p : ℕ) (d : Bool) (col : ℕ) → n ≤ length zs → 0 < i → i + length zs ≡ N → col ≤ 80 → Lined col (text st hd zs n i p d col)
 
-  check-above : (i p : ℕ) → Above (check hd i p)
+  check-above : (i p : ℕ) → Above (check st hd i p)
   unfolding check
   check-above i p = joined (hd (i - 1)) (sqzText p) (above (i - 1)) (sqz-above p)
 
-  close-lined : (d : Bool) (i p : ℕ) → 0 < i → i ≤ N → Lined 0 (close hd d i p)
+  close-lined : (d : Bool) (i p : ℕ) → 0 < i → i ≤ N → Lined 0 (close st hd d i p)
   unfolding close
-  close-lined true i p g l = let k = check-most N few hd short i p g l in onward 0 (check hd i p) (check-above i p) (ends (omega arith) over)
+  close-lined true i p g l = let k = check-most N few hd short st i p g l in onward 0 (check st hd i p) (check-above i p) (ends (omega arith) over)
   close-lined false i p g l = over
 
   module _ (y : ℕ) (ys : List ℕ) (ih : Rows ys) where
-    put-lined : (i p col : ℕ) → i + length (y ∷ ys) ≡ N → col + length (group p y ys) ≤ 80 → Lined col (put hd (text hd ys) col i p y ys)
+    put-lined : (i p col : ℕ) → i + length (y ∷ ys) ≡ N → col + length (group st p y ys) ≤ 80 → Lined col (put st hd (text st hd ys) col i p y ys)
     unfolding put
     put-lined i p col b l =
-        let r = form p y in
-        onward col (group p y ys) (group-above p y ys)
-        (ih (many r y ys) (suc i) y (isDif r) (col + length (group p y ys)) (many-le r y ys) (omega arith) (omega arith) l)
+        let r = form (seen-after st p) y in
+        onward col (group st p y ys) (group-above st p y ys)
+        (ih (more-of st r y ys) (suc i) y (isDif r) (col + length (group st p y ys)) (more-le st r y ys) (omega arith) (omega arith) l)
 
-    opens-lined : (d : Bool) (i p : ℕ) → (d ≡ true → 0 < i) → i + length (y ∷ ys) ≡ N → Lined 0 (open-line hd (text hd ys) d i p y ys)
+    opens-lined : (d : Bool) (i p : ℕ) → (d ≡ true → 0 < i) → i + length (y ∷ ys) ≡ N → Lined 0 (open-line st hd (text st hd ys) d i p y ys)
     unfolding open-line
     opens-lined true i p g b =
-        let k = check-most N few hd short i p (g refl) (omega arith) in
-        let w = group-most p y ys (omega arith) in
-        onward 0 (check hd i p) (check-above i p) (rw zero-add (put-lined i p (length (check hd i p)) b (omega (arith, w .1))))
+        let k = check-most N few hd short st i p (g refl) (omega arith) in
+        let w = group-slim st p y ys (omega arith) in
+        onward 0 (check st hd i p) (check-above i p) (rw zero-add (put-lined i p (length (check st hd i p)) b (omega (arith, w))))
     opens-lined false i p g b =
         let k = short i (omega arith) in
-        let w = group-most 0 y ys (omega arith) in
-        onward 0 (hd i) (above i) (rw zero-add (put-lined i 0 (length (hd i)) b (omega (arith, w .1))))
+        let w = group-slim st 0 y ys (omega arith) in
+        onward 0 (hd i) (above i) (rw zero-add (put-lined i 0 (length (hd i)) b (omega (arith, w))))
 
-    goes-lined : (d : Bool) (i p col : ℕ) → 0 < i → i + length (y ∷ ys) ≡ N → col ≤ 80 → Lined col (go-on hd (text hd ys) d col i p y ys)
+    goes-lined : (d : Bool) (i p col : ℕ) → 0 < i → i + length (y ∷ ys) ≡ N → col ≤ 80 → Lined col (go-on st hd (text st hd ys) d col i p y ys)
     unfolding go-on
     goes-lined d i p col g b l =
-        by-case (λ t. Lined col (pick t (put hd (text hd ys) col i p y ys) (13 ∷ 10 ∷ open-line hd (text hd ys) d i p y ys))) (leb (col + length (group p y ys)) 80)
-        (λ e. put-lined i p col b (leb-true (col + length (group p y ys)) 80 e))
+        by-case (λ t. Lined col (pick t (put st hd (text st hd ys) col i p y ys) (13 ∷ 10 ∷ open-line st hd (text st hd ys) d i p y ys))) (leb (col + length (group st p y ys)) 80)
+        (λ e. put-lined i p col b (leb-true (col + length (group st p y ys)) 80 e))
         (λ _. ends l (opens-lined d i p (λ _. g) b))
 
   text-lined : (zs : List ℕ) → Rows zs
@@ -156,13 +189,13 @@ module _ (N : ℕ) (few : N ≤ 65536) (hd : ℕ → List ℕ) (short : (i : ℕ
   text-lined (y ∷ ys) zero i p d col l g b c = goes-lined y ys (text-lined ys) d i p col g b c
   text-lined (y ∷ ys) (suc n) i p d col l g b c = text-lined ys n (suc i) y d col (le-of-suc-le-suc l) (omega arith) (omega arith) c
 
-  lines-lined : (ys : List ℕ) → length ys ≡ N → Lined 0 (lines-of hd ys)
+  lines-lined : (ys : List ℕ) → length ys ≡ N → Lined 0 (lines-of st hd ys)
   unfolding lines-of
   lines-lined [] b = over
   lines-lined (y ∷ ys) b = opens-lined y ys (text-lined ys) false 0 0 (λ e. no-way e) (omega arith)
 
 -- the text of a frame that the writer takes
-pub written-lined : (first last n : ℕ) (ys : List ℕ) → Takes first last n → length ys ≡ n → Lined 0 (written first last n ys)
+pub written-lined : (st : Style) (first last n : ℕ) (ys : List ℕ) → Takes first last n → length ys ≡ n → Lined 0 (written st first last n ys)
 unfolding written
-written-lined first last n ys t e =
-    lines-lined n (t .few) (λ i. headText (nearest first last n i)) (head-most first last n t) (λ i. head-above (nearest first last n i)) ys e
+written-lined st first last n ys t e =
+    lines-lined st n (t .few) (λ i. headText (nearest first last n i)) (head-most first last n t) (λ i. head-above (nearest first last n i)) ys e

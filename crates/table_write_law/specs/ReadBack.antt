@@ -1,4 +1,4 @@
--- Reading the written text in the same frame gives back exactly the ordinates (01, "The written text" and "What the contracts say"). Assumes nothing.
+-- Reading the written text of each of the four forms (02, T-02) in the same frame gives back exactly the ordinates (01, "The written text" and "What the contracts say"). Assumes nothing.
 use mathlib.Core.Path.{_≡_, refl, _∙_}
 use mathlib.Core.Bool.{true}
 use mathlib.Core.List.{List, [], _∷_, _++_, map}
@@ -23,10 +23,13 @@ use Rattle.table_law.specs.Outcome.{spells-accepted, accepted-stored}
 use Rattle.table_write_law.specs.Written.{Takes, written-spells}
 use Rattle.table_write_law.specs.Lengths.{written-is-a-body, written-ceiling}
 use Rattle.table_write_law.specs.EightyBytes.{Lined, written-lined}
+use Rattle.terms.specs.Logic.{pick, by-case}
+use Rattle.table_spec.specs.declared.Style.{Style}
+use Rattle.table_write_law.specs.Lengths.{written-most, written-is-a-body, written-ceiling}
 
 -- in numbers: the text of a list that the writer takes is read as that list
-pub read-written : (first last n : ℕ) (ys : List ℕ) → Takes first last n → Small ys → length ys ≡ n → read (rules first last n) (written first last n ys) ≡ accept ys
-read-written first last n ys t s e = complete (rules first last n) ys (written first last n ys) (written-spells first last n ys t s e)
+pub read-written : (st : Style) (first last n : ℕ) (ys : List ℕ) → Takes first last n → Small ys → length ys ≡ n → read (rules first last n) (written st first last n ys) ≡ accept ys
+read-written st first last n ys t s e = complete (rules first last n) ys (written st first last n ys) (written-spells st first last n ys t s e)
 
 -- ---- the entries of the lent slice
 
@@ -50,21 +53,21 @@ entries-again (z ∷ zs) h = rw (lower-lift zero-ordinate z (h .0), entries-agai
 
 -- ---- what was written
 
-module _ (f l : ℤ) (n : ℕ) (es : List ℤ) (space : ℕ) (t : List ℕ) where
+module _ (st : Style) (f l : ℤ) (n : ℕ) (es : List ℤ) (space : ℕ) (t : List ℕ) where
   -- the writer took these
   record Taken : Type 0 where
     pub legal : frame-legal f l n ≡ true
     pub enough : n ≤ length es
     pub far : n - 1 ≤ apart (abscissa l) (abscissa f)
-    pub is : written (abscissa f) (abscissa l) n (map ordinate-of (take n es)) ≡ t
+    pub is : written st (abscissa f) (abscissa l) n (map ordinate-of (take n es)) ≡ t
 
   never : {A : Type 0} {c : ℕ} → declined c ≡ wrote t → A
   never e = let z : _≡_ {A = ℕ} 0 1 = cc in absurd (omega arith)
 
   abbrev body : List ℕ
-  body = written (abscissa f) (abscissa l) n (map ordinate-of (take n es))
+  body = written st (abscissa f) (abscissa l) n (map ordinate-of (take n es))
 
-  taken : writeTable f l n es space ≡ wrote t → Taken
+  taken : writeTable st f l n es space ≡ wrote t → Taken
   unfolding writeTable
   taken =
       by-case (λ a. frame-legal f l n ≡ a → pick a (pick (ltb (length es) n) (declined 2)
@@ -92,29 +95,32 @@ module _ (f l : ℤ) (n : ℕ) (es : List ℤ) (space : ℕ) (t : List ℕ) wher
   counted k = length-map (take n es) ordinate-of ∙ length-take-le n es (k .enough)
 
   -- whatever the writer wrote is a spelling of the ordinates,
-  pub wrote-spells : Entries es → writeTable f l n es space ≡ wrote t → Spells (rules (abscissa f) (abscissa l) n) (map ordinate-of (take n es)) t
+  pub wrote-spells : Entries es → writeTable st f l n es space ≡ wrote t → Spells (rules (abscissa f) (abscissa l) n) (map ordinate-of (take n es)) t
   wrote-spells h e =
       let k = taken e in
-      rw (k .is) at (written-spells (abscissa f) (abscissa l) n (map ordinate-of (take n es)) (takes k) (entries-small (take n es) (entries-take n es h)) (counted k))
+      rw (k .is) at (written-spells st (abscissa f) (abscissa l) n (map ordinate-of (take n es)) (takes k) (entries-small (take n es) (entries-take n es h)) (counted k))
 
   -- in lines of at most 80 bytes,
-  pub wrote-lined : writeTable f l n es space ≡ wrote t → Lined 0 t
-  wrote-lined e = let k = taken e in rw (k .is) at (written-lined (abscissa f) (abscissa l) n (map ordinate-of (take n es)) (takes k) (counted k))
+  pub wrote-lined : writeTable st f l n es space ≡ wrote t → Lined 0 t
+  wrote-lined e = let k = taken e in rw (k .is) at (written-lined st (abscissa f) (abscissa l) n (map ordinate-of (take n es)) (takes k) (counted k))
 
   -- and no longer than a body may be
-  pub wrote-body : writeTable f l n es space ≡ wrote t → length t ≤ longest-body
-  wrote-body e = let k = taken e in rw (k .is) at (written-is-a-body (abscissa f) (abscissa l) n (map ordinate-of (take n es)) (takes k) (counted k))
+  pub wrote-body : writeTable st f l n es space ≡ wrote t → length t ≤ longest-body
+  wrote-body e = let k = taken e in rw (k .is) at (written-is-a-body st (abscissa f) (abscissa l) n (map ordinate-of (take n es)) (takes k) (counted k))
 
-  pub wrote-ceiling : writeTable f l n es space ≡ wrote t → length t ≤ 34 * n + 24
-  wrote-ceiling e = let k = taken e in rw (k .is) at (written-ceiling (abscissa f) (abscissa l) n (map ordinate-of (take n es)) (takes k) (counted k))
+  pub wrote-most : writeTable st f l n es space ≡ wrote t → length t ≤ 15 * n + 44
+  wrote-most e = let k = taken e in rw (k .is) at (written-most st (abscissa f) (abscissa l) n (map ordinate-of (take n es)) (takes k) (counted k))
+
+  pub wrote-ceiling : writeTable st f l n es space ≡ wrote t → length t ≤ 34 * n + 24
+  wrote-ceiling e = let k = taken e in rw (k .is) at (written-ceiling st (abscissa f) (abscissa l) n (map ordinate-of (take n es)) (takes k) (counted k))
 
   -- so it is read back, in the same frame and with room for the ordinates,
-  pub reads-back : Entries es → writeTable f l n es space ≡ wrote t → (room : ℕ) → n ≤ room → readTable f l n t room ≡ accept (map ordinate-of (take n es))
+  pub reads-back : Entries es → writeTable st f l n es space ≡ wrote t → (room : ℕ) → n ≤ room → readTable f l n t room ≡ accept (map ordinate-of (take n es))
   reads-back h e room r =
       spells-accepted f l n t room (map ordinate-of (take n es)) (record { frame = taken e .legal; body = wrote-body e; room = r }) (wrote-spells h e)
 
   -- and the slice then holds the entries that were written, and its others as they were
-  pub gives-back : Entries es → writeTable f l n es space ≡ wrote t → (out : List ℤ) → n ≤ length out → stored out (readTable f l n t (length out)) ≡ take n es ++ drop n out
+  pub gives-back : Entries es → writeTable st f l n es space ≡ wrote t → (out : List ℤ) → n ≤ length out → stored out (readTable f l n t (length out)) ≡ take n es ++ drop n out
   gives-back h e out r =
       let a = reads-back h e (length out) r in
       rw (a, accepted-stored f l n t out (map ordinate-of (take n es)) a, entries-again (take n es) (entries-take n es h)) refl

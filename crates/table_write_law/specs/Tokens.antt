@@ -19,6 +19,14 @@ use Rattle.table_law.specs.Small.{Small}
 use Rattle.table_law.specs.Meaning.{step, own-copies, gap-copies}
 use Rattle.table_law.specs.Sound.{ends}
 use Rattle.table_write_law.specs.Numbers.{Spellable, numeral-spelled}
+use Rattle.alphabet_spec.specs.Kinds.{sqz, dif, dup, space}
+use Rattle.table_spec.specs.declared.Style.{Style}
+use Rattle.table_spec.specs.declared.Style.the-variants.{Affn, Pac, Sqz, Difdup}
+use Rattle.table_spec.specs.Values.{Value, own, gap, times, Form, Own, Gap, By, Dup, isDif, Spot, first, after, next, copies, lastOr}
+use Rattle.table_spec.specs.Groups.{in-full, form, sqzText, plainText, pacText, affnText, ownText, gapText, seen-after, tokenText, alike, many, more-of, dupText}
+use Rattle.table_write_law.specs.Numbers.{Spellable, digits, top-small, numeral-spelled}
+use Rattle.alphabet_spec.specs.SpelledDigits.{SpelledDigits, none}
+use Rattle.alphabet_spec.specs.SpelledDigitLaws.{first-digit}
 
 -- ---- a line from one of its values on, and the lines after it
 
@@ -38,10 +46,10 @@ module _ {R : Rules} {i p : ℕ} {ys : List ℕ} where
   line-ends {r} {s} b =
       record { vs = []; us = ys; form-at = r; end-at = p; rest = s; all = refl; line = sp.done sp.cr-lf; body = rw add-zero b }
 
-  -- a value
-  pub valued : {w : Spot} {x : Value} {e : ℕ} {us t s : List ℕ} {f : Form}
-      → sp.Spelled false x t s → sp.Stands w p x us f e → Inside R (after f) (i + length us) e ys s → Inside R w i p (us ++ ys) t
-  valued {us = us} k h n =
+  -- some points, and what follows them on their line and after it
+  adds : {w : Spot} {e : ℕ} {t s : List ℕ} {f : Form} (us : List ℕ) (n : Inside R (after f) (i + length us) e ys s)
+      → sp.Line (R .tabs) false w p (us ++ n .vs) (n .form-at) (n .end-at) t (n .rest) → Inside R w i p (us ++ ys) t
+  adds us n l =
       let e : i + length (us ++ n .vs) ≡ i + length us + length (n .vs) = omega (arith, length-append us (n .vs)) in
       record {
         vs = us ++ n .vs;
@@ -50,9 +58,19 @@ module _ {R : Rules} {i p : ℕ} {ys : List ℕ} where
         end-at = n .end-at;
         rest = n .rest;
         all = append-assoc us (n .vs) (n .us) ∙ ap (λ (l : List ℕ). us ++ l) (n .all);
-        line = sp.value k h (n .line);
+        line = l;
         body = rw e (n .body);
       }
+
+  -- a value
+  pub valued : {w : Spot} {x : Value} {e : ℕ} {us t s : List ℕ} {f : Form}
+      → sp.Spelled false x t s → sp.Stands w p x us f e → Inside R (after f) (i + length us) e ys s → Inside R w i p (us ++ ys) t
+  valued {us = us} k h n = adds us n (sp.value k h (n .line))
+
+  -- a value after a space
+  pub spaced : {w : Spot} {x : Value} {e : ℕ} {us t s : List ℕ} {f : Form}
+      → sp.Spelled true x t s → sp.Stands w p x us f e → Inside R (after f) (i + length us) e ys s → Inside R w i p (us ++ ys) (32 ∷ t)
+  spaced {us = us} k h n = adds us n (sp.blank space (sp.value k h (n .line)))
 
   -- a head, and its line
   pub headed : {c : Bool} {h j : ℕ} {t s : List ℕ} → sp.Head h t s → sp.Belongs c i j → R .passing h j ≡ true → Inside R (first c) i p ys s → sp.Body R i p c ys t
@@ -60,20 +78,57 @@ module _ {R : Rules} {i p : ℕ} {ys : List ℕ} where
 
 -- ---- one value
 
+-- the digits of a number of at most ten
+plain-digits : {s : List ℕ} (v : ℕ) → v < 10000000000 → (n : ℕ) × (0 < n) × (n ≤ 10) × SpelledDigits n 0 v (plainText v ++ s) s
+unfolding plainText
+plain-digits {s} v h = let r = digits {s = s} 9 9 v v 0 [] (lit≤ tt) h none in (suc (r .0), omega arith, omega (arith, r .1), first-digit (top-small 9 v h) (r .2))
+
+plus-spelled : {s : List ℕ} (v : ℕ) → v < 10000000000 → sp.Spelled true (own false v) (plainText v ++ s) s
+plus-spelled v h = let z = plain-digits v h in sp.plain (z .1) (z .2) (z .3)
+
+minus-spelled : {q : Bool} {s : List ℕ} (v : ℕ) → v < 10000000000 → sp.Spelled q (own true v) (45 ∷ plainText v ++ s) s
+minus-spelled v h = let z = plain-digits v h in sp.minus (z .1) (z .2) (z .3)
+
+-- an ordinate in two ways of writing, for one that is not negative and for one that is
+by-sign : (P : List ℕ → Type 0) (a b : ℕ → List ℕ) (u : ℕ) → 0 < u → u < 4294967296 → ((v : ℕ) → v ≤ 2147483647 → sp.Sized false v u → P (a v))
+    → ((v : ℕ) → 0 < v → v ≤ 2147483647 → sp.Sized true v u → P (b v)) → P (pick (leb zero-ordinate u) (a (u - zero-ordinate)) (b (zero-ordinate - u)))
+by-sign P a b u g l x y =
+    by-case (λ t. P (pick t (a (u - zero-ordinate)) (b (zero-ordinate - u)))) (leb zero-ordinate u)
+    (λ t. let k = leb-true zero-ordinate u t in let z : zero-ordinate + (u - zero-ordinate) ≡ u = omega arith in
+    x (u - zero-ordinate) (omega arith) (subst (sp.Sized false (u - zero-ordinate)) z (sp.size-up (omega arith))))
+    (λ t. let k = leb-false zero-ordinate u t in let z : zero-ordinate - (zero-ordinate - u) ≡ u = omega arith in
+    y (zero-ordinate - u) (omega arith) (omega arith) (subst (sp.Sized true (zero-ordinate - u)) z (sp.size-down (omega arith))))
+
+-- what an ordinate of its own stands for at a spot, whatever its sign
+abbrev Standing : Spot → ℕ → List ℕ → Form → ℕ → ℕ → Type 0
+Standing w p us f e u = (m : Bool) (v : ℕ) → sp.Sized m v u → sp.Stands w p (own m v) us f e
+
 module _ {R : Rules} {w : Spot} {i p e : ℕ} {us ys s : List ℕ} {f : Form} where
-  pub sqz-value : (u : ℕ) → 0 < u → u < 4294967296 → ((m : Bool) (v : ℕ) → sp.Sized m v u → sp.Stands w p (own m v) us f e)
-      → Inside R (after f) (i + length us) e ys s → Inside R w i p (us ++ ys) (sqzText u ++ s)
+  pub sqz-value : (u : ℕ) → 0 < u → u < 4294967296 → Standing w p us f e u → Inside R (after f) (i + length us) e ys s → Inside R w i p (us ++ ys) (sqzText u ++ s)
   unfolding sqzText
   sqz-value u a b h n =
-      by-case (λ t. Inside R w i p (us ++ ys) (pick t (numeral (sqz false) (u - zero-ordinate)) (numeral (sqz true) (zero-ordinate - u)) ++ s)) (leb zero-ordinate u)
-      (λ t. let l = leb-true zero-ordinate u t in
-      let k : Spellable (sqz false) (u - zero-ordinate) = record { short = omega arith; some = λ z. no-way (sym z) } in
-      let z : zero-ordinate + (u - zero-ordinate) ≡ u = omega arith in
-      valued (numeral-spelled (sqz false) (u - zero-ordinate) k) (h false (u - zero-ordinate) (subst (sp.Sized false (u - zero-ordinate)) z (sp.size-up (omega arith)))) n)
-      (λ t. let l = leb-false zero-ordinate u t in
-      let k : Spellable (sqz true) (zero-ordinate - u) = record { short = omega arith; some = λ z. omega arith } in
-      let z : zero-ordinate - (zero-ordinate - u) ≡ u = omega arith in
-      valued (numeral-spelled (sqz true) (zero-ordinate - u) k) (h true (zero-ordinate - u) (subst (sp.Sized true (zero-ordinate - u)) z (sp.size-down (omega arith)))) n)
+      by-sign (λ t. Inside R w i p (us ++ ys) (t ++ s)) (numeral (sqz false)) (numeral (sqz true)) u a b
+      (λ v l z. let k : Spellable (sqz false) v = record { short = omega arith; some = λ z. no-way (sym z) } in valued (numeral-spelled (sqz false) v k) (h false v z) n)
+      (λ v g l z. let k : Spellable (sqz true) v = record { short = omega arith; some = λ z. g } in valued (numeral-spelled (sqz true) v k) (h true v z) n)
+
+  -- an ordinate of its own, in each of the four forms
+  pub own-value : (st : Style) (u : ℕ) → 0 < u → u < 4294967296 → Standing w p us f e u → Inside R (after f) (i + length us) e ys s → Inside R w i p (us ++ ys) (ownText st u ++ s)
+  unfolding affnText pacText
+  own-value Affn u a b h n =
+      by-sign (λ t. Inside R w i p (us ++ ys) (t ++ s)) (λ v. 32 ∷ plainText v) (λ v. 32 ∷ 45 ∷ plainText v) u a b
+      (λ v l z. spaced (plus-spelled v (omega arith)) (h false v z) n) (λ v g l z. spaced (minus-spelled v (omega arith)) (h true v z) n)
+  own-value Pac u a b h n =
+      by-sign (λ t. Inside R w i p (us ++ ys) (t ++ s)) (λ v. 32 ∷ plainText v) (λ v. 45 ∷ plainText v) u a b
+      (λ v l z. spaced (plus-spelled v (omega arith)) (h false v z) n) (λ v g l z. valued (minus-spelled v (omega arith)) (h true v z) n)
+  own-value Sqz u a b h n = sqz-value u a b h n
+  own-value Difdup u a b h n = sqz-value u a b h n
+
+  -- a missing one
+  pub gap-value : (st : Style) → sp.Stands w p gap us f e → Inside R (after f) (i + length us) e ys s → Inside R w i p (us ++ ys) (gapText st ++ s)
+  gap-value Affn h n = spaced sp.missing h n
+  gap-value Pac h n = valued sp.missing h n
+  gap-value Sqz h n = valued sp.missing h n
+  gap-value Difdup h n = valued sp.missing h n
 
 -- the four forms
 pub form-cases : (P : Form → Type 0) (p y : ℕ) → (y ≡ 0 → P Gap) → (0 < y → p ≡ 0 → P Own) → (0 < y → 0 < p → p ≤ y → P (By false (y - p)))
@@ -86,33 +141,49 @@ form-cases P p y a b c d =
     (λ f. let p0 : 0 < p = omega (arith, eqb-false p 0 f) in
     by-case (λ t. P (pick t (By false (y - p)) (By true (p - y)))) (leb p y) (λ g. c y0 p0 (leb-true p y g)) (λ g. d y0 p0 (leb-false p y g))))
 
-module _ {R : Rules} {i p : ℕ} {ys s : List ℕ} where
-  gap-value : {w : Spot} (y : ℕ) → sp.Stands w p gap (0 ∷ []) Gap 0 → y ≡ 0 → Inside R (after Gap) (i + 1) y ys s → Inside R w i p (y ∷ ys) (63 ∷ s)
-  gap-value y h e n = rw e (valued {us = 0 ∷ []} sp.missing h (rw e at n))
+-- before the first value of a line there is none to differ from
+pub seen-none : (st : Style) → seen-after st 0 ≡ 0
+seen-none Affn = refl
+seen-none Pac = refl
+seen-none Sqz = refl
+seen-none Difdup = refl
+
+module _ {R : Rules} {i p : ℕ} {ys s : List ℕ} (st : Style) where
+  -- a value that is written in full, at any spot
+  lone-value : {w : Spot} (y : ℕ) → y < 4294967296 → ((m : Bool) (v : ℕ) → sp.Sized m v y → sp.Stands w p (own m v) (y ∷ []) Own y) → sp.Stands w p gap (0 ∷ []) Gap 0
+      → Inside R (after (form 0 y)) (i + 1) y ys s → Inside R w i p (y ∷ ys) (tokenText st (form 0 y) y ++ s)
+  unfolding tokenText
+  lone-value {w = w} y h o g =
+      form-cases (λ r. Inside R (after r) (i + 1) y ys s → Inside R w i p (y ∷ ys) (tokenText st r y ++ s)) 0 y
+      (λ e n. rw e (gap-value {us = 0 ∷ []} st g (rw e at n)))
+      (λ a b n. own-value {us = y ∷ []} st y a h o n)
+      (λ a b c n. absurd (omega arith))
+      (λ a b c n. absurd (omega arith))
 
   -- the first value of a line that is no check line
-  pub first-value : (y : ℕ) → y < 4294967296 → Inside R (after (form 0 y)) (i + 1) y ys s → Inside R (first false) i p (y ∷ ys) (tokenText (form 0 y) y ++ s)
-  unfolding tokenText
-  first-value y h =
-      form-cases (λ r. Inside R (after r) (i + 1) y ys s → Inside R (first false) i p (y ∷ ys) (tokenText r y ++ s)) 0 y
-      (λ e n. gap-value y sp.gap-first e n)
-      (λ a b n. sqz-value {us = y ∷ []} y a h (λ m v z. sp.own-first z) n)
-      (λ a b c n. absurd (omega arith))
-      (λ a b c n. absurd (omega arith))
+  pub first-value : (y : ℕ) → y < 4294967296 → Inside R (after (form (seen-after st 0) y)) (i + 1) y ys s → Inside R (first false) i p (y ∷ ys) (tokenText st (form (seen-after st 0) y) y ++ s)
+  first-value y h n = rw (seen-none st) (lone-value y h (λ m v z. sp.own-first z) sp.gap-first (rw (seen-none st) at n))
 
-  -- a value after another
-  pub next-value : {r : Form} (y : ℕ) → p < 4294967296 → y < 4294967296 → Inside R (after (form p y)) (i + 1) y ys s → Inside R (after r) i p (y ∷ ys) (tokenText (form p y) y ++ s)
+  -- a value after another, a difference where there is one
+  moved-value : {r : Form} (y : ℕ) → p < 4294967296 → y < 4294967296 → Inside R (after (form p y)) (i + 1) y ys s → Inside R (after r) i p (y ∷ ys) (tokenText st (form p y) y ++ s)
   unfolding tokenText
-  next-value {r} y g h =
-      form-cases (λ f. Inside R (after f) (i + 1) y ys s → Inside R (after r) i p (y ∷ ys) (tokenText f y ++ s)) p y
-      (λ e n. gap-value y sp.gap-after e n)
-      (λ a b n. sqz-value {us = y ∷ []} y a h (λ m v z. sp.own-after z) n)
+  moved-value {r} y g h =
+      form-cases (λ f. Inside R (after f) (i + 1) y ys s → Inside R (after r) i p (y ∷ ys) (tokenText st f y ++ s)) p y
+      (λ e n. rw e (gap-value {us = 0 ∷ []} st sp.gap-after (rw e at n)))
+      (λ a b n. own-value {us = y ∷ []} st y a h (λ m v z. sp.own-after z) n)
       (λ a b c n. let e : p + (y - p) ≡ y = omega arith in
       let k : Spellable (dif false) (y - p) = record { short = omega arith; some = λ z. no-way (sym z) } in
       valued {us = y ∷ []} (numeral-spelled (dif false) (y - p) k) (sp.dif-after b (subst (sp.Step false (y - p) p) e sp.up) (record { low = omega arith; high = omega arith })) n)
       (λ a b c n. let e : p - (p - y) ≡ y = omega arith in
       let k : Spellable (dif true) (p - y) = record { short = omega arith; some = λ z. omega arith } in
       valued {us = y ∷ []} (numeral-spelled (dif true) (p - y) k) (sp.dif-after b (subst (sp.Step true (p - y) p) e sp.down) (record { low = omega arith; high = omega arith })) n)
+
+  -- a value after another, as the form writes it
+  pub next-value : {r : Form} (y : ℕ) → p < 4294967296 → y < 4294967296 → Inside R (after (form (seen-after st p) y)) (i + 1) y ys s
+      → Inside R (after r) i p (y ∷ ys) (tokenText st (form (seen-after st p) y) y ++ s)
+  next-value {r} y g h =
+      by-case (λ t. Inside R (after (form (pick t 0 p) y)) (i + 1) y ys s → Inside R (after r) i p (y ∷ ys) (tokenText st (form (pick t 0 p) y) y ++ s)) (in-full st)
+      (λ _ n. lone-value y h (λ m v z. sp.own-after z) sp.gap-after n) (λ _ n. moved-value y g h n)
 
 -- ---- the further copies
 
@@ -139,6 +210,13 @@ pub many-le : (r : Form) (p : ℕ) (ys : List ℕ) → many r p ys ≤ length ys
 unfolding many
 many-le r p [] = lit≤ tt
 many-le r p (y ∷ ys) = by-case (λ t. pick t (suc (many r y ys)) 0 ≤ length (y ∷ ys)) (alike r (form p y)) (λ e. omega (arith, many-le r y ys)) (λ e. omega arith)
+
+-- a group has further tokens only where they are of one kind with its first
+pub more-many : (st : Style) (r : Form) (p : ℕ) (ys : List ℕ) (n : ℕ) → more-of st r p ys ≡ suc n → many r p ys ≡ suc n
+more-many st r p ys n = by-case (λ t. pick t 0 (many r p ys) ≡ suc n → many r p ys ≡ suc n) (in-full st) (λ _ e. absurd (omega arith)) (λ _ e. e)
+
+pub more-le : (st : Style) (r : Form) (p : ℕ) (ys : List ℕ) → more-of st r p ys ≤ length ys
+more-le st r p ys = by-case (λ t. pick t 0 (many r p ys) ≤ length ys) (in-full st) (λ _. omega arith) (λ _. many-le r p ys)
 
 pub many-copies : (r : Form) (p : ℕ) (ys : List ℕ) → Last r p → take (many r p ys) ys ≡ copies (many r p ys) r p
 unfolding many

@@ -17,7 +17,8 @@ use Rattle.table_spec.specs.Numerals.{top, low, leadByte, numeral}
 use Rattle.table_spec.specs.Groups.{form, sqzText, tokenText, alike, many, dupText, group}
 use Rattle.text_groups.specs.declared.Token.{Token}
 use Rattle.table_text.specs.Digits.{further}
-use Rattle.table_text.specs.DigitLaws.{length-low, further-le}
+use Rattle.table_text.specs.DigitLaws.{further-le}
+use Rattle.table_text.proofs.NumberSteps.{number-length}
 use Rattle.table_text.specs.Pieces.{number}
 use Rattle.text_groups.specs.Tokens.{again, run, TokenFor, Found, count-at, group-at}
 
@@ -231,10 +232,6 @@ run-many {p} {y} {t} k q (z ∷ zs) h =
     (λ _ e. rw (sym (k .likes q z h) ∙ e) refl) refl
 
 -- ---- a group
-
-number-length : (base v : ℕ) → length (number base v) ≡ 1 + further 9 v
-unfolding number
-number-length base v = omega (arith, length-low 9 v)
 
 pub found : (ys : List ℕ) (i p y more digits rest : ℕ) (t : Token) → y ≡ getD ys i 0 → TokenFor p y t → more ≡ run t y (drop (i + 1) ys) → i + 1 + more ≤ length ys
     → digits ≡ further 9 (t .size) → (rest ≡ length (dupText more)) × (rest ≤ 10)

@@ -13,6 +13,7 @@ use Rattle.text_groups.specs.declared.Token.{Token}
 use Rattle.text_groups.specs.declared.Group.{Group}
 use Rattle.table_text.specs.Digits.{further}
 use Rattle.table_text.specs.Pieces.{number}
+use Rattle.table_spec.specs.declared.Style.the-variants.{Difdup}
 
 -- does z after q have the token t again?
 abbrev pub again : Token → ℕ → ℕ → Bool
@@ -30,7 +31,7 @@ pub record SmallToken (t : Token) : Type 0 where
 
 -- t is the token of y after p. `again` is said of a q that is missing or not as y is: such a one is each that has the token
 pub record TokenFor (p y : ℕ) (t : Token) : Type 0 where
-  pub text : tokenText (form p y) y ≡ number (t .base) (t .size)
+  pub text : tokenText Difdup (form p y) y ≡ number (t .base) (t .size)
   pub base : t .base ≤ 105
   pub small : SmallToken t
   pub dif-is : t .dif ≡ isDif (form p y)
@@ -42,7 +43,7 @@ abbrev pub count-at : List ℕ → ℕ → ℕ → ℕ
 count-at ys i p = many (form p (getD ys i 0)) (getD ys i 0) (drop (i + 1) ys)
 
 abbrev pub group-at : List ℕ → ℕ → ℕ → List ℕ
-group-at ys i p = group p (getD ys i 0) (drop (i + 1) ys)
+group-at ys i p = group Difdup p (getD ys i 0) (drop (i + 1) ys)
 
 abbrev pub dif-at : List ℕ → ℕ → ℕ → Bool
 dif-at ys i p = isDif (form p (getD ys i 0))

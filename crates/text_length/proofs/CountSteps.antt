@@ -20,7 +20,7 @@ use Rattle.text_groups.specs.Tokens.{run, TokenFor, Found, group-at, lone}
 use Rattle.text_lines.specs.Lines.{from, next-state, after, Started, line-state, Wrote, NewLine, Counted, Full, difference-state}
 use Rattle.text_groups.proofs.TokenSteps.{found, again-not, dif-up, dif-same, dif-down}
 use Rattle.text_lines.proofs.TextSteps.{from-fits}
-use Rattle.table_write_law.specs.Lengths.{group-slim}
+use Rattle.table_write_law.specs.Lengths.{group-any}
 use Rattle.text_lines.proofs.LineSteps.{left-break}
 
 -- ---- the width of a lone difference
@@ -302,6 +302,6 @@ module _ (hd : ℕ → List ℕ) (ys : List ℕ) {s t : State} (c : Counted ys s
             let short = line-short in
             let e = left-break hd ys t r q b (f .breaks b) refl v in
             let k : from hd ys r ≡ after hd ys (r .given) (r .last) (r .column) =
-            from-fits hd ys r (omega arith) (omega (arith, group-slim (r .last) (getD ys (r .given) 0) (drop (r .given + 1) ys))) in
+            from-fits hd ys r (omega arith) (omega (arith, group-any (r .last) (getD ys (r .given) 0) (drop (r .given + 1) ys))) in
             let z : Ahead x n o' (r .at) (after hd ys (t .given) q (r .column)) = ahead-of (after hd ys (t .given) q (r .column)) (v .put) (rw e at a) in
             rw (k, given, last) z

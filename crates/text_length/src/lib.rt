@@ -1,10 +1,9 @@
 // The length of a written text, without writing it: groups that are only counted. Inner functions: the frame is a sound one, and the ordinates are its points.
 ghost use mathlib.Core.Path.{_≡_};
 ghost use mathlib.Core.Bool.{true};
-ghost use Prim.Native.Nat.{_+_, _-_, _^_, _≤_, _<_};
-ghost use lib.Dec.{leb};
+ghost use Prim.Native.Nat.{_+_, _^_, _≤_, _<_};
 ghost use lib.ListN.{length};
-ghost use Rattle.table_spec.specs.Frame.{apart};
+ghost use Rattle.table_spec.specs.declared.Style.the-variants.{Difdup};
 ghost use Rattle.table_spec.specs.Writing.{lines-of};
 ghost use Rattle.text_groups.specs.Tokens.{Found, lone};
 ghost use Rattle.frame.specs.Legal.{Sound};
@@ -152,9 +151,9 @@ fn count_turn(ys: &[i32], none: &mut [u8], fr: Frame, s: State) -> State
 }
 
 // The text's length: line by line with no byte lent, the groups of a line only counted.
-fn measure(ys: &[i32], none: &mut [u8], fr: Frame) -> usize
+pub fn measure(ys: &[i32], none: &mut [u8], fr: Frame) -> usize
     requires { ⌜ Sound fr × (length (now ys) ≡ fr .points) × (length (now none) ≡ 0) ⌝ }
-    ensures { λ r. ⌜ r ≡ length (lines-of (headOf fr) (ordinates (now (ys .entry)))) ⌝ }
+    ensures { λ r. ⌜ r ≡ length (lines-of Difdup (headOf fr) (ordinates (now (ys .entry)))) ⌝ }
 {
     let n = ys.len();
     let mut s = begin(none, fr);
@@ -164,18 +163,4 @@ fn measure(ys: &[i32], none: &mut [u8], fr: Frame) -> usize
         i = s.given;
     }
     finish(none, fr, s)
-}
-
-// Whether the text fits into so many bytes: 15 a point and 44 more are always enough (table_write_law, `written-most`); if there are fewer, it is measured.
-pub fn fits(ys: &[i32], fr: Frame, room: usize) -> bool
-    requires { ⌜ Sound fr × (length (now ys) ≡ fr .points) × (fr .points - 1 ≤ apart (fr .last) (fr .first)) ⌝ }
-    ensures { λ r. ⌜ r ≡ leb (length (lines-of (headOf fr) (ordinates (now (ys .entry))))) room ⌝ }
-{
-    let n = fr.points;
-    if 15 * n + 44 <= room {
-        return true;
-    }
-    let mut none = [0u8; 1];
-    let needed = measure(ys, &mut none[..0], fr);
-    needed <= room
 }

@@ -17,6 +17,7 @@ use Rattle.table_text.specs.Pieces.{Put, Ahead, number, put-then, put-length, a
 use Rattle.text_groups.specs.Tokens.{Found, group-at}
 use Rattle.text_lines.specs.Lines.{from, next-state, after, opening, start, Wrote, NewLine, Going}
 use Rattle.text_lines.proofs.TextSteps.{from-fits, from-break, from-end, lines-start}
+use Rattle.table_spec.specs.declared.Style.the-variants.{Difdup}
 
 -- ---- the start of a line, and the last line
 
@@ -29,21 +30,21 @@ unfolding sqzText numeral number
 sqz-down u h = rw (lt-leb 2147483648 u h) refl
 
 module _ (hd : ℕ → List ℕ) (i p : ℕ) where
-  pub check-is : check hd i p ≡ hd (i - 1) ++ sqzText p
+  pub check-is : check Difdup hd i p ≡ hd (i - 1) ++ sqzText p
   unfolding check
   check-is = refl
 
-  pub opening-dif : (dif : Bool) → dif ≡ true → opening hd dif i p ≡ check hd i p
+  pub opening-dif : (dif : Bool) → dif ≡ true → opening hd dif i p ≡ check Difdup hd i p
   opening-dif dif e = rw e refl
 
   pub opening-not : (dif : Bool) → dif ≡ false → opening hd dif i p ≡ hd i
   opening-not dif e = rw e refl
 
-  pub close-dif : (dif : Bool) → dif ≡ true → close hd dif i p ≡ check hd i p ++ 13 ∷ 10 ∷ []
+  pub close-dif : (dif : Bool) → dif ≡ true → close Difdup hd dif i p ≡ check Difdup hd i p ++ 13 ∷ 10 ∷ []
   unfolding close
   close-dif dif e = rw e refl
 
-  pub close-not : (dif : Bool) → dif ≡ false → close hd dif i p ≡ []
+  pub close-not : (dif : Bool) → dif ≡ false → close Difdup hd dif i p ≡ []
   unfolding close
   close-not dif e = rw e refl
 
@@ -152,15 +153,15 @@ module _ (hd : ℕ → List ℕ) (ys : List ℕ) where
   again-as e r = rw e at r
 
   pub finish : {o o₁ o₃ o₅ : List ℕ} {st r i : ℕ} {s₀ s : State} (n : ℕ) → 0 < length ys → s₀ ≡ start st → st ≤ 15 → Put o 0 o₁ st (hd 0) → Going hd ys o₁ s₀ o₃ s i
-      → length ys ≤ i → length ys ≡ n → Put o₃ (s .at) o₅ r (13 ∷ 10 ∷ close hd (s .dif) n (s .last)) → Put o 0 o₅ r (lines-of hd ys)
+      → length ys ≤ i → length ys ≡ n → Put o₃ (s .at) o₅ r (13 ∷ 10 ∷ close Difdup hd (s .dif) n (s .last)) → Put o 0 o₅ r (lines-of Difdup hd ys)
   finish {o = o} {o₁ = o₁} {o₃ = o₃} {st = st} {i = i} {s = s} n l q b h g₀ k m v =
       let g : Going hd ys o₁ (start st) o₃ s i = rw q at g₀ in
-      let all = lines-of hd ys in
+      let all = lines-of Difdup hd ys in
       let a : Ahead (sets o 0 all) (0 + length all) o 0 all = record { whole = refl; ends = refl } in
       let t : all ≡ hd 0 ++ from hd ys (start st) = lines-start hd ys st l (omega (arith, h .next)) (omega arith) in
       let d = g .law (sets o 0 all) (0 + length all) (ahead-of (from hd ys (start st)) h (again-as t a)) in
       let is = g .is in let inside = g .inside in
       let j : s .given ≡ n = omega arith in
-      let f : from hd ys s ≡ 13 ∷ 10 ∷ close hd (s .dif) n (s .last) = from-end hd ys s (omega arith) ∙ rw j refl in
+      let f : from hd ys s ≡ 13 ∷ 10 ∷ close Difdup hd (s .dif) n (s .last) = from-end hd ys s (omega arith) ∙ rw j refl in
       let y = done (again-as f d) v in
       record { next = y .0; stored = y .1 }

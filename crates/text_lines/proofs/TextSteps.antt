@@ -14,10 +14,11 @@ use Rattle.table_spec.specs.Values.{lastOr}
 use Rattle.table_spec.specs.Groups.{form}
 use Rattle.table_spec.specs.Writing.{put, check, open-line, go-on, close, text, lines-of}
 use Rattle.table_write_law.specs.Tokens.{many-le}
-use Rattle.table_write_law.specs.Lengths.{group-slim}
+use Rattle.table_write_law.specs.Lengths.{group-any}
 use Rattle.text_lines.specs.declared.State.{State}
 use Rattle.text_groups.specs.Tokens.{count-at, group-at, dif-at}
 use Rattle.text_lines.specs.Lines.{from, after, opening, start}
+use Rattle.table_spec.specs.declared.Style.the-variants.{Difdup}
 
 -- ---- from a point on
 
@@ -27,7 +28,7 @@ last-at ys (suc m) i h = rw (drop-cons ys (suc i) 0 (omega arith), add-suc i m, 
 
 module _ (hd : ℕ → List ℕ) where
   -- points that are passed over
-  skip : (zs : List ℕ) (n i p : ℕ) (dif : Bool) (col : ℕ) → n ≤ length zs → text hd zs n i p dif col ≡ text hd (drop n zs) 0 (i + n) (lastOr p (take n zs)) dif col
+  skip : (zs : List ℕ) (n i p : ℕ) (dif : Bool) (col : ℕ) → n ≤ length zs → text Difdup hd zs n i p dif col ≡ text Difdup hd (drop n zs) 0 (i + n) (lastOr p (take n zs)) dif col
   unfolding text
   skip zs zero i p dif col h = rw (add-zero i) refl
   skip [] (suc n) i p dif col h = absurd (not-suc-le-zero h)
@@ -38,26 +39,26 @@ module _ (hd : ℕ → List ℕ) where
     count-le p = omega (arith, many-le (form p (getD ys i 0)) (getD ys i 0) (drop (i + 1) ys), length-drop (i + 1) ys)
 
     onward : (m : ℕ) (dif : Bool) (col : ℕ) → i + 1 + m ≤ length ys
-        → text hd (drop (i + 1) ys) m (suc i) (getD ys i 0) dif col ≡ text hd (drop (i + m + 1) ys) 0 (i + m + 1) (getD ys (i + m) 0) dif col
+        → text Difdup hd (drop (i + 1) ys) m (suc i) (getD ys i 0) dif col ≡ text Difdup hd (drop (i + m + 1) ys) 0 (i + m + 1) (getD ys (i + m) 0) dif col
     onward m dif col l =
         let e : i + m + 1 ≡ i + 1 + m = omega arith in
         let f : suc i + m ≡ i + 1 + m = omega arith in
         skip (drop (i + 1) ys) m (suc i) (getD ys i 0) dif col (omega (arith, length-drop (i + 1) ys))
         ∙ rw (drop-drop m (i + 1) ys, e, f, ← last-at ys m i (omega arith), add-one i) refl
 
-    puts : (p col : ℕ) → put hd (text hd (drop (i + 1) ys)) col i p (getD ys i 0) (drop (i + 1) ys) ≡ after hd ys i p col
+    puts : (p col : ℕ) → put Difdup hd (text Difdup hd (drop (i + 1) ys)) col i p (getD ys i 0) (drop (i + 1) ys) ≡ after hd ys i p col
     unfolding put after from
     puts p col = rw (onward (count-at ys i p) (dif-at ys i p) (col + length (group-at ys i p)) (count-le p)) refl
 
     opens : (dif : Bool) (p : ℕ)
-        → open-line hd (text hd (drop (i + 1) ys)) dif i p (getD ys i 0) (drop (i + 1) ys) ≡ opening hd dif i p ++ after hd ys i (pick dif p 0) (length (opening hd dif i p))
+        → open-line Difdup hd (text Difdup hd (drop (i + 1) ys)) dif i p (getD ys i 0) (drop (i + 1) ys) ≡ opening hd dif i p ++ after hd ys i (pick dif p 0) (length (opening hd dif i p))
     unfolding open-line
-    opens true p = rw (puts p (length (check hd i p))) refl
+    opens true p = rw (puts p (length (check Difdup hd i p))) refl
     opens false p = rw (puts 0 (length (hd i))) refl
 
   module _ (ys : List ℕ) (s : State) where
     steps : s .given < length ys
-        → from hd ys s ≡ go-on hd (text hd (drop (s .given + 1) ys)) (s .dif) (s .column) (s .given) (s .last) (getD ys (s .given) 0) (drop (s .given + 1) ys)
+        → from hd ys s ≡ go-on Difdup hd (text Difdup hd (drop (s .given + 1) ys)) (s .dif) (s .column) (s .given) (s .last) (getD ys (s .given) 0) (drop (s .given + 1) ys)
     unfolding from text
     steps h = rw (drop-cons ys (s .given) 0 h, add-one (s .given)) refl
 
@@ -73,13 +74,13 @@ module _ (hd : ℕ → List ℕ) where
     from-break h l = steps h ∙ rw (lt-leb _ 80 l) (ap (λ (t : List ℕ). 13 ∷ 10 ∷ t) (opens ys (s .given) h (s .dif) (s .last)))
 
     -- no point is left
-    pub from-end : length ys ≤ s .given → from hd ys s ≡ 13 ∷ 10 ∷ close hd (s .dif) (s .given) (s .last)
+    pub from-end : length ys ≤ s .given → from hd ys s ≡ 13 ∷ 10 ∷ close Difdup hd (s .dif) (s .given) (s .last)
     unfolding from text
     from-end h = rw (drop-of-length-le ys h) refl
 
-  pub lines-start : (ys : List ℕ) (n : ℕ) → 0 < length ys → n ≡ length (hd 0) → n ≤ 60 → lines-of hd ys ≡ hd 0 ++ from hd ys (start n)
+  pub lines-start : (ys : List ℕ) (n : ℕ) → 0 < length ys → n ≡ length (hd 0) → n ≤ 60 → lines-of Difdup hd ys ≡ hd 0 ++ from hd ys (start n)
   unfolding lines-of
   lines-start [] n h e l = absurd (not-suc-le-zero h)
   lines-start (y ∷ ys) n h e l =
-      let g = group-slim 0 y ys in
+      let g = group-any 0 y ys in
       opens (y ∷ ys) 0 h false 0 ∙ ap (λ (t : List ℕ). hd 0 ++ t) (rw (← e) (sym (from-fits (y ∷ ys) (start n) h (omega arith))))

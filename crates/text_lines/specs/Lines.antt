@@ -12,11 +12,12 @@ use Rattle.frame.specs.Legal.{Sound}
 use Rattle.text_lines.specs.declared.State.{State}
 use Rattle.table_text.specs.Pieces.{Put, Ahead}
 use Rattle.text_groups.specs.Tokens.{count-at, group-at, dif-at}
+use Rattle.table_spec.specs.declared.Style.the-variants.{Difdup}
 
 module _ (head-of : ℕ → List ℕ) where
   -- what is left to write in a state
   unfoldable pub from : List ℕ → State → List ℕ
-  from ys s = text head-of (drop (s .given) ys) 0 (s .given) (s .last) (s .dif) (s .column)
+  from ys s = text Difdup head-of (drop (s .given) ys) 0 (s .given) (s .last) (s .dif) (s .column)
 
   -- the state after the group at i after p
   abbrev pub next-state : List ℕ → ℕ → ℕ → ℕ → ℕ → State
@@ -29,7 +30,7 @@ module _ (head-of : ℕ → List ℕ) where
 
   -- the start of a line
   abbrev pub opening : Bool → ℕ → ℕ → List ℕ
-  opening dif i p = pick dif (check head-of i p) (head-of i)
+  opening dif i p = pick dif (check Difdup head-of i p) (head-of i)
 
 -- a last form that is DIF has a point before it; ordinates have 32 bits
 pub record Started (s : State) : Type 0 where

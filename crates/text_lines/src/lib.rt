@@ -22,6 +22,7 @@ use table_text::heads::put_head;
 use text_groups::Group;
 use text_groups::find;
 use text_groups::put_group;
+ghost use Rattle.table_spec.specs.declared.Style.the-variants.{Difdup};
 
 // The most bytes of a line.
 pub const LONGEST_LINE: usize = 80;
@@ -53,7 +54,7 @@ fn put_own(out: &mut [u8], at: usize, u: u64) -> usize
 // The head and the first value of a check line, after i points, the last of them p. The place after them.
 fn put_check(out: &mut [u8], at: usize, fr: Frame, i: usize, p: u64) -> usize
     requires { ⌜ Sound fr × (0 < i) × (i ≤ fr .points) × (p < 4294967296) × (at < 2 ^ 58) ⌝ }
-    ensures { λ r. ⌜ Put (now (out .entry)) at (now (out .exit)) r (check (headOf fr) i p) × (r ≤ at + 25) ⌝ }
+    ensures { λ r. ⌜ Put (now (out .entry)) at (now (out .exit)) r (check Difdup (headOf fr) i p) × (r ≤ at + 25) ⌝ }
 {
     let before = i - 1;
     let h = put_head(out, at, fr, before);
@@ -76,7 +77,7 @@ fn put_opening(out: &mut [u8], at: usize, fr: Frame, s: State) -> usize
 // The last check line, if the text ends in DIF form. The place after it.
 fn put_close(out: &mut [u8], at: usize, fr: Frame, dif: bool, p: u64) -> usize
     requires { ⌜ Sound fr × (p < 4294967296) × (at < 2 ^ 58) ⌝ }
-    ensures { λ r. ⌜ Put (now (out .entry)) at (now (out .exit)) r (close (headOf fr) dif (fr .points) p) ⌝ }
+    ensures { λ r. ⌜ Put (now (out .entry)) at (now (out .exit)) r (close Difdup (headOf fr) dif (fr .points) p) ⌝ }
 {
     if !dif {
         return at;
@@ -200,7 +201,7 @@ pub fn begin(text: &mut [u8], fr: Frame) -> State
 // The text's end after the last group, with a check line if one is needed. The place after it.
 pub fn finish(text: &mut [u8], fr: Frame, s: State) -> usize
     requires { ⌜ Sound fr × (s .last < 4294967296) × (s .at < 2 ^ 57) ⌝ }
-    ensures { λ r. ⌜ Put (now (text .entry)) (s .at) (now (text .exit)) r (13 ∷ 10 ∷ close (headOf fr) (s .dif) (fr .points) (s .last)) ⌝ }
+    ensures { λ r. ⌜ Put (now (text .entry)) (s .at) (now (text .exit)) r (13 ∷ 10 ∷ close Difdup (headOf fr) (s .dif) (fr .points) (s .last)) ⌝ }
 {
     let at = s.at;
     let dif = s.dif;

@@ -1,50 +1,19 @@
--- `table_write::write_table` meets its contract: writes the table of a frame, its numbers as they come, and its ordinates into the lent bytes; or refuses and leaves them as they were.
-use mathlib.Core.Path.{refl, sym, _∙_}
+-- `table_write::write_table` meets its contract: what `write_form` answers of DIFDUP.
 use mir.Facts.{toZ-ofZ}
-use Rattle.frame.specs.FrameLaws.{framed-legal}
-use Rattle.table_text.proofs.AnswerSteps.{outside, inside}
 use borrow.Author.Needs.{needs}
 use Rattle.table_write.proofs.write_table.Statement.{statement}
 use Rattle.table_write.proofs.write_table.Tie as tie
 
-new-requires : tie.Need-new-requires
-new-requires c κs = search needs
-
-enum-told : tie.Need-enum-told
-enum-told c = search needs
-
-refused-requires : tie.Need-refused-requires
-refused-requires c κs = search needs
-
-enum-known-framed : tie.Need-enum-known-framed
-enum-known-framed c = search needs
-
-write-framed-requires : tie.Need-write-framed-requires
-write-framed-requires c κs = let f = c .before .before .before .before .before .before .fits in framed-legal _ _ _
-    (sym (rw (toZ-ofZ (f .first), toZ-ofZ (f .last)) at (c .before .before .before .before .new .ensures)) ∙ c .before .before .framed .given .1) .sound
-
-returns : tie.Need-returns
-returns c = let f = c .before .before .before .before .before .fits in outside _ _ _ (c .before .before .before .before .before .args .ordinates .now)
-    (sym (rw (toZ-ofZ (f .first), toZ-ofZ (f .last)) at (c .before .before .before .new .ensures)) ∙ c .before .enum-told .given .1) (c .refused .ensures) refl
+write-form-requires : tie.Need-write-form-requires
+write-form-requires c κs = search needs
 
 same-length : tie.Need-same-length
 same-length c = search needs
 
-returns-2 : tie.Need-returns-2
-returns-2 c = let f = c .before .before .before .before .before .before .before .before .before .fits in inside _ _ _
-    (c .before .before .before .before .before .before .before .before .before .args .ordinates .now) _
-    (sym (rw (toZ-ofZ (f .first), toZ-ofZ (f .last)) at (c .before .before .before .before .before .before .before .new .ensures))
-    ∙ c .before .before .before .before .before .framed .given .1) (c .before .before .write-framed .ensures)
+returns : tie.Need-returns
+returns c =
+    let f = c .before .before .before .before .before .fits in
+    rw (toZ-ofZ (f .first), toZ-ofZ (f .last)) at (c .before .before .write-form .ensures)
 
 pub write-table-spec : {M : Type 1} → statement M
-write-table-spec =
-    tie.close
-    (tie.spec
-    new-requires
-    enum-told
-    refused-requires
-    enum-known-framed
-    write-framed-requires
-    returns
-    same-length
-    returns-2)
+write-table-spec = tie.close (tie.spec write-form-requires same-length returns)

@@ -1,0 +1,114 @@
+// Values in full on lines: the text of AFFN, PAC and SQZ (02, T-02). Inner functions: the frame is a sound one, and the ordinates are its points.
+ghost use mathlib.Core.Path.{_≡_};
+ghost use mathlib.Core.Bool.{true};
+ghost use mathlib.Core.List.{map};
+ghost use Prim.Native.Nat.{_≤_};
+ghost use lib.ListN.{length};
+ghost use Rattle.table_spec.specs.Frame.{ordinate-of};
+ghost use Rattle.table_spec.specs.Groups.{in-full};
+ghost use Rattle.table_spec.specs.Writing.{lines-of};
+ghost use Rattle.frame.specs.Legal.{Sound};
+ghost use Rattle.table_text.specs.Pieces.{Put, headOf};
+ghost use Rattle.text_values.specs.Shows.{Based};
+ghost use Rattle.text_values.specs.Lines.{whole};
+use crate::lines::count_turn;
+use crate::lines::turn;
+use crate::shows::marks_of;
+use frame::Frame;
+use table_spec::Style;
+use table_text::digits::put_end;
+use table_text::heads::put_head;
+
+mod digits;
+mod lines;
+mod shows;
+
+// The most bytes of a line.
+const LONGEST_LINE: usize = 80;
+
+// How a form writes its values: is there a space before a missing one, before one that is not negative, before one that is; has the last a minus; and to what their first digits are added.
+struct Marks {
+    gap: bool,
+    up: bool,
+    down: bool,
+    signed: bool,
+    plus: u64,
+    minus: u64,
+}
+
+// A value to be written: is there a space, and a minus; its number, the byte that its first digit is added to, how many digits follow that, and the bytes of all.
+struct Shown {
+    space: bool,
+    signed: bool,
+    base: u64,
+    size: u64,
+    digits: usize,
+    width: usize,
+}
+
+// How far the writing has come: points given, the place after the last byte, and the bytes of the line so far.
+struct State {
+    given: usize,
+    at: usize,
+    column: usize,
+}
+
+// The whole text from the start of the lent bytes, which hold it. Its length.
+fn pass(m: Marks, ys: &[i32], text: &mut [u8], fr: Frame) -> usize
+    requires { ⌜ Based m × Sound fr × (length (now ys) ≡ fr .points) × (length (whole m fr (map ordinate-of (now ys))) ≤ length (now text)) ⌝ }
+    ensures { λ r. ⌜ Put (now (text .entry)) 0 (now (text .exit)) r (whole m fr (map ordinate-of (now (ys .entry)))) ⌝ }
+{
+    let n = ys.len();
+    let head = put_head(text, 0, fr, 0);
+    let mut s = State {
+        given: 0,
+        at: head,
+        column: head,
+    };
+    let mut i = 0;
+    while i < n {
+        s = turn(m, ys, text, fr, s);
+        i = s.given;
+    }
+    let at = s.at;
+    put_end(text, at)
+}
+
+// The same where nothing is lent: the length of the text.
+fn count(m: Marks, ys: &[i32], none: &mut [u8], fr: Frame) -> usize
+    requires { ⌜ Based m × Sound fr × (length (now ys) ≡ fr .points) × (length (now none) ≡ 0) ⌝ }
+    ensures { λ r. ⌜ Put (now (none .entry)) 0 (now (none .exit)) r (whole m fr (map ordinate-of (now (ys .entry)))) ⌝ }
+{
+    let n = ys.len();
+    let head = put_head(none, 0, fr, 0);
+    let mut s = State {
+        given: 0,
+        at: head,
+        column: head,
+    };
+    let mut i = 0;
+    while i < n {
+        s = count_turn(m, ys, none, fr, s);
+        i = s.given;
+    }
+    let at = s.at;
+    put_end(none, at)
+}
+
+// The text of a form whose values are written in full, from the start of the lent bytes, which hold it. Its length.
+pub fn lay(style: Style, ys: &[i32], text: &mut [u8], fr: Frame) -> usize
+    requires { ⌜ (in-full style ≡ true) × Sound fr × (length (now ys) ≡ fr .points) × (length (lines-of style (headOf fr) (map ordinate-of (now ys))) ≤ length (now text)) ⌝ }
+    ensures { λ r. ⌜ Put (now (text .entry)) 0 (now (text .exit)) r (lines-of style (headOf fr) (map ordinate-of (now (ys .entry)))) ⌝ }
+{
+    let m = marks_of(style);
+    pass(m, ys, text, fr)
+}
+
+// The length of that text.
+pub fn measure(style: Style, ys: &[i32], none: &mut [u8], fr: Frame) -> usize
+    requires { ⌜ (in-full style ≡ true) × Sound fr × (length (now ys) ≡ fr .points) × (length (now none) ≡ 0) ⌝ }
+    ensures { λ r. ⌜ r ≡ length (lines-of style (headOf fr) (map ordinate-of (now (ys .entry)))) ⌝ }
+{
+    let m = marks_of(style);
+    count(m, ys, none, fr)
+}
