@@ -82,7 +82,7 @@ int64_t lastarunc_read_table(int64_t first, int64_t last, size_t points, const u
 /*
  * Writes the first `points` of the n ordinates lent as a table body in DIFDUP form.
  * Accepted: answer->length is the number of bytes of the text, and they stand from text[0] on.
- * Refused, 1, 2, 14 or 15: text is as it was.
+ * Refused, 1, 2 or 15: text is as it was.
  * 15 bytes for each point and 44 more hold every text; with less room the text is measured first, which takes about
  * half as long again.
  */

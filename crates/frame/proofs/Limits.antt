@@ -1,17 +1,17 @@
 -- From the tests of the code to the limits of the frame, and that the head check holds in 64 bits. No place of the code is named here. Assumes nothing.
 use mathlib.Core.Path.{_≡_, refl, sym}
 use mathlib.Core.Bool.{Bool, true, false, not, Bool·beq}
-use Prim.Native.Nat.{ℕ, suc, _+_, _-_, _*_, _<_, _≤_}
+use Prim.Native.Nat.{ℕ, suc, _-_, _*_, _<_, _≤_}
 use native.Mathlib.Omega.{arith}
 use native.Mathlib.Nat.{mul-le-mul, mul-comm}
-use lib.Dec.{ltb, eqb}
+use lib.Dec.{leb, eqb}
 use lib.IntN.{ℤ, pos, negsuc}
 use lib.Signed.{mag, ltZ}
 use mir.Syntax.{w64}
 use mir.Val.{SFits}
-use borrow.Author.Tests.{ltb-true, ltb-false, le-leb, lt-leb, eq-eqb, ne-eqb}
+use borrow.Author.Tests.{ltb-true, ltb-false, lt-ltb, le-ltb, le-leb, lt-leb, eq-eqb, ne-eqb}
 use Rattle.terms.specs.Logic.{pick, by-case, no-way}
-use Rattle.table_spec.specs.Frame.{frame-legal, abscissa, abscissa-legal, zero-abscissa, passes, apart}
+use Rattle.table_spec.specs.Frame.{frame-legal, abscissa, abscissa-legal, zero-abscissa, passes, apart, twice-off}
 use Rattle.signed.specs.Scale.{lift-small}
 use Rattle.frame.specs.declared.Frame.{Frame}
 use Rattle.frame.specs.declared.Framed.the-variants.{Legal, Outside}
@@ -122,12 +122,24 @@ products {fr} {h} {i} g a b =
       last = rw (mul-comm i (fr .last)) (product (fr .last) i l b);
     }
 
--- the two ways of the check
-pub alone : (fr : Frame) (h i : ℕ) → fr .points ≡ 1 → eqb h (fr .first) ≡ passes (fr .first) (fr .last) (fr .points) h i
-unfolding passes
-alone fr h i e = rw (eq-eqb (fr .points) 1 e) refl
+-- and the unit's
+pub unit-product : {fr : Frame} {u : ℕ} → Sound fr → u ≤ 1000 → u * (fr .points - 1) ≤ 65535000
+unit-product {fr} {u} g l = let few = g .few in mul-le-mul {n₁ = u} {m₁ = fr .points - 1} {n₂ = 1000} {m₂ = 65535} l (omega arith)
 
-pub spread : (fr : Frame) (h i : ℕ) → (fr .points ≡ 1 → ⊥)
-    → ltb (2 * apart (h * (fr .points - 1) + i * fr .first) (fr .first * (fr .points - 1) + i * fr .last)) (apart (fr .last) (fr .first)) ≡ passes (fr .first) (fr .last) (fr .points) h i
-unfolding passes
-spread fr h i e = rw (ne-eqb (fr .points) 1 e) refl
+-- the ways of the check: one point; several, within half a spacing; and not
+module _ (fr : Frame) (h u i : ℕ) where
+  pub alone : fr .points ≡ 1 → eqb h (fr .first) ≡ passes (fr .first) (fr .last) (fr .points) h u i
+  unfolding passes
+  alone e = rw (eq-eqb (fr .points) 1 e) refl
+
+  module _ (e : fr .points ≡ 1 → ⊥) where
+    abbrev off : ℕ
+    off = twice-off (fr .first) (fr .last) (fr .points) h i
+
+    pub near : off < apart (fr .last) (fr .first) → true ≡ passes (fr .first) (fr .last) (fr .points) h u i
+    unfolding passes
+    near l = rw (ne-eqb (fr .points) 1 e, lt-ltb off (apart (fr .last) (fr .first)) l) refl
+
+    pub coarse : apart (fr .last) (fr .first) ≤ off → leb off (u * (fr .points - 1)) ≡ passes (fr .first) (fr .last) (fr .points) h u i
+    unfolding passes
+    coarse l = rw (ne-eqb (fr .points) 1 e, le-ltb off (apart (fr .last) (fr .first)) l) refl

@@ -76,10 +76,10 @@ impl Frame {
         })
     }
 
-    // Does the head h, an abscissa plus 10,000,000,000, pass for the point of index i? (01, "Checks")
-    pub fn passes(self, h: u64, i: usize) -> bool
-        requires { ⌜ Sound self × (h < 20000000000) × (i ≤ 65536) ⌝ }
-        ensures { λ r. ⌜ r ≡ passes (self .first) (self .last) (self .points) h i ⌝ }
+    // Does the head h, an abscissa plus 10,000,000,000, whose last written place is worth so many thousandths, pass for the point of index i? (01, "Checks", and 02, T-03)
+    pub fn passes(self, h: u64, unit: u64, i: usize) -> bool
+        requires { ⌜ Sound self × (h < 20000000000) × (unit ≤ 1000) × (i ≤ 65536) ⌝ }
+        ensures { λ r. ⌜ r ≡ passes (self .first) (self .last) (self .points) h unit i ⌝ }
     {
         let first = self.first;
         let last = self.last;
@@ -91,6 +91,10 @@ impl Frame {
         let index = i as u64;
         let given = h * steps + index * first;
         let asked = first * steps + index * last;
-        2 * distance(given, asked) < distance(last, first)
+        let off = 2 * distance(given, asked);
+        if off < distance(last, first) {
+            return true;
+        }
+        off <= unit * steps
     }
 }

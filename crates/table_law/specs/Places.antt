@@ -11,23 +11,24 @@ use Rattle.alphabet_spec.specs.Digits.{Run, long, run, digits, some}
 use Rattle.alphabet_spec.specs.Bytes.{Byte, digit, lead, sign, quest, blank, point, lf, cr, dollar, other, kind}
 use Rattle.table_spec.specs.Frame.{Rules, rules, abscissa, longest-body, frame-legal}
 use Rattle.table_spec.specs.Values.{Value, own, Form, Spot, first, after, lastOr, room, valueOf, index}
-use Rattle.table_spec.specs.Reading.{Tokens, over, fault, head, value, line, Ending, ends, none, ending, Mode, fresh, inner, ended, headed, valued, thousandths, opening, inside}
-use Rattle.table_spec.specs.Reading.{step, stop, tokens, Says, adds, refuses, says, Answer, refuse, accept, push, bare, difBefore, took, checked, finish, judge, read, readTable}
+use Rattle.table_spec.specs.Reading.{Tokens, over, fault, head, HeadDigits, no-head, sized, value, line, Ending, ends, none, ending, Mode, fresh, inner, ended, headed, valued}
+use Rattle.table_spec.specs.Reading.{thousandths, opening, inside, step, stop, tokens, Says, adds, refuses, says, Answer, refuse, accept, push, bare, difBefore, took, checked}
+use Rattle.table_spec.specs.Reading.{finish, judge, read, readTable}
 
 -- every place is at most z
 abbrev pub Low : ℕ → Tokens → Type 0
 Low z (over a) = a ≤ z
 Low z (fault c a) = a ≤ z
-Low z (head a h r) = (a ≤ z) × Low z r
+Low z (head a h u r) = (a ≤ z) × Low z r
 Low z (value a v r) = (a ≤ z) × Low z r
 Low z (line r) = Low z r
 
 -- ---- tokens
 
 module _ (K : ℕ → Mode → Tokens) (z a : ℕ) (l : a ≤ z) (f : (n : ℕ) (m : Mode) → Low z (K n m)) where
-  headed-low : (m : Bool) (x : Run) → Low z (headed K a m x)
-  headed-low m long = l
-  headed-low m (run h n) = (l, f n (inner false))
+  headed-low : (m : Bool) (x : HeadDigits) → Low z (headed K a m x)
+  headed-low m no-head = l
+  headed-low m (sized h u n) = (l, f n (inner false))
 
   valued-low : (g : ℕ → Value) (x : Run) → Low z (valued K a g x)
   valued-low g long = l
@@ -112,8 +113,9 @@ module _ (R : Rules) (z : ℕ) where
   unfolding judge checked finish
   judge-low (over a) l i p w = picked z (ltb i (R .points)) (refuse 12 a) _ l (picked z (difBefore w) (refuse 13 a) (accept []) l tt)
   judge-low (fault c a) l i p w = l
-  judge-low (head a h r) l i p w =
-      picked z (R .passing h (index (difBefore w) i)) _ (refuse 6 a) (picked z (bare r) (refuse 7 a) (judge R r i p (first (difBefore w))) (l .0) (judge-low r (l .1) i p (first (difBefore w)))) (l .0)
+  judge-low (head a h u r) l i p w =
+      picked z (R .passing h u (index (difBefore w) i)) _ (refuse 6 a)
+      (picked z (bare r) (refuse 7 a) (judge R r i p (first (difBefore w))) (l .0) (judge-low r (l .1) i p (first (difBefore w)))) (l .0)
   judge-low (value a v r) l i p w = took-low (λ j q f. judge R r j q (after f)) a i p (says w p v) (l .0) (λ j q f. judge-low r (l .1) j q (after f))
   judge-low (line r) l i p w = judge-low r l i p w
 

@@ -13,7 +13,7 @@ use Rattle.alphabet_spec.specs.Bytes.{Byte, digit, lead, sign, quest, blank, po
 use Rattle.alphabet_spec.specs.KindLaws.{Back, kind-back}
 use Rattle.table_spec.specs.Frame.{Rules}
 use Rattle.table_spec.specs.Values.{Value, own, gap, Form, Own, Gap, By, Dup, isDif, Spot, first, after, lastOr, room, valueOf, index, headed-at}
-use Rattle.table_spec.specs.Reading.{Tokens, over, fault, value, line, Ending, ends as ends-in, none as no-end, ending, thousandths, Mode, fresh, inner, Rest, ended}
+use Rattle.table_spec.specs.Reading.{Tokens, over, fault, HeadDigits, no-head, sized, value, line, Ending, ends as ends-in, none as no-end, ending, thousandths, Mode, fresh, inner, Rest, ended}
 use Rattle.table_spec.specs.Reading.{headed, valued, opening, inside, step, stop, tokens, Says, adds, refuses, says, Answer, refuse, accept, push, bare, difBefore, took}
 use Rattle.table_spec.specs.Reading.{checked, finish, judge, read}
 use Rattle.table_spec.specs.ReadingLaws.{no-accept}
@@ -52,11 +52,11 @@ module _ (R : Rules) where
       (λ _ e. no-accept e) (λ _ e. (let z = ltb-false i (R .points) f in omega arith, refl, cc)))
       refl
 
-  checked-accept : (f : Bool → Answer) (a h : ℕ) (b : Bool) (i : ℕ) (c : Bool) (ys : List ℕ) → checked R f a h b i c ≡ accept ys
-      → (R .passing h (index c i) ≡ true) × (b ≡ false) × (f c ≡ accept ys)
+  checked-accept : (f : Bool → Answer) (a h u : ℕ) (b : Bool) (i : ℕ) (c : Bool) (ys : List ℕ) → checked R f a h u b i c ≡ accept ys
+      → (R .passing h u (index c i) ≡ true) × (b ≡ false) × (f c ≡ accept ys)
   unfolding checked
-  checked-accept f a h b i c ys =
-      by-case (λ t. pick t (pick b (refuse 7 a) (f c)) (refuse 6 a) ≡ accept ys → (t ≡ true) × (b ≡ false) × (f c ≡ accept ys)) (R .passing h (index c i))
+  checked-accept f a h u b i c ys =
+      by-case (λ t. pick t (pick b (refuse 7 a) (f c)) (refuse 6 a) ≡ accept ys → (t ≡ true) × (b ≡ false) × (f c ≡ accept ys)) (R .passing h u (index c i))
       (λ _. by-case (λ t. pick t (refuse 7 a) (f c) ≡ accept ys → (true ≡ true) × (t ≡ false) × (f c ≡ accept ys)) b (λ _ e. no-accept e) (λ _ e. (refl, refl, e)))
       (λ _ e. no-accept e)
 
@@ -150,11 +150,11 @@ module _ (R : Rules) where
     inner-end q (ends-in k) h = line-done q (b ∷ s) (drop k s) (K k fresh) h (ih k fresh)
     inner-end q no-end h = no-inner q 3 a (b ∷ s)
 
-    heads : (m : Bool) (x : Run) → HeadIs m b s x → From fresh (headed K a m x) (b ∷ s)
+    heads : (m : Bool) (x : HeadDigits) → HeadIs m b s x → From fresh (headed K a m x) (b ∷ s)
     unfolding judge
-    heads m long h i p w ys n e = no-accept e
-    heads m (run v k) h i p w ys n e =
-        let z = checked-accept (λ c. judge R (K k (inner false)) i p (first c)) a (headed-at m v) (bare (K k (inner false))) i (difBefore w) ys e in
+    heads m no-head h i p w ys n e = no-accept e
+    heads m (sized v u k) h i p w ys n e =
+        let z = checked-accept (λ c. judge R (K k (inner false)) i p (first c)) a (headed-at m v) u (bare (K k (inner false))) i (difBefore w) ys e in
         let y = ih k (inner false) i p (first (difBefore w)) ys n (z .1) (z .2) in
         rw (y .whole) (row h (belongs (difBefore w) i) (z .0) (y .values) (ends (y .form)) (y .body))
 

@@ -1,10 +1,10 @@
 -- Which texts spell which ordinates, said from the ordinates to the bytes (01, "Spelling of a body"). Nothing here runs a reader or takes a text apart. Assumes nothing.
--- `R x t s`: the text t is x, spelled, and then s. With reading this shares the names of values, forms and spots and the frame's rules (how many points, which heads pass, is a tab a blank);
--- every other rule is said here once more, in its own words.
+-- `R x t s`: the text t is x, spelled, and then s. With reading this shares the names of values, forms and spots and the frame's rules (how many points, which heads of which unit
+-- pass, is a tab a blank); every other rule is said here once more, in its own words.
 use mathlib.Core.Path.{_≡_}
 use mathlib.Core.Bool.{Bool, true, false}
 use mathlib.Core.List.{List, [], _∷_, _++_}
-use Prim.Native.Nat.{ℕ, zero, suc, _+_, _-_, _*_, _^_, _≤_, _<_}
+use Prim.Native.Nat.{ℕ, zero, suc, _+_, _-_, _*_, _≤_, _<_}
 use lib.ListN.{length}
 use Rattle.alphabet_spec.specs.Kinds.{sqz, dif, dup, Pseudo, Blank}
 use Rattle.alphabet_spec.specs.SpelledDigits.{SpelledDigits}
@@ -13,16 +13,23 @@ use Rattle.table_spec.specs.Values.{Value, own, gap, by, times, Form, Own, Gap,
 
 -- ---- "Head. Optional sign, 1 to 7 digits, then optionally a point and 0 to 3 digits"
 
--- whole thousandths, without a sign
-pub data Magnitude : ℕ → List ℕ → List ℕ → Type 0 where
-  whole : {n w : ℕ} {t s : List ℕ} → 0 < n → n ≤ 7 → SpelledDigits n 0 w t s → Magnitude (w * 1000) t s
-  pointed : {n k w v : ℕ} {t u s : List ℕ} → 0 < n → n ≤ 7 → SpelledDigits n 0 w t (46 ∷ u) → k ≤ 3 → SpelledDigits k w v u s → Magnitude (v * 10 ^ (3 - k)) t s
+-- "its last written place" (02, T-03), after so many digits behind the point: what it is worth in thousandths. "A head with no digit after the point has unit 1"
+pub data LastPlace : ℕ → ℕ → Type 0 where
+  ones : LastPlace 0 1000
+  tenths : LastPlace 1 100
+  hundredths : LastPlace 2 10
+  thousandths : LastPlace 3 1
 
--- the abscissa x, as x + 10^10
-pub data Head : ℕ → List ℕ → List ℕ → Type 0 where
-  unsigned : {h : ℕ} {t s : List ℕ} → Magnitude h t s → Head (zero-abscissa + h) t s
-  positive : {h : ℕ} {t s : List ℕ} → Magnitude h t s → Head (zero-abscissa + h) (43 ∷ t) s
-  negative : {h : ℕ} {t s : List ℕ} → Magnitude h t s → Head (zero-abscissa - h) (45 ∷ t) s
+-- whole thousandths, without a sign, and the unit
+pub data Magnitude : ℕ → ℕ → List ℕ → List ℕ → Type 0 where
+  whole : {n w x : ℕ} {t s : List ℕ} → 0 < n → n ≤ 7 → SpelledDigits n 0 w t s → LastPlace 0 x → Magnitude (w * x) x t s
+  pointed : {n k w v x : ℕ} {t u s : List ℕ} → 0 < n → n ≤ 7 → SpelledDigits n 0 w t (46 ∷ u) → SpelledDigits k w v u s → LastPlace k x → Magnitude (v * x) x t s
+
+-- the abscissa x, as x + 10^10, and the unit
+pub data Head : ℕ → ℕ → List ℕ → List ℕ → Type 0 where
+  unsigned : {h x : ℕ} {t s : List ℕ} → Magnitude h x t s → Head (zero-abscissa + h) x t s
+  positive : {h x : ℕ} {t s : List ℕ} → Magnitude h x t s → Head (zero-abscissa + h) x (43 ∷ t) s
+  negative : {h x : ℕ} {t s : List ℕ} → Magnitude h x t s → Head (zero-abscissa - h) x (45 ∷ t) s
 
 -- ---- "Values": the kinds and how they are spelled. True: directly after a blank
 
@@ -121,8 +128,8 @@ pub data Body (R : Rules) : ℕ → ℕ → Bool → List ℕ → List ℕ → T
   end : {p : ℕ} → Body R (R .points) p false [] []
   indent : {i p b : ℕ} {c : Bool} {ys s : List ℕ} → Blank (R .tabs) b → Body R i p c ys s → Body R i p c ys (b ∷ s)
   passed : {i p : ℕ} {c : Bool} {ys t s : List ℕ} → LineEnd t s → Body R i p c ys s → Body R i p c ys t
-  row : {i j p e h : ℕ} {c d : Bool} {vs ys t u s : List ℕ} {r : Form}
-      → Head h t u → Belongs c i j → R .passing h j ≡ true
+  row : {i j p e h x : ℕ} {c d : Bool} {vs ys t u s : List ℕ} {r : Form}
+      → Head h x t u → Belongs c i j → R .passing h x j ≡ true
       → Line (R .tabs) false (first c) p vs r e u s → EndsInDif r d
       → Body R (i + length vs) e d ys s
       → Body R i p c (vs ++ ys) t

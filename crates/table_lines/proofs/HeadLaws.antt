@@ -6,7 +6,7 @@ use Prim.Native.Nat.{ℕ, zero, suc, _+_, _-_, _*_, _^_, _≤_, _<_}
 use native.Mathlib.Omega.{arith}
 use native.Mathlib.Numerals.{add-one}
 use native.Mathlib.Nat.{mul-lt-mul-of-pos-right, mul-assoc}
-use lib.Dec.{ltb, leb, lit<}
+use lib.Dec.{ltb, leb, lit<, lit≤}
 use lib.ListN.{length, getD, drop}
 use lib.Seq.{drop-drop}
 use borrow.Author.Tests.{ne-eqb, lt-ltb, le-ltb, lt-leb, le-leb, ltb-true, ltb-false}
@@ -20,7 +20,7 @@ use Rattle.alphabet_spec.specs.KindLaws.{Back, kind-back}
 use Rattle.alphabet_spec.specs.DigitLaws.{digit-at}
 use Rattle.alphabet.specs.Ran.{Ran, ran-is, ran-below}
 use Rattle.table_spec.specs.Values.{headed-at}
-use Rattle.table_spec.specs.Reading.{Tokens, head, fault, Mode, fresh, inner, Rest, starts, scaled, pointed, thousandths, headed, opening, step}
+use Rattle.table_spec.specs.Reading.{Tokens, head, fault, Mode, fresh, inner, Rest, starts, unit, scaled, pointed, thousandths, headed, opening, step}
 use Rattle.table_lines.specs.Seen.{behind, later-seen, seen-kind, seen-step, not-behind}
 use Rattle.table_lines.specs.Ends.{LineOpens}
 use Rattle.table_lines.specs.Heads.{Scaled, Pointed, Topped, Headed}
@@ -40,14 +40,15 @@ clear-after {s} {i} {v} {most} {w} {j} {e} r h =
 -- ---- after the whole number
 
 -- three digits in all
-powers : (k : ℕ) → k ≤ 3 → (10 ^ k * 10 ^ (3 - k) ≡ 1000) × (0 < 10 ^ (3 - k))
-powers zero h = (refl, lit< tt)
-powers (suc zero) h = (refl, lit< tt)
-powers (suc (suc zero)) h = (refl, lit< tt)
-powers (suc (suc (suc zero))) h = (refl, lit< tt)
+powers : (k : ℕ) → k ≤ 3 → (10 ^ k * unit k ≡ 1000) × (0 < unit k) × (unit k ≤ 1000)
+powers zero h = (refl, lit< tt, lit≤ tt)
+powers (suc zero) h = (refl, lit< tt, lit≤ tt)
+powers (suc (suc zero)) h = (refl, lit< tt, lit≤ tt)
+powers (suc (suc (suc zero))) h = (refl, lit< tt, lit≤ tt)
 powers (suc (suc (suc (suc k)))) h = absurd (omega arith)
 
-pub whole-only : {s : List ℕ} {i w e : ℕ} (minus : Bool) → i ≤ length s → e ≡ entryAt s i → w < 10000000 → (e ≡ 160 → ⊥) → Pointed s i w minus (Abscissa (headed-at minus (w * 1000)) i e)
+pub whole-only : {s : List ℕ} {i w e : ℕ} (minus : Bool) → i ≤ length s → e ≡ entryAt s i → w < 10000000 → (e ≡ 160 → ⊥)
+    → Pointed s i w minus (Abscissa (headed-at minus (w * 1000)) 1000 i e)
 unfolding pointed entry kind
 whole-only {s} {i} {w} {e} minus h g l n =
     let z : i - i ≡ 0 = omega arith in
@@ -59,6 +60,7 @@ whole-only {s} {i} {w} {e} minus h g l n =
       size = w * 1000;
       small = omega arith;
       is = refl;
+      coarsest = omega arith;
       law = λ m. let y : m + 0 ≡ m = omega arith in rw (starts-not s i 46 (λ x. n (g ∙ x)), z, y) refl;
     }
 
@@ -74,27 +76,28 @@ module _ {s : List ℕ} (i : ℕ) {w f j e : ℕ} (g : entryAt s i ≡ 160) (r :
   unfolding scaled
   fraction-long minus l n = after-point n ∙ rw (lt-ltb e 16 l) refl
 
-  pub fraction-small : w < 10000000 → f * 10 ^ (3 - (j - (i + 1))) ≤ 9999999999
+  pub fraction-small : w < 10000000 → f * unit (j - (i + 1)) ≤ 9999999999
   fraction-small l =
       let few = r .few in let low = r .low in let b = r .below in
       let k = j - (i + 1) in
       let x : k ≤ 3 = omega arith in
-      let p : (w + 1) * 10 ^ k * 10 ^ (3 - k) ≡ (w + 1) * 1000 = mul-assoc (w + 1) (10 ^ k) (10 ^ (3 - k)) ∙ ap (λ (z : ℕ). (w + 1) * z) (powers k x .0) in
+      let p : (w + 1) * 10 ^ k * unit k ≡ (w + 1) * 1000 = mul-assoc (w + 1) (10 ^ k) (unit k) ∙ ap (λ (z : ℕ). (w + 1) * z) (powers k x .0) in
       let q = mul-lt-mul-of-pos-right b (powers k x .1) in
       omega arith
 
-  pub fraction-read : (minus : Bool) → w < 10000000 → 16 ≤ e → Pointed s i w minus (Abscissa (headed-at minus (f * 10 ^ (3 - (j - (i + 1))))) j e)
+  pub fraction-read : (minus : Bool) → w < 10000000 → 16 ≤ e → Pointed s i w minus (Abscissa (headed-at minus (f * unit (j - (i + 1)))) (unit (j - (i + 1))) j e)
   unfolding scaled
   fraction-read minus l h =
-      let low = r .low in
+      let low = r .low in let few = r .few in
       record {
         low = omega arith;
         high = r .high;
         stands = r .stands;
         clear = λ x. clear-after r (not-behind s i (λ y. omega arith));
-        size = f * 10 ^ (3 - (j - (i + 1)));
+        size = f * unit (j - (i + 1));
         small = fraction-small l;
         is = refl;
+        coarsest = powers (j - (i + 1)) (omega arith) .2;
         law = λ n. let z : suc (n + (j - (i + 1))) ≡ n + (j - i) = omega arith in after-point n ∙ rw (le-ltb e 16 h, z) refl;
       }
 
@@ -121,15 +124,16 @@ module _ {s : List ℕ} (i : ℕ) {v most w j e : ℕ} (minus : Bool) (c : Byte)
   no-fraction l p = seen-kind s i fresh c h k ∙ f _ ∙ rw (thousandths-at l, p (j - (i + 1))) refl
 
   -- its bytes, whatever follows them
-  head-bytes : {x n d : ℕ} → 16 ≤ e → Scaled s j w minus x n d → (K : Rest) → opening K i (drop (suc i) s) (kind tabs-too (getD s i 0)) ≡ head i x (K (n - suc i) (inner false))
-  head-bytes {x} {n} {d} l p K =
+  head-bytes : {x u n d : ℕ} → 16 ≤ e → Scaled s j w minus x u n d
+      → (K : Rest) → opening K i (drop (suc i) s) (kind tabs-too (getD s i 0)) ≡ head i x u (K (n - suc i) (inner false))
+  head-bytes {x} {u} {n} {d} l p K =
       let low = r .low in let a = p .low in
       let z : j - (i + 1) + (n - j) ≡ n - suc i = omega arith in
       rw (at-kind s i h ∙ k) (f K ∙ rw (thousandths-at l, p .law (j - (i + 1)), z, ← p .is) refl)
 
-  pub topped : {x n d : ℕ} → 16 ≤ e → Scaled s j w minus x n d → Topped s i x n d
+  pub topped : {x u n d : ℕ} → 16 ≤ e → Scaled s j w minus x u n d → Topped s i x u n d
   unfolding step
-  topped {x} {n} {d} l p =
+  topped {x} {u} {n} {d} l p =
       let low = r .low in let a = p .low in let b = p .small in
       record {
         low = omega arith;
@@ -137,13 +141,14 @@ module _ {s : List ℕ} (i : ℕ) {v most w j e : ℕ} (minus : Bool) (c : Byte)
         stands = p .stands;
         clear = p .clear (clear-after r (not-behind s i nb));
         small = small-head minus (p .size) x (p .is) b;
+        coarsest = p .coarsest;
         bytes = head-bytes l p;
-        law = seen-step s i fresh h ∙ head-bytes l p _ ∙ ap (head i x) (later-seen s (suc i) n (inner false) (omega arith) (p .high));
+        law = seen-step s i fresh h ∙ head-bytes l p _ ∙ ap (head i x u) (later-seen s (suc i) n (inner false) (omega arith) (p .high));
       }
 
   -- whatever follows the whole number
   pub headed-by : 16 ≤ e → (x : HeadRead) → Pointed s j w minus x → Headed s i x
-  headed-by l (Abscissa x n d) p = topped l p
+  headed-by l (Abscissa x u n d) p = topped l p
   headed-by l NoHead p = no-fraction l p
 
 -- ---- the first byte of a line

@@ -7,11 +7,11 @@ use native.Mathlib.Omega.{arith}
 use lib.ListN.{getD, drop}
 use Rattle.terms.specs.Logic.{zero-one}
 use Rattle.alphabet_spec.specs.Kinds.{tabs-too}
-use Rattle.alphabet_spec.specs.Digits.{Run, long, run, digits, some}
+use Rattle.alphabet_spec.specs.Digits.{digits, some}
 use Rattle.alphabet_spec.specs.Bytes.{Byte, digit, lead, sign, quest, blank, point, lf, cr, dollar, other, kind}
 use Rattle.alphabet_spec.specs.Entries.{code, entry}
 use Rattle.alphabet_spec.specs.EntryLaws.{at-entry}
-use Rattle.table_spec.specs.Reading.{Tokens, over, fault, head, value, line, Mode, fresh, headed, thousandths, opening, step}
+use Rattle.table_spec.specs.Reading.{Tokens, over, fault, head, HeadDigits, no-head, sized, value, line, Mode, fresh, headed, thousandths, opening, step}
 use Rattle.table_lines.specs.Seen.{seen, seen-step}
 use Rattle.table_lines.specs.Ends.{Blanked, Ended, Started}
 use Rattle.table_lines.specs.Heads.{Topped, Headed}
@@ -44,7 +44,7 @@ line-end-unique s i Bad Bad a b = refl
 abbrev sort : Tokens → ℕ
 sort (over a) = 0
 sort (fault c a) = c
-sort (head a h r) = 4
+sort (head a h u r) = 4
 sort (value a v r) = 0
 sort (line r) = 0
 
@@ -52,7 +52,7 @@ sort (line r) = 0
 abbrev place : Tokens → ℕ
 place (over a) = a
 place (fault c a) = a
-place (head a h r) = a
+place (head a h u r) = a
 place (value a v r) = a
 place (line r) = 0
 
@@ -60,9 +60,9 @@ place (line r) = 0
 abbrev Shows : ℕ → Tokens → Type 0
 Shows a t = (sort t ≡ 4) × (place t ≡ a)
 
-headed-shows : (K : ℕ → Mode → Tokens) (a : ℕ) (m : Bool) (x : Run) → Shows a (headed K a m x)
-headed-shows K a m long = (refl, refl)
-headed-shows K a m (run h n) = (refl, refl)
+headed-shows : (K : ℕ → Mode → Tokens) (a : ℕ) (m : Bool) (x : HeadDigits) → Shows a (headed K a m x)
+headed-shows K a m no-head = (refl, refl)
+headed-shows K a m (sized h u n) = (refl, refl)
 
 -- a byte below a point's entry, and no blank, begins a line's first token
 opening-shows : (K : ℕ → Mode → Tokens) (a : ℕ) (t : List ℕ) (c : Byte) → code c < 160 → (code c ≡ 112 → ⊥) → Shows a (opening K a t c)
@@ -97,15 +97,15 @@ row-start-unique s i (start.Bad j) (start.Bad k) a b = ap start.Bad (ap place (s
 
 -- ---- head: its bytes are so many
 
-topped-same : {s : List ℕ} {i h j e g k f : ℕ} → Topped s i h j e → Topped s i g k f → Abscissa h j e ≡ Abscissa g k f
-topped-same {i = i} {h} {j} {e} {g} {k} {f} x y =
+topped-same : {s : List ℕ} {i h u j e g v k f : ℕ} → Topped s i h u j e → Topped s i g v k f → Abscissa h u j e ≡ Abscissa g v k f
+topped-same {i = i} {h} {u} {j} {e} {g} {v} {k} {f} x y =
     let z = sym (x .bytes (λ n m. over n)) ∙ y .bytes (λ n m. over n) in
-    let a : h ≡ g = cc in let b : j - suc i ≡ k - suc i = cc in
+    let a : h ≡ g = cc in let d : u ≡ v = cc in let b : j - suc i ≡ k - suc i = cc in
     let l = x .low in let m = y .low in let c : j ≡ k = omega arith in
-    rw (x .stands, y .stands, a, c) refl
+    rw (x .stands, y .stands, a, d, c) refl
 
 pub head-unique : (s : List ℕ) (i : ℕ) (x y : HeadRead) → Headed s i x → Headed s i y → x ≡ y
-head-unique s i (Abscissa h j e) (Abscissa g k f) a b = topped-same a b
-head-unique s i (Abscissa h j e) NoHead a b = let z = sym (a .law) ∙ b in zero-one cc
-head-unique s i NoHead (Abscissa g k f) a b = let z = sym (b .law) ∙ a in zero-one cc
+head-unique s i (Abscissa h u j e) (Abscissa g v k f) a b = topped-same a b
+head-unique s i (Abscissa h u j e) NoHead a b = let z = sym (a .law) ∙ b in zero-one cc
+head-unique s i NoHead (Abscissa g v k f) a b = let z = sym (b .law) ∙ a in zero-one cc
 head-unique s i NoHead NoHead a b = refl

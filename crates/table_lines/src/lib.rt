@@ -1,10 +1,10 @@
 // Lines of a body (01, "Spelling of a body"): blanks, comments, ends of lines, the start of the next line, and heads. Inner functions: the byte table is lent to them.
 ghost use mathlib.Core.Path.{_≡_};
-ghost use Prim.Native.Nat.{_-_, _<_, _≤_, _^_};
+ghost use Prim.Native.Nat.{_<_, _≤_};
 ghost use lib.ListN.{length};
 ghost use Rattle.alphabet_spec.specs.Entries.{entryAt, table};
 ghost use Rattle.table_spec.specs.Values.{headed-at};
-ghost use Rattle.table_spec.specs.Reading.{bare};
+ghost use Rattle.table_spec.specs.Reading.{bare, unit};
 ghost use Rattle.table_lines.specs.declared.HeadRead.{HeadRead};
 ghost use Rattle.table_lines.specs.Seen.{here};
 ghost use Rattle.table_lines.specs.Ends.{Blanked, Commented, Ended, LineOpens, Started};
@@ -35,9 +35,9 @@ pub enum Start {
     Bad(usize),
 }
 
-// A head: its abscissa plus 10,000,000,000, the place after it and the entry there; or what is no head.
+// A head: its abscissa plus 10,000,000,000, what its last written place is worth in thousandths, the place after it and the entry there; or what is no head.
 pub enum HeadRead {
-    Abscissa(u64, usize, u64),
+    Abscissa(u64, u64, usize, u64),
     NoHead,
 }
 
@@ -138,10 +138,10 @@ pub fn bare_line(t: &[u8; 256], s: &[u8], at: usize) -> bool
     }
 }
 
-// Thousandths: what the last of n digits after the point is worth.
+// A head's unit (02, T-03), in thousandths: what the last of n digits after the point is worth.
 fn worth(n: usize) -> u64
     requires { ⌜ n ≤ 3 ⌝ }
-    ensures { λ r. ⌜ r ≡ 10 ^ (3 - n) ⌝ }
+    ensures { λ r. ⌜ r ≡ unit n ⌝ }
 {
     match n {
         0 => 1000,
@@ -151,15 +151,15 @@ fn worth(n: usize) -> u64
     }
 }
 
-// A head of so many thousandths.
-fn abscissa(minus: bool, size: u64, at: usize, e: u64) -> HeadRead
+// A head of so many thousandths, with its unit.
+fn abscissa(minus: bool, size: u64, unit: u64, at: usize, e: u64) -> HeadRead
     requires { ⌜ size ≤ 9999999999 ⌝ }
-    ensures { λ r. ⌜ r ≡ HeadRead.Abscissa (headed-at minus size) at e ⌝ }
+    ensures { λ r. ⌜ r ≡ HeadRead.Abscissa (headed-at minus size) unit at e ⌝ }
 {
     if minus {
-        return HeadRead::Abscissa(10000000000 - size, at, e);
+        return HeadRead::Abscissa(10000000000 - size, unit, at, e);
     }
-    HeadRead::Abscissa(10000000000 + size, at, e)
+    HeadRead::Abscissa(10000000000 + size, unit, at, e)
 }
 
 // After the whole number of a head, which was read as w: perhaps a point and at most three digits.
@@ -170,7 +170,7 @@ fn fraction(t: &[u8; 256], s: &[u8], w: Run, minus: bool) -> HeadRead
     let at = w.at;
     let v = w.v;
     if w.e != POINT {
-        return abscissa(minus, v * 1000, at, w.e);
+        return abscissa(minus, v * 1000, 1000, at, w.e);
     }
     let next = at + 1;
     let f = digits(t, s, next, v, 3);
@@ -178,8 +178,9 @@ fn fraction(t: &[u8; 256], s: &[u8], w: Run, minus: bool) -> HeadRead
         return HeadRead::NoHead;
     }
     let end = f.at;
-    let size = f.v * worth(end - next);
-    abscissa(minus, size, end, f.e)
+    let unit = worth(end - next);
+    let size = f.v * unit;
+    abscissa(minus, size, unit, end, f.e)
 }
 
 // The head at a place whose entry is e.

@@ -39,20 +39,20 @@ module _ (fr : Frame) (s : List ℕ) (r : Row) (at : ℕ) where
   unfolding judge
   line-four h out out' p w b = rw h refl
 
-  module _ {h j f : ℕ} (t : Topped s at h j f) where
+  module _ {h u j f : ℕ} (t : Topped s at h u j f) where
     pub bare-here : bare (here s j) ≡ bare (seen s j (inner false))
     bare-here = rw (t .clear) refl
 
     line-checked : (p : ℕ) (w : Spot) → Between r p w → judge (frame-rules fr) (seen s at fresh) (r .k) p w
-        ≡ checked (frame-rules fr) (λ c. judge (frame-rules fr) (seen s j (inner false)) (r .k) p (first c)) at h (bare (seen s j (inner false))) (r .k) (r .dif)
+        ≡ checked (frame-rules fr) (λ c. judge (frame-rules fr) (seen s j (inner false)) (r .k) p (first c)) at h u (bare (seen s j (inner false))) (r .k) (r .dif)
     unfolding judge
     line-checked p w b = rw (t .law, b .form) refl
 
-    pub line-six : passes (fr .first) (fr .last) (fr .points) h (index (r .dif) (r .k)) ≡ false → (out out' : List ℤ) → LineSays (frame-rules fr) s r at out out' (linewise.Refused 6 at)
+    pub line-six : passes (fr .first) (fr .last) (fr .points) h u (index (r .dif) (r .k)) ≡ false → (out out' : List ℤ) → LineSays (frame-rules fr) s r at out out' (linewise.Refused 6 at)
     unfolding checked
     line-six e out out' p w b = line-checked p w b ∙ rw e refl
 
-    module _ (e : passes (fr .first) (fr .last) (fr .points) h (index (r .dif) (r .k)) ≡ true) where
+    module _ (e : passes (fr .first) (fr .last) (fr .points) h u (index (r .dif) (r .k)) ≡ true) where
       pub line-seven : bare (here s j) ≡ true → (out out' : List ℤ) → LineSays (frame-rules fr) s r at out out' (linewise.Refused 7 at)
       unfolding checked
       line-seven g out out' p w b = line-checked p w b ∙ rw (e, sym bare-here ∙ g) refl

@@ -37,7 +37,7 @@ pub record Reached (R : Rules) (s : List ℕ) (out₀ out : List ℤ) (r : Row) 
 pub reached-same : {R : Rules} {s : List ℕ} {out₀ out : List ℤ} {r : Row} → Reached R s out₀ out r → length out ≡ length out₀
 reached-same {out₀ = out₀} g = ap length (g .stored) ∙ length-sets out₀ 0 (map entry-for (g .points))
 
-pub reached-start : (N : ℕ) (passing : ℕ → ℕ → Bool) (s : List ℕ) (out : List ℤ)
+pub reached-start : (N : ℕ) (passing : ℕ → ℕ → ℕ → Bool) (s : List ℕ) (out : List ℤ)
     → Reached (record { points = N; passing = passing; tabs = Rattle.alphabet_spec.specs.Kinds.tabs-too }) s out out (record { at = 0; k = 0; q = 0; dif = false })
 unfolding read seen
 reached-start N passing s out =

@@ -79,8 +79,8 @@ fn read_line(
     let q = r.q;
     match head(t, s, at, e) {
         HeadRead::NoHead => LineRead::Refused(4, at),
-        HeadRead::Abscissa(h, j, f) => {
-            if !fr.passes(h, index_of(dif, k)) {
+        HeadRead::Abscissa(h, unit, j, f) => {
+            if !fr.passes(h, unit, index_of(dif, k)) {
                 return LineRead::Refused(6, at);
             }
             if bare_line(t, s, j) {

@@ -7,7 +7,7 @@ use lib.IntN.{ℤ}
 use lib.ListN.{length, take}
 use lib.Seq.{sets}
 use Rattle.terms.specs.Logic.{pick}
-use Rattle.table_spec.specs.Frame.{frame-legal, abscissa, ordinate-of, apart, nearest}
+use Rattle.table_spec.specs.Frame.{frame-legal, abscissa, ordinate-of, nearest}
 use Rattle.table_spec.specs.Values.{isDif}
 use Rattle.table_spec.specs.Numerals.{headText}
 use Rattle.table_spec.specs.declared.Style.{Style}
@@ -69,13 +69,11 @@ pub data Outcome : Type 0 where
 abbrev pub fitted : ℕ → List ℕ → Outcome
 fitted space t = pick (ltb space (length t)) (declined 15) (wrote t)
 
--- "Writer order: 1 (frame), 2, 14, 15": F, L and N as they come, the lent ordinates, and how many bytes there is room for
+-- "Writer order: 1 (frame), 2, .. 15" (02, T-03: "14 is withdrawn"): F, L and N as they come, the lent ordinates, and how many bytes there is room for
 unfoldable pub writeTable : Style → ℤ → ℤ → ℕ → List ℤ → ℕ → Outcome
 writeTable w f l n ys space =
     pick (frame-legal f l n)
-    (pick (ltb (length ys) n) (declined 2)
-    (pick (ltb (apart (abscissa l) (abscissa f)) (n - 1)) (declined 14)
-    (fitted space (written w (abscissa f) (abscissa l) n (map ordinate-of (take n ys))))))
+    (pick (ltb (length ys) n) (declined 2) (fitted space (written w (abscissa f) (abscissa l) n (map ordinate-of (take n ys)))))
     (declined 1)
 
 -- the lent bytes afterwards

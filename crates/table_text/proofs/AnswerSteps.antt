@@ -2,7 +2,7 @@
 use mathlib.Core.Path.{_≡_, refl, ap, _∙_}
 use mathlib.Core.Bool.{true}
 use mathlib.Core.List.{List, map}
-use Prim.Native.Nat.{ℕ, _+_, _-_, _*_, _≤_, _<_}
+use Prim.Native.Nat.{ℕ, _+_, _*_, _≤_, _<_}
 use native.Mathlib.Omega.{arith}
 use lib.Dec.{leb}
 use lib.IntN.{ℤ}
@@ -14,7 +14,7 @@ use Rattle.frame.specs.declared.Frame.{Frame}
 use Rattle.frame.specs.declared.Framed.the-variants.{Legal, Outside}
 use Rattle.frame.specs.Legal.{framed, Sound}
 use Rattle.frame.specs.FrameLaws.{framed-outside, framed-legal}
-use Rattle.table_spec.specs.Frame.{apart, ordinate-of}
+use Rattle.table_spec.specs.Frame.{ordinate-of}
 use Rattle.table_spec.specs.Writing.{lines-of, written, writeTable, laid}
 use Rattle.table_write_law.specs.Written.{Takes}
 use Rattle.table_write_law.specs.Lengths.{written-most}
@@ -38,29 +38,22 @@ module _ (st : Style) (fr : Frame) (ys : List ℤ) (o : List ℕ) {o' : List ℕ
   too-few h e f = rw (lt-ltb (length ys) (fr .points) h) (record { answer = e; bytes = f })
 
   module _ (h : fr .points ≤ length ys) where
-    pub too-near : apart (fr .last) (fr .first) < fr .points - 1 → r ≡ refused 14 → o' ≡ o → FramedAnswer st fr ys o o' r
+    pub too-long : length o < length (body st fr ys) → r ≡ refused 15 → o' ≡ o → FramedAnswer st fr ys o o' r
     unfolding laid
-    too-near l e f = rw (le-ltb (length ys) (fr .points) h, lt-ltb (apart (fr .last) (fr .first)) (fr .points - 1) l) (record { answer = e; bytes = f })
+    too-long k e f = rw (le-ltb (length ys) (fr .points) h, is-body st fr ys, lt-ltb (length o) (length (body st fr ys)) k) (record { answer = e; bytes = f })
 
-    pub too-long : fr .points - 1 ≤ apart (fr .last) (fr .first) → length o < length (body st fr ys) → r ≡ refused 15 → o' ≡ o → FramedAnswer st fr ys o o' r
+    pub in-room : {m : ℕ} → length (body st fr ys) ≤ length o → Put o 0 o' m (body st fr ys) → r ≡ Length m → FramedAnswer st fr ys o o' r
     unfolding laid
-    too-long l k e f =
-        rw (le-ltb (length ys) (fr .points) h, le-ltb (apart (fr .last) (fr .first)) (fr .points - 1) l, is-body st fr ys, lt-ltb (length o) (length (body st fr ys)) k)
-        (record { answer = e; bytes = f })
-
-    pub in-room : {m : ℕ} → fr .points - 1 ≤ apart (fr .last) (fr .first) → length (body st fr ys) ≤ length o → Put o 0 o' m (body st fr ys) → r ≡ Length m → FramedAnswer st fr ys o o' r
-    unfolding laid
-    in-room l k p e =
-        rw (le-ltb (length ys) (fr .points) h, le-ltb (apart (fr .last) (fr .first)) (fr .points - 1) l, is-body st fr ys, le-ltb (length o) (length (body st fr ys)) k)
+    in-room k p e =
+        rw (le-ltb (length ys) (fr .points) h, is-body st fr ys, le-ltb (length o) (length (body st fr ys)) k)
         (record { answer = e ∙ ap Length (p .next ∙ omega arith); bytes = p .stored })
 
 -- so many bytes a point, and 44 more, are enough
-pub always-room : (st : Style) (fr : Frame) (ys : List ℤ) {room : ℕ} → Sound fr → length ys ≡ fr .points → fr .points - 1 ≤ apart (fr .last) (fr .first)
+pub always-room : (st : Style) (fr : Frame) (ys : List ℤ) {room : ℕ} → Sound fr → length ys ≡ fr .points
     → 15 * fr .points + 44 ≤ room → leb (length (lines-of st (headOf fr) (map ordinate-of ys))) room ≡ true
 unfolding written headOf
-always-room st fr ys {room} s e far enough =
-    let t : Takes (fr .first) (fr .last) (fr .points) =
-    record { low-first = s .low-first; low-last = s .low-last; high-first = s .first; high-last = s .last; some = s .some; few = s .few; apart-enough = far } in
+always-room st fr ys {room} s e enough =
+    let t : Takes (fr .first) (fr .last) (fr .points) = record { low-first = s .low-first; low-last = s .low-last; high-first = s .first; high-last = s .last; some = s .some; few = s .few } in
     let m = written-most st (fr .first) (fr .last) (fr .points) (ordinates ys) t (length-map ys ordinate-of ∙ e) in
     le-leb (length (lines-of st (headOf fr) (ordinates ys))) room (omega (arith, m, enough))
 

@@ -1,7 +1,7 @@
 -- What writing a table ensures (01, "The written text" and "Refusal numbers"). Assumes nothing.
 use mathlib.Core.Path.{_≡_}
 use mathlib.Core.List.{List, map}
-use Prim.Native.Nat.{ℕ, _-_}
+use Prim.Native.Nat.{ℕ}
 use lib.Dec.{ltb}
 use lib.IntN.{ℤ}
 use lib.ListN.{length, take}
@@ -10,7 +10,7 @@ use Rattle.terms.specs.declared.TableWritten.{TableWritten}
 use Rattle.terms.specs.declared.TableWritten.the-variants.{Length, Refused}
 use Rattle.frame.specs.declared.Frame.{Frame}
 use Rattle.terms.specs.Logic.{pick}
-use Rattle.table_spec.specs.Frame.{apart, ordinate-of}
+use Rattle.table_spec.specs.Frame.{ordinate-of}
 use Rattle.table_spec.specs.Writing.{Outcome, declined, wrote, fitted, written, writeTable, laid}
 use Rattle.table_spec.specs.declared.Style.{Style}
 
@@ -35,9 +35,7 @@ Answered st f l n ys out₀ out r = Tells (writeTable st f l n ys (length out₀
 -- the same in a legal frame
 abbrev pub outcome : Style → Frame → List ℤ → ℕ → Outcome
 outcome st fr ys space =
-    pick (ltb (length ys) (fr .points)) (declined 2)
-    (pick (ltb (apart (fr .last) (fr .first)) (fr .points - 1)) (declined 14)
-    (fitted space (written st (fr .first) (fr .last) (fr .points) (map ordinate-of (take (fr .points) ys)))))
+    pick (ltb (length ys) (fr .points)) (declined 2) (fitted space (written st (fr .first) (fr .last) (fr .points) (map ordinate-of (take (fr .points) ys))))
 
 abbrev pub FramedAnswer : Style → Frame → List ℤ → List ℕ → List ℕ → TableWritten → Type 0
 FramedAnswer st fr ys out₀ out r = Tells (outcome st fr ys (length out₀)) out₀ out r

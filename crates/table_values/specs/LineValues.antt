@@ -33,7 +33,7 @@ taken N f a i p (adds vs r) = pick (leb (i + length vs) N) (given vs (f (i + len
 unfoldable pub line-says : ℕ → Tokens → ℕ → ℕ → Spot → LineValues
 line-says N (over a) i p w = whole [] p w (over a)
 line-says N (fault c a) i p w = broken [] c a
-line-says N (head a h r) i p w = whole [] p w (head a h r)
+line-says N (head a h u r) i p w = whole [] p w (head a h u r)
 line-says N (value a v r) i p w = taken N (λ j q f. line-says N r j q (after f)) a i p (says w p v)
 line-says N (line r) i p w = whole [] p w (line r)
 
@@ -81,7 +81,7 @@ module _ (R : Rules) where
   unfolding judge line-says
   line-judge (over a) i p w = judged-whole i _ (λ n. judge R (over a) n p w) refl
   line-judge (fault c a) i p w = refl
-  line-judge (head a h r) i p w = judged-whole i _ (λ n. judge R (head a h r) n p w) refl
+  line-judge (head a h u r) i p w = judged-whole i _ (λ n. judge R (head a h u r) n p w) refl
   line-judge (value a v r) i p w =
       taken-judged (λ j q f. line-says (R .points) r j q (after f)) (λ j q f. judge R r j q (after f)) a i p (says w p v) (λ j q f. line-judge r j q (after f))
   line-judge (line r) i p w = judged-whole i _ (λ n. judge R (line r) n p w) refl

@@ -1,9 +1,8 @@
 // Writing a table in one of the four forms (01, "The written text"; 02, T-02).
 ghost use mathlib.Core.Path.{_≡_};
-ghost use Prim.Native.Nat.{_-_, _≤_};
+ghost use Prim.Native.Nat.{_≤_};
 ghost use lib.Dec.{leb};
 ghost use lib.ListN.{length};
-ghost use Rattle.table_spec.specs.Frame.{apart};
 ghost use Rattle.table_spec.specs.declared.Style.the-variants.{Difdup};
 ghost use Rattle.table_spec.specs.Groups.{in-full};
 ghost use Rattle.table_spec.specs.Writing.{lines-of};
@@ -12,7 +11,6 @@ ghost use Rattle.table_text.specs.Pieces.{Put, headOf, ordinates};
 ghost use Rattle.table_text.specs.Answers.{Answered, FramedAnswer};
 use frame::Frame;
 use frame::Framed;
-use frame::distance;
 use table_spec::Style;
 use table_text::refused;
 use terms::TableWritten;
@@ -78,7 +76,7 @@ fn length_of(style: Style, ys: &[i32], fr: Frame) -> usize
 
 // Does the text in a form fit into so many bytes? It is measured only where there are fewer than always suffice.
 fn fits(style: Style, ys: &[i32], fr: Frame, room: usize) -> bool
-    requires { ⌜ Sound fr × (length (now ys) ≡ fr .points) × (fr .points - 1 ≤ apart (fr .last) (fr .first)) ⌝ }
+    requires { ⌜ Sound fr × (length (now ys) ≡ fr .points) ⌝ }
     ensures { λ r. ⌜ r ≡ leb (length (lines-of style (headOf fr) (ordinates (now (ys .entry))))) room ⌝ }
 {
     let n = fr.points;
@@ -89,7 +87,7 @@ fn fits(style: Style, ys: &[i32], fr: Frame, room: usize) -> bool
     needed <= room
 }
 
-// Writing in a legal frame: refusals 2, 14 and 15, or the text.
+// Writing in a legal frame: refusals 2 and 15, or the text.
 fn write_framed(style: Style, fr: Frame, ordinates: &[i32], text: &mut [u8]) -> TableWritten
     requires { ⌜ Sound fr ⌝ }
     ensures { λ r. ⌜ FramedAnswer style fr (now (ordinates .entry)) (now (text .entry)) (now (text .exit)) r ⌝ }
@@ -97,10 +95,6 @@ fn write_framed(style: Style, fr: Frame, ordinates: &[i32], text: &mut [u8]) -> 
     let n = fr.points;
     if ordinates.len() < n {
         return refused(2);
-    }
-    let steps = (n - 1) as u64;
-    if distance(fr.last, fr.first) < steps {
-        return refused(14);
     }
     let ys = &ordinates[..n];
     if fits(style, ys, fr, text.len()) {

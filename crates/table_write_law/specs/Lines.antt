@@ -20,7 +20,7 @@ use Rattle.table_write_law.specs.Tokens.{Inside, line-ends, headed, sqz-
 use Rattle.table_spec.specs.declared.Style.{Style}
 use Rattle.table_spec.specs.Values.{Form, Own, Gap, By, Dup, isDif, first, after, copies, lastOr}
 use Rattle.table_spec.specs.Groups.{form, sqzText, seen-after, more-of, dupText, group}
-use Rattle.table_write_law.specs.Tokens.{Inside, line-ends, headed, sqz-value, first-value, next-value, Last, more-many, more-le, many-copies, many-last, dup-value, form-last}
+use Rattle.table_write_law.specs.Tokens.{Inside, line-ends, Passing, headed, sqz-value, first-value, next-value, Last, more-many, more-le, many-copies, many-last, dup-value, form-last}
 
 -- the last ordinate has 32 bits, and is not missing after a DIF form
 pub record Ok (r : Form) (p : ℕ) : Type 0 where
@@ -39,8 +39,7 @@ last-given (By m d) p o e = o
 last-given (Dup b) p o e = o e
 
 -- heads that are spelled and pass
-module _ (st : Style) (R : Rules) (few : R .points ≤ 65536) (hd : ℕ → List ℕ) (at : ℕ → ℕ)
-    (spelled : (i : ℕ) (s : List ℕ) → i < R .points → sp.Head (at i) (hd i ++ s) s) (passing : (i : ℕ) → i < R .points → R .passing (at i) i ≡ true) where
+module _ (st : Style) (R : Rules) (few : R .points ≤ 65536) (hd : ℕ → List ℕ) (at : ℕ → ℕ) (heads : (i : ℕ) (s : List ℕ) → i < R .points → Passing R i (at i) (hd i ++ s) s) where
   abbrev Left : List ℕ → Type 0
   Left zs = (n i p : ℕ) (r : Form) (col : ℕ) → Small zs → Ok r (lastOr p (take n zs)) → n ≤ length zs → 0 < i → i + length zs ≡ R .points
       → Inside R (after r) (i + n) (lastOr p (take n zs)) (drop n zs) (text st hd zs n i p (isDif r) col)
@@ -52,7 +51,7 @@ module _ (st : Style) (R : Rules) (few : R .points ≤ 65536) (hd : ℕ → List
   check-line {ys = ys} {s = s} i p a b g l n =
       let k : i - 1 < R .points = omega arith in
       let m : Inside R (after Own) (i + 0) p ys s = rw (add-zero i) n in
-      rw append-assoc (headed (spelled (i - 1) (sqzText p ++ s) k) sp.last-given (passing (i - 1) k) (sqz-value {us = []} p a b (λ m v z. sp.check z) m))
+      rw append-assoc (headed (heads (i - 1) (sqzText p ++ s) k) sp.last-given (sqz-value {us = []} p a b (λ m v z. sp.check z) m))
 
   closes : (b : Bool) (i p : ℕ) → (b ≡ true → 0 < p) → p < 4294967296 → 0 < i → i ≡ R .points → sp.Body R i p b [] (close st hd b i p)
   unfolding close
@@ -95,7 +94,7 @@ module _ (st : Style) (R : Rules) (few : R .points ≤ 65536) (hd : ℕ → List
     opens : (c : Bool) (i p : ℕ) → (c ≡ true → (0 < p) × (0 < i)) → p < 4294967296 → i + length (y ∷ ys) ≡ R .points → sp.Body R i p c (y ∷ ys) (open-line st hd (text st hd ys) c i p y ys)
     unfolding open-line
     opens true i p g h b = check-line i p (g refl .0) h (g refl .1) (omega arith) (put-next Own i p (length (check st hd i p)) h b)
-    opens false i p g h b = let k : i < R .points = omega arith in headed (spelled i _ k) sp.next-point (passing i k) (put-first i p (length (hd i)) b)
+    opens false i p g h b = let k : i < R .points = omega arith in headed (heads i _ k) sp.next-point (put-first i p (length (hd i)) b)
 
     goes-on : (r : Form) (i p col : ℕ) → Ok r p → 0 < i → i + length (y ∷ ys) ≡ R .points → Inside R (after r) i p (y ∷ ys) (go-on st hd (text st hd ys) (isDif r) col i p y ys)
     unfolding go-on

@@ -2,16 +2,16 @@
 use mathlib.Core.Path.{_≡_, refl, _∙_}
 use mathlib.Core.Bool.{true}
 use mathlib.Core.List.{List, [], _∷_, _++_, map}
-use Prim.Native.Nat.{ℕ, zero, suc, _+_, _-_, _*_, _≤_, _<_}
+use Prim.Native.Nat.{ℕ, zero, suc, _+_, _*_, _≤_, _<_}
 use native.Mathlib.Omega.{arith}
 use lib.Dec.{ltb, leb}
 use lib.IntN.{ℤ}
 use lib.ListN.{length, take, drop, length-map}
 use lib.Seq.{length-take-le}
 use lib.Signed.{mag}
-use borrow.Author.Tests.{ltb-false, leb-true}
+use borrow.Author.Tests.{le-ltb, ltb-false, leb-true}
 use Rattle.terms.specs.Logic.{pick, by-case, both-true}
-use Rattle.table_spec.specs.Frame.{frame-legal, abscissa-legal, abscissa, apart, rules, longest-body, zero-ordinate, ordinate-of, entry-for}
+use Rattle.table_spec.specs.Frame.{frame-legal, abscissa-legal, abscissa, rules, longest-body, zero-ordinate, ordinate-of, entry-for}
 use Rattle.table_spec.specs.Writing.{declined, wrote, fitted, written, writeTable}
 use Rattle.table_spec.specs.Reading.{accept, read, readTable, stored}
 use Rattle.signed.specs.Scale.{lift-small, lower-lift}
@@ -51,6 +51,26 @@ entries-again : (zs : List ℤ) → Entries zs → map entry-for (map ordinate-o
 entries-again [] h = refl
 entries-again (z ∷ zs) h = rw (lower-lift zero-ordinate z (h .0), entries-again zs (h .1)) refl
 
+-- ---- what is written
+
+-- the writer takes every legal frame
+legal-takes : (f l : ℤ) (n : ℕ) → frame-legal f l n ≡ true → Takes (abscissa f) (abscissa l) n
+unfolding frame-legal
+legal-takes f l n e =
+    let a = both-true (abscissa-legal f) _ e in let b = both-true (abscissa-legal l) _ (a .1) in
+    let c = both-true (leb 1 n) _ (b .1) in let d = both-true (leb n 65536) _ (c .1) in
+    let x = legal-abscissa f (a .0) in let y = legal-abscissa l (b .0) in
+    record { low-first = x .0; low-last = y .0; high-first = x .1; high-last = y .1; some = leb-true 1 n (c .0); few = leb-true n 65536 (d .0) }
+
+-- so every list in a legal frame is written, where there is room: nothing is refused but by 1, 2 and 15 (02, T-03: "14 is withdrawn")
+pub always-written : (st : Style) (f l : ℤ) (n : ℕ) (es : List ℤ) (space : ℕ) → frame-legal f l n ≡ true → n ≤ length es → 15 * n + 44 ≤ space
+    → writeTable st f l n es space ≡ wrote (written st (abscissa f) (abscissa l) n (map ordinate-of (take n es)))
+unfolding writeTable
+always-written st f l n es space e h r =
+    let ys = map ordinate-of (take n es) in
+    let m = written-most st (abscissa f) (abscissa l) n ys (legal-takes f l n e) (length-map (take n es) ordinate-of ∙ length-take-le n es h) in
+    rw (e, le-ltb (length es) n h, le-ltb space (length (written st (abscissa f) (abscissa l) n ys)) (omega (arith, m, r))) refl
+
 -- ---- what was written
 
 module _ (st : Style) (f l : ℤ) (n : ℕ) (es : List ℤ) (space : ℕ) (t : List ℕ) where
@@ -58,7 +78,6 @@ module _ (st : Style) (f l : ℤ) (n : ℕ) (es : List ℤ) (space : ℕ) (t : L
   record Taken : Type 0 where
     pub legal : frame-legal f l n ≡ true
     pub enough : n ≤ length es
-    pub far : n - 1 ≤ apart (abscissa l) (abscissa f)
     pub is : written st (abscissa f) (abscissa l) n (map ordinate-of (take n es)) ≡ t
 
   never : {A : Type 0} {c : ℕ} → declined c ≡ wrote t → A
@@ -70,26 +89,16 @@ module _ (st : Style) (f l : ℤ) (n : ℕ) (es : List ℤ) (space : ℕ) (t : L
   taken : writeTable st f l n es space ≡ wrote t → Taken
   unfolding writeTable
   taken =
-      by-case (λ a. frame-legal f l n ≡ a → pick a (pick (ltb (length es) n) (declined 2)
-      (pick (ltb (apart (abscissa l) (abscissa f)) (n - 1)) (declined 14) (fitted space body))) (declined 1) ≡ wrote t → Taken)
-      (frame-legal f l n)
-      (λ _ a. by-case (λ b. ltb (length es) n ≡ b → pick b (declined 2) (pick (ltb (apart (abscissa l) (abscissa f)) (n - 1)) (declined 14) (fitted space body)) ≡ wrote t → Taken) (ltb (length es) n)
+      by-case (λ a. frame-legal f l n ≡ a → pick a (pick (ltb (length es) n) (declined 2) (fitted space body)) (declined 1) ≡ wrote t → Taken) (frame-legal f l n)
+      (λ _ a. by-case (λ b. ltb (length es) n ≡ b → pick b (declined 2) (fitted space body) ≡ wrote t → Taken) (ltb (length es) n)
       (λ _ b e. never e)
-      (λ _ b. by-case (λ c. ltb (apart (abscissa l) (abscissa f)) (n - 1) ≡ c → pick c (declined 14) (fitted space body) ≡ wrote t → Taken) (ltb (apart (abscissa l) (abscissa f)) (n - 1))
-      (λ _ c e. never e)
-      (λ _ c. by-case (λ d. pick d (declined 15) (wrote body) ≡ wrote t → Taken) (ltb space (length body))
+      (λ _ b. by-case (λ d. pick d (declined 15) (wrote body) ≡ wrote t → Taken) (ltb space (length body))
       (λ _ e. never e)
-      (λ _ e. let z : body ≡ t = cc in
-      record { legal = a; enough = ltb-false (length es) n b; far = ltb-false (apart (abscissa l) (abscissa f)) (n - 1) c; is = z })) refl) refl)
+      (λ _ e. let z : body ≡ t = cc in record { legal = a; enough = ltb-false (length es) n b; is = z })) refl)
       (λ _ a e. never e) refl
 
   takes : Taken → Takes (abscissa f) (abscissa l) n
-  unfolding frame-legal
-  takes k =
-      let a = both-true (abscissa-legal f) _ (k .legal) in let b = both-true (abscissa-legal l) _ (a .1) in
-      let c = both-true (leb 1 n) _ (b .1) in let d = both-true (leb n 65536) _ (c .1) in
-      let x = legal-abscissa f (a .0) in let y = legal-abscissa l (b .0) in
-      record { low-first = x .0; low-last = y .0; high-first = x .1; high-last = y .1; some = leb-true 1 n (c .0); few = leb-true n 65536 (d .0); apart-enough = k .far }
+  takes k = legal-takes f l n (k .legal)
 
   counted : Taken → length (map ordinate-of (take n es)) ≡ n
   counted k = length-map (take n es) ordinate-of ∙ length-take-le n es (k .enough)

@@ -40,6 +40,12 @@ pub record Inside (R : Rules) (w : Spot) (i p : ℕ) (ys t : List ℕ) : Type 0 
   pub line : sp.Line (R .tabs) false w p vs form-at end-at t rest
   pub body : sp.Body R (i + length vs) end-at (isDif form-at) us rest
 
+-- the text t is a head with the abscissa h, of some unit, and then s; and it passes for the point i
+pub record Passing (R : Rules) (i h : ℕ) (t s : List ℕ) : Type 0 where
+  pub unit : ℕ
+  pub spelled : sp.Head h unit t s
+  pub passes : R .passing h unit i ≡ true
+
 module _ {R : Rules} {i p : ℕ} {ys : List ℕ} where
   -- CR LF, and the next lines
   pub line-ends : {r : Form} {s : List ℕ} → sp.Body R i p (isDif r) ys s → Inside R (after r) i p ys (13 ∷ 10 ∷ s)
@@ -73,8 +79,8 @@ module _ {R : Rules} {i p : ℕ} {ys : List ℕ} where
   spaced {us = us} k h n = adds us n (sp.blank space (sp.value k h (n .line)))
 
   -- a head, and its line
-  pub headed : {c : Bool} {h j : ℕ} {t s : List ℕ} → sp.Head h t s → sp.Belongs c i j → R .passing h j ≡ true → Inside R (first c) i p ys s → sp.Body R i p c ys t
-  headed h b e n = rw (← n .all) (sp.row h b e (n .line) (ends (n .form-at)) (n .body))
+  pub headed : {c : Bool} {h j : ℕ} {t s : List ℕ} → Passing R j h t s → sp.Belongs c i j → Inside R (first c) i p ys s → sp.Body R i p c ys t
+  headed h b n = rw (← n .all) (sp.row (h .spelled) b (h .passes) (n .line) (ends (n .form-at)) (n .body))
 
 -- ---- one value
 

@@ -1,4 +1,4 @@
--- `table_lines::worth` meets its contract: thousandths.
+-- `table_lines::worth` meets its contract: what the last of n digits after the point is worth.
 use mathlib.Core.Path.{_≡_, refl}
 use native.Mathlib.Omega.{arith}
 use Rattle.table_lines.proofs.worth.Statement.{statement}

@@ -25,14 +25,17 @@ frame c = start c .args .fr
 abbrev row : tie.After-head → Row
 row c = start c .args .r
 
--- where the head is known: its abscissa, and that it stands there
+-- where the head is known: its abscissa and unit, and that it stands there
 abbrev read : tie.After-h → tie.After-head
 read c = c .before .before
 
 abbrev abscissa : tie.After-h → ℕ
 abscissa c = c .h .given .0 .0
 
-topped : (c : tie.After-h) → Topped (start (read c) .args .s .now) (start (read c) .args .at) (abscissa c) (c .h .given .0 .1 .0) (c .h .given .0 .1 .1 .0)
+abbrev unit : tie.After-h → ℕ
+unit c = c .h .given .0 .1 .0
+
+topped : (c : tie.After-h) → Topped (start (read c) .args .s .now) (start (read c) .args .at) (abscissa c) (unit c) (c .h .given .0 .1 .1 .0) (c .h .given .0 .1 .1 .1 .0)
 topped c = rw (c .h .given .1) at (c .before .before .head .ensures)
 
 -- where it is held against the index, and where it has passed
@@ -43,7 +46,7 @@ abbrev indexed : tie.Else1 → tie.After-index-of
 indexed c = c .before .before
 
 passed : (c : tie.Else1) → let k = known (indexed c) in let f = frame (read k) in let r = row (read k) in
-    passes (f .first) (f .last) (f .points) (abscissa k) (index (r .dif) (r .k)) ≡ true
+    passes (f .first) (f .last) (f .points) (abscissa k) (unit k) (index (r .dif) (r .k)) ≡ true
 passed c = sym (rw (indexed c .index-of .ensures) at (c .before .passes .ensures)) ∙ not-false _ (c .if1 .left)
 
 head-requires : tie.Need-head-requires
@@ -61,7 +64,7 @@ index-of-requires c κs = search needs
 passes-requires : tie.Need-passes-requires
 passes-requires c κs =
     let k = known c in let p = start (read k) .pre in let r = row (read k) in
-    (p .1, topped k .small, rw (c .index-of .ensures) (index-small (r .dif) (r .k) (p .1 .few) (p .2 .few)))
+    (p .1, topped k .small, topped k .coarsest, rw (c .index-of .ensures) (index-small (r .dif) (r .k) (p .1 .few) (p .2 .few)))
 
 returns : tie.Need-returns
 returns c =

@@ -14,7 +14,7 @@ add-if1 : tie.Need-add-if1
 add-if1 c = search needs
 
 returns : tie.Need-returns
-returns c = let a = c .before .args in let p = c .before .pre in sym (always-room (a .style) (a .fr) (a .ys .now) (p .0) (p .1) (p .2) (c .if1 .taken))
+returns c = let a = c .before .args in let p = c .before .pre in sym (always-room (a .style) (a .fr) (a .ys .now) (p .0) (p .1) (c .if1 .taken))
 
 length-of-requires : tie.Need-length-of-requires
 length-of-requires c κs = search needs

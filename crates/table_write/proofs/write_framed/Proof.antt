@@ -1,12 +1,19 @@
--- `table_write::write_framed` meets its contract: 2, 14, 15, or the text.
-use mathlib.Core.Path.{refl, sym, _∙_}
-use native.Mathlib.Omega.{arith}
+-- `table_write::write_framed` meets its contract: 2, 15, or the text.
+use mathlib.Core.Path.{_≡_, refl, sym, _∙_}
+use lib.ListN.{length, take}
 use lib.Seq.{length-take-le}
 use borrow.Author.Tests.{leb-true, leb-false}
-use Rattle.table_text.proofs.AnswerSteps.{too-few, too-near, too-long, in-room}
+use Rattle.table_text.proofs.AnswerSteps.{too-few, too-long, in-room}
 use borrow.Author.Needs.{needs}
 use Rattle.table_write.proofs.write_framed.Statement.{statement}
 use Rattle.table_write.proofs.write_framed.Tie as tie
+
+-- where as many ordinates as points are lent
+abbrev start : tie.Else1 → tie.Start
+start c = c .before .before
+
+few : (c : tie.Else1) → let a = start c .args in length (take (a .fr .points) (a .ordinates .now)) ≡ a .fr .points
+few c = let a = start c .args in length-take-le (a .fr .points) (a .ordinates .now) (c .if1 .left)
 
 refused-requires : tie.Need-refused-requires
 refused-requires c κs = search needs
@@ -14,57 +21,32 @@ refused-requires c κs = search needs
 returns : tie.Need-returns
 returns c = let a = c .before .before .before .args in too-few (a .style) (a .fr) (a .ordinates .now) (a .text .now) (c .before .if1 .taken) (c .refused .ensures) refl
 
-sub-steps : tie.Need-sub-steps
-sub-steps c = search needs
-
-distance-requires : tie.Need-distance-requires
-distance-requires c κs = search needs
-
-refused-requires-2 : tie.Need-refused-requires-2
-refused-requires-2 c κs = search needs
-
-returns-2 : tie.Need-returns-2
-returns-2 c =
-    let b = c .before .before .before in
-    let a = b .before .before .args in
-    too-near (a .style) (a .fr) (a .ordinates .now) (a .text .now) (b .if1 .left) (omega (arith, c .before .if2 .taken, c .before .before .distance .ensures))
-    (c .refused2 .ensures) refl
-
 slice-aggregate-ys : tie.Need-slice-aggregate-ys
-slice-aggregate-ys c = let a = c .before .before .before .before .before .args in sym (length-take-le (a .fr .points) (a .ordinates .now) (c .before .before .before .if1 .left))
+slice-aggregate-ys c = sym (few (c .before))
 
 fits-requires : tie.Need-fits-requires
-fits-requires c κs =
-    let s = c .before .before .before .before .before in
-    let few = length-take-le (s .args .fr .points) (s .args .ordinates .now) (c .before .before .before .if1 .left) in
-    (s .pre, few, omega (arith, c .before .if2 .left, c .before .before .distance .ensures))
+fits-requires c κs = (start (c .before) .pre, few (c .before))
 
 lay-requires : tie.Need-lay-requires
 lay-requires c κs =
-    let b = c .before .before .before .before .before .before in
-    let s = b .before .before in
-    let few = length-take-le (s .args .fr .points) (s .args .ordinates .now) (b .if1 .left) in
-    (s .pre, few, leb-true _ _ (sym (c .before .before .fits2 .ensures) ∙ c .before .if3 .taken))
+    let t = c .before in let e = t .before .before .before in
+    (start e .pre, few e, leb-true _ _ (sym (t .before .fits2 .ensures) ∙ t .if2 .taken))
 
 same-length : tie.Need-same-length
 same-length c = search needs
 
+returns-2 : tie.Need-returns-2
+returns-2 c =
+    let l = c .before .before in let t = l .before .before in let e = t .before .before .before in let a = start e .args in
+    in-room (a .style) (a .fr) (a .ordinates .now) (a .text .now) (e .if1 .left) (leb-true _ _ (sym (t .before .fits2 .ensures) ∙ t .if2 .taken)) (l .lay .ensures) refl
+
+refused-requires-2 : tie.Need-refused-requires-2
+refused-requires-2 c κs = search needs
+
 returns-3 : tie.Need-returns-3
 returns-3 c =
-    let b = c .before .before .before .before .before .before .before in
-    let a = b .before .before .before .before .args in
-    in-room (a .style) (a .fr) (a .ordinates .now) (a .text .now) (b .before .before .if1 .left) (omega (arith, b .if2 .left, b .before .distance .ensures))
-    (leb-true _ _ (sym (c .before .before .before .before .before .fits2 .ensures) ∙ c .before .before .before .before .if3 .taken)) (c .before .before .lay .ensures) refl
-
-refused-requires-3 : tie.Need-refused-requires-3
-refused-requires-3 c κs = search needs
-
-returns-4 : tie.Need-returns-4
-returns-4 c =
-    let b = c .before .before .before .before in
-    let a = b .before .before .before .before .args in
-    too-long (a .style) (a .fr) (a .ordinates .now) (a .text .now) (b .before .before .if1 .left) (omega (arith, b .if2 .left, b .before .distance .ensures))
-    (leb-false _ _ (sym (c .before .before .fits2 .ensures) ∙ c .before .if3 .left)) (c .refused3 .ensures) refl
+    let f = c .before .before in let e = f .before .before in let a = start e .args in
+    too-long (a .style) (a .fr) (a .ordinates .now) (a .text .now) (e .if1 .left) (leb-false _ _ (sym (f .fits2 .ensures) ∙ c .before .if2 .left)) (c .refused2 .ensures) refl
 
 pub write-framed-spec : {M : Type 1} → statement M
 write-framed-spec =
@@ -72,14 +54,10 @@ write-framed-spec =
     (tie.spec
     refused-requires
     returns
-    sub-steps
-    distance-requires
-    refused-requires-2
-    returns-2
     slice-aggregate-ys
     fits-requires
     lay-requires
     same-length
-    returns-3
-    refused-requires-3
-    returns-4)
+    returns-2
+    refused-requires-2
+    returns-3)
