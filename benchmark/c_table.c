@@ -1,4 +1,4 @@
-/* Readers of table bodies with all checks of document 01, in plain C. */
+/* Readers of table bodies with all checks of documents 01 and 02 (T-03), in plain C. */
 #include "c_table.h"
 
 #include <string.h>
@@ -81,15 +81,16 @@ static const uint8_t *line_end(const uint8_t *p, const uint8_t *end)
     return NULL;
 }
 
-/* A head: its end (NULL if it is misspelled) and its value in thousandths. */
+/* A head: its end (NULL if it is misspelled), its value and the unit of its last written place, both in thousandths. */
 struct head {
     const uint8_t *end;
-    int64_t thousandths;
+    int64_t thousandths, unit;
 };
 
 static struct head read_head(const uint8_t *p, const uint8_t *end)
 {
-    const struct head misspelled = {NULL, 0};
+    static const int64_t units[] = {1000, 100, 10, 1};
+    const struct head misspelled = {NULL, 0, 0};
     bool minus = *p == '-';
     if (*p == '-' || *p == '+')
         p++;
@@ -106,19 +107,19 @@ static struct head read_head(const uint8_t *p, const uint8_t *end)
         if (places > 3)
             return misspelled;
     }
-    for (; places < 3; places++)
-        h *= 10;
-    return (struct head){p, minus ? -h : h};
+    h *= units[places];
+    return (struct head){p, minus ? -h : h, units[places]};
 }
 
-/* Whether a head of h thousandths passes for point i. */
-ALWAYS_INLINE bool head_passes(const struct frame *f, int64_t h, int64_t i)
+/* Whether a head passes for point i: within less than half a spacing, or within half a unit, the half included. */
+ALWAYS_INLINE bool head_passes(const struct frame *f, const struct head *head, int64_t i)
 {
     if (f->points == 1)
-        return h == f->first;
+        return head->thousandths == f->first;
     int64_t steps = f->points - 1, span = f->last - f->first;
-    int64_t off = (h - f->first) * steps - i * span;
-    return 2 * (off < 0 ? -off : off) < (span < 0 ? -span : span);
+    int64_t off = (head->thousandths - f->first) * steps - i * span;
+    int64_t twice = 2 * (off < 0 ? -off : off);
+    return twice < (span < 0 ? -span : span) || twice <= head->unit * steps;
 }
 
 /* The number that starts with `lead` and goes on with the digits at *p, which are passed over. */
@@ -186,7 +187,7 @@ ALWAYS_INLINE uint64_t pass(const struct frame *f, struct text body, bool storin
         if (!read.end)
             REFUSE(4, p);
         bool check = form == SLOPE; /* the next value repeats the last point */
-        if (!head_passes(f, read.thousandths, i - check))
+        if (!head_passes(f, &read, i - check))
             REFUSE(6, head);
         p = read.end;
 

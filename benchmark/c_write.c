@@ -233,15 +233,12 @@ static size_t put_text(uint64_t form, const struct frame *f, const int32_t *rest
     return lay_out(form, f, y, true, text);
 }
 
-/* Refusals 1, 2 and 14; 0 if there is none. */
+/* Refusals 1 and 2; 0 if there is none. */
 ALWAYS_INLINE uint64_t judge_table(int64_t first, int64_t last, size_t points, size_t n)
 {
     if (!c_frame_in_limits(first, last, points))
         return 1;
-    if (n < points)
-        return 2;
-    int64_t span = last < first ? first - last : last - first;
-    return span < (int64_t)points - 1 ? 14 : 0;
+    return n < points ? 2 : 0;
 }
 
 uint64_t c_write_form(uint64_t form, int64_t first, int64_t last, size_t points, const int32_t *ordinates, size_t n,

@@ -1,5 +1,5 @@
-"""A separate writer after the rules of document 01 ("The written text") and 02 (T-02), for the texts of tables.txt: it
-uses no output of the one in Rattle. tools/samples runs it."""
+"""A separate writer after the rules of document 01 ("The written text") and 02 (T-02, T-03), for the texts of
+tables.txt: it uses no output of the one in Rattle. tools/samples runs it."""
 from fractions import Fraction
 from math import floor
 
@@ -95,7 +95,5 @@ def answer(first, last, n, ys, room, form):
         return 1, ""
     if len(ys) < n:
         return 2, ""
-    if abs(last - first) < n - 1:
-        return 14, ""
     text = write(first, last, ys[:n], form)
     return (0, text) if len(text) <= room else (15, "")

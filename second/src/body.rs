@@ -1,6 +1,6 @@
 //! Reading the body of a table: lines first, then tokens, then their meaning (01, Spelling of a body).
 
-use crate::frame::{refusal, Frame, Refusal, LARGEST_ORDINATE, LONGEST, MISSING};
+use crate::frame::{refusal, Frame, Head, Refusal, LARGEST_ORDINATE, LONGEST, MISSING, UNITS};
 
 /// A line without its line end and without its comment, and the place where it starts.
 struct Line<'a> {
@@ -11,8 +11,8 @@ struct Line<'a> {
 /// What a token is. The last three stand for what is not spelled as it should be.
 #[derive(Clone, Copy, Debug, PartialEq, Eq)]
 enum Kind {
-    /// A head of so many thousandths.
-    Head(i128),
+    /// A head.
+    Head(Head),
     /// An AFFN, PAC or SQZ value.
     Actual(i128),
     /// A DIF value.
@@ -139,9 +139,9 @@ fn head(bytes: &[u8]) -> (Kind, usize) {
     if fraction.len() > 3 {
         return (Kind::NoHead, 1);
     }
-    let thousandths = number_of(fraction) * [1000, 100, 10, 1][fraction.len()];
-    let magnitude = number_of(whole) * 1000 + thousandths;
-    (Kind::Head(sign_of(bytes).unwrap_or(1) * magnitude), length)
+    let unit = UNITS[fraction.len()];
+    let magnitude = number_of(whole) * 1000 + number_of(fraction) * unit;
+    (Kind::Head(Head { thousandths: sign_of(bytes).unwrap_or(1) * magnitude, unit }), length)
 }
 
 /// A number of 1 to 10 digits with this sign, or a misspelled value; `before` counts a sign's byte.
@@ -244,14 +244,32 @@ impl Meaning {
     }
 }
 
-/// The table as far as it was read.
+/// The table as far as it was read, and the heads that were judged, each with its index.
 struct Reading {
     frame: Frame,
     given: Vec<Option<i128>>,
     line_before_ended_in_difference: bool,
+    heads: Vec<(Head, u64)>,
 }
 
 impl Reading {
+    /// Reads all lines of a body that keeps its limits.
+    fn body(&mut self, body: &[u8]) -> Result<Vec<i32>, Refusal> {
+        for line in lines(body) {
+            let tokens = tokens(&line);
+            if !tokens.is_empty() {
+                self.line(&tokens)?;
+            }
+        }
+        if (self.given.len() as u64) < self.frame.points {
+            return Err(refusal(12, body.len()));
+        }
+        if self.line_before_ended_in_difference {
+            return Err(refusal(13, body.len()));
+        }
+        Ok(self.given.iter().map(|y| y.map_or(MISSING, |y| y as i32)).collect())
+    }
+
     /// Reads one line that is not passed over.
     fn line(&mut self, tokens: &[Token]) -> Result<(), Refusal> {
         let check = self.line_before_ended_in_difference;
@@ -265,12 +283,15 @@ impl Reading {
     }
 
     /// Judges the first token of a line: 3, 4, 6, 7.
-    fn head(&self, tokens: &[Token], check: bool) -> Result<(), Refusal> {
+    fn head(&mut self, tokens: &[Token], check: bool) -> Result<(), Refusal> {
         let next = self.given.len() as u64;
         let index = if check { next - 1 } else { next };
+        if let Kind::Head(head) = tokens[0].kind {
+            self.heads.push((head, index));
+        }
         let fault = match tokens[0].kind {
             Kind::BadByte => Some(3),
-            Kind::Head(h) if !self.frame.head_passes(h, index) => Some(6),
+            Kind::Head(head) if !self.frame.head_passes(head, index) => Some(6),
             Kind::Head(_) if tokens.len() == 1 => Some(7),
             Kind::Head(_) => None,
             _ => Some(4),
@@ -330,25 +351,19 @@ impl Reading {
 
 /// Reads a table body into N ordinates, or refuses with 1 to 13; `room` is the length of the lent ordinate slice.
 pub fn read_body(first: i64, last: i64, points: u64, body: &[u8], room: usize) -> Result<Vec<i32>, Refusal> {
-    let frame = Frame { first, last, points };
+    judged_body(&Frame { first, last, points }, body, room).0
+}
+
+/// What `read_body` answers, and the heads that it judged, each with its index, up to the first that failed.
+pub fn judged_body(frame: &Frame, body: &[u8], room: usize) -> (Result<Vec<i32>, Refusal>, Vec<(Head, u64)>) {
     if !frame.in_limits() || body.len() > LONGEST {
-        return Err(refusal(1, 0));
+        return (Err(refusal(1, 0)), Vec::new());
     }
-    if (room as u64) < points {
-        return Err(refusal(2, 0));
+    if (room as u64) < frame.points {
+        return (Err(refusal(2, 0)), Vec::new());
     }
-    let mut reading = Reading { frame, given: Vec::new(), line_before_ended_in_difference: false };
-    for line in lines(body) {
-        let tokens = tokens(&line);
-        if !tokens.is_empty() {
-            reading.line(&tokens)?;
-        }
-    }
-    if (reading.given.len() as u64) < points {
-        return Err(refusal(12, body.len()));
-    }
-    if reading.line_before_ended_in_difference {
-        return Err(refusal(13, body.len()));
-    }
-    Ok(reading.given.iter().map(|y| y.map_or(MISSING, |y| y as i32)).collect())
+    let mut reading =
+        Reading { frame: *frame, given: Vec::new(), line_before_ended_in_difference: false, heads: Vec::new() };
+    let answer = reading.body(body);
+    (answer, reading.heads)
 }

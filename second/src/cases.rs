@@ -1,5 +1,6 @@
 //! The seeded generator of cases: bodies, tables to be written, files and records.
 
+pub mod coarse;
 pub mod damage;
 pub mod files;
 pub mod spell;
@@ -44,11 +45,12 @@ pub fn body_case(random: &mut Random, index: usize, bodies: usize) -> BodyCase {
     if random.once_in(4_000) {
         return long_run_case(random);
     }
-    match random.below(20) {
+    match random.below(24) {
         0..=6 => right_body_case(random),
         7..=13 => damaged_body_case(random),
         14..=18 => soup_case(random),
-        _ => odd_frame_case(random),
+        19 => odd_frame_case(random),
+        _ => coarse::body_case(random),
     }
 }
 

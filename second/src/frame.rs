@@ -27,6 +27,16 @@ pub fn refusal(number: u32, place: usize) -> Refusal {
     Refusal { number, place: place as u64 }
 }
 
+/// The unit of a head's last written place in thousandths, by its number of digits after the point (02, T-03).
+pub const UNITS: [i128; 4] = [1000, 100, 10, 1];
+
+/// A head: its thousandths, and the unit of its last written place.
+#[derive(Clone, Copy, Debug, PartialEq, Eq)]
+pub struct Head {
+    pub thousandths: i128,
+    pub unit: i128,
+}
+
 /// The frame of a table: first and last abscissa in thousandths, and the number of points.
 #[derive(Clone, Copy, Debug, PartialEq, Eq)]
 pub struct Frame {
@@ -54,14 +64,29 @@ impl Frame {
         self.points as i128 - 1
     }
 
-    /// Whether a head of h thousandths passes for index i (01, Checks).
-    pub fn head_passes(&self, h: i128, i: u64) -> bool {
-        let first = self.first as i128;
+    /// Whether a head passes for index i: within less than half a spacing, or within half a unit, the half included;
+    /// for N = 1, if it equals F (01, Checks; 02, T-03).
+    pub fn head_passes(&self, head: Head, i: u64) -> bool {
         if self.points == 1 {
-            return h == first;
+            return head.thousandths == self.first as i128;
         }
-        let off = h * self.steps() - first * self.steps() - i as i128 * self.span();
-        2 * off.abs() < self.span().abs()
+        self.within_spacing(head, i) || self.within_unit(head, i)
+    }
+
+    /// How far a head is off the abscissa of index i, in thousandths times N - 1.
+    pub fn off(&self, head: Head, i: u64) -> i128 {
+        let from_first = head.thousandths - self.first as i128;
+        (from_first * self.steps() - i as i128 * self.span()).abs()
+    }
+
+    /// Whether a head is within less than half a spacing.
+    pub fn within_spacing(&self, head: Head, i: u64) -> bool {
+        2 * self.off(head, i) < self.span().abs()
+    }
+
+    /// Whether a head is within half a unit of its last written place.
+    pub fn within_unit(&self, head: Head, i: u64) -> bool {
+        2 * self.off(head, i) <= head.unit * self.steps()
     }
 }
 

@@ -5,6 +5,7 @@ mod cases;
 mod difdup;
 mod file;
 mod frame;
+mod heads;
 mod line;
 mod plain;
 mod random;

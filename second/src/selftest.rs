@@ -2,11 +2,12 @@
 //! comparisons: right spellings read back, written texts read back, places found again by line and column.
 
 mod forms;
+mod heads;
 
 use crate::body::read_body;
-use crate::cases::{damage, spell, tables};
+use crate::cases::{coarse, damage, spell, tables};
 use crate::file::{read_file, record_text, FileTable, RecordText};
-use crate::frame::{refusal, Frame, Refusal, MISSING};
+use crate::frame::{refusal, Frame, Refusal, MISSING, UNITS};
 use crate::line::line_and_column;
 use crate::random::Random;
 use crate::text::{head, write_body, TextForm, FORMS};
@@ -187,8 +188,8 @@ fn check_texts(report: &mut Report) {
     written("full line", (0, 84_000), &steps, &full);
     check_new_lines(report);
     check_heads(report);
-    report.compare("14", plain(difdup(0, 2, 4, &[0; 4], 99)), Err((14, 0)));
-    report.compare("not 14", plain(difdup(0, 3, 4, &[0; 4], 99)), Ok(b"0@%U\r\n0.003@\r\n".to_vec()));
+    report.compare("no 14", plain(difdup(0, 2, 4, &[0; 4], 99)), Ok(b"0@%U\r\n0.002@\r\n".to_vec()));
+    report.compare("thousandths", plain(difdup(0, 3, 4, &[0; 4], 99)), Ok(b"0@%U\r\n0.003@\r\n".to_vec()));
     report.compare("15", plain(difdup(0, 3000, 4, &[0, 1, 0, 0], 10)), Err((15, 0)));
     report.compare("exact", plain(difdup(0, 3000, 4, &[0, 1, 0, 0], 11)).map(|t| t.len()), Ok(11));
     report.compare("2", plain(difdup(0, 2, 4, &[0; 3], 0)), Err((2, 0)));
@@ -540,14 +541,13 @@ fn check_places(report: &mut Report, random: &mut Random) {
 fn check_spellings(report: &mut Report, random: &mut Random) {
     for _ in 0..20_000 {
         let points = tables::points(random);
-        let frame = tables::frame(random, points);
+        let unit = random.pick(&UNITS) as i64;
+        let frame = if random.once_in(2) { tables::frame(random, points) } else { coarse::frame(random, points, unit) };
         let list = tables::ordinates(random, points);
         let style = spell::Style { half_heads: spell::NEVER, slips: spell::NEVER, ..spell::style(random) };
         let body = spell::body(random, &style, &frame, &list);
-        if frame.span().abs() >= frame.steps() {
-            let found = read_body(frame.first, frame.last, frame.points, &body, points);
-            report.compare(&format!("{frame:?} {}", body.escape_ascii()), plain(found), Ok(list));
-        }
+        let found = read_body(frame.first, frame.last, frame.points, &body, points);
+        report.compare(&format!("{frame:?} {}", body.escape_ascii()), plain(found), Ok(list));
     }
 }
 
@@ -559,7 +559,7 @@ fn check_written(report: &mut Report, random: &mut Random) {
         let frame = if random.once_in(2) { tables::frame(random, points) } else { tables::tight_frame(random, points) };
         let list = tables::ordinates(random, points);
         let form = random.pick(&FORMS);
-        let Ok(text) = write_body(form, &frame, &list, usize::MAX) else { continue };
+        let text = write_body(form, &frame, &list, usize::MAX).expect("the frame keeps its limits");
         let found = read_body(frame.first, frame.last, frame.points, &text, points);
         report.compare(&format!("{form:?} {frame:?} {}", text.escape_ascii()), plain(found), Ok(list));
         let long = text.split(|byte| *byte == b'\n').any(|line| line.len() > 81);
@@ -575,6 +575,7 @@ pub fn run() -> i32 {
     check_sample(report);
     check_texts(report);
     forms::check(report);
+    heads::check(report);
     check_file_sample(report);
     check_numbers(report);
     check_counts(report);

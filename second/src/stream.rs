@@ -3,6 +3,7 @@
 use crate::body::read_body;
 use crate::file::{read_file, record_text, RecordText};
 use crate::frame::Frame;
+use crate::heads::{tried, TRIED};
 use crate::line::Told;
 use crate::text::{write_body, TextForm};
 use std::collections::BTreeMap;
@@ -155,6 +156,10 @@ pub fn put_record_case(out: &mut impl Write, case: &RecordCase) -> io::Result<()
 /// A stream that is being read.
 struct Stream<R: Read> {
     input: R,
+    /// How many bodies tried each of `TRIED`.
+    tried: [usize; TRIED.len()],
+    /// How many tables with |L-F| below N-1 were written.
+    close: usize,
 }
 
 impl<R: Read> Stream<R> {
@@ -176,10 +181,14 @@ impl<R: Read> Stream<R> {
     }
 
     /// Bytes after their length.
-    fn counted(&mut self) -> io::Result<usize> {
+    fn counted(&mut self) -> io::Result<Vec<u8>> {
         let length = self.u32()? as usize;
-        self.bytes(length)?;
-        Ok(length)
+        self.bytes(length)
+    }
+
+    /// F, L and N.
+    fn frame(&mut self) -> io::Result<Frame> {
+        Ok(Frame { first: self.u64()? as i64, last: self.u64()? as i64, points: self.u64()? })
     }
 
     /// The number of a reader's answer; its place, line and column are passed over.
@@ -209,17 +218,21 @@ impl<R: Read> Stream<R> {
 
     /// The rest of a body case.
     fn body_case(&mut self) -> io::Result<(u32, usize)> {
-        self.bytes(28)?;
-        let length = self.counted()?;
+        let frame = self.frame()?;
+        let room = self.u32()? as usize;
+        let body = self.counted()?;
         let number = self.told()?;
         let count = self.u64()? as usize;
         self.bytes(4 * count)?;
-        Ok((number, length))
+        for (times, holds) in self.tried.iter_mut().zip(tried(&frame, &body, room)) {
+            *times += usize::from(holds);
+        }
+        Ok((number, body.len()))
     }
 
     /// The rest of a writer's case, which is told by its form.
     fn write_case(&mut self) -> io::Result<(&'static str, u32, usize)> {
-        self.bytes(24)?;
+        let frame = self.frame()?;
         let form = TextForm::numbered(self.u32()?);
         let count = self.u32()? as usize;
         self.bytes(4 * count + 4)?;
@@ -227,6 +240,7 @@ impl<R: Read> Stream<R> {
         self.u64()?;
         let length = self.u64()? as usize;
         self.bytes(length)?;
+        self.close += usize::from(number == 0 && frame.span().abs() < frame.steps());
         let names = ["W difdup", "W affn", "W pac", "W sqz"];
         Ok((form.map_or("W no form", |form| names[form as usize]), number, length))
     }
@@ -234,7 +248,7 @@ impl<R: Read> Stream<R> {
     /// The rest of a file case.
     fn file_case(&mut self) -> io::Result<(u32, usize)> {
         self.u32()?;
-        let length = self.counted()?;
+        let length = self.counted()?.len();
         let number = self.told()?;
         let points = self.u64()? as usize;
         self.bytes(16 + 4 * points)?;
@@ -243,7 +257,7 @@ impl<R: Read> Stream<R> {
 
     /// The rest of a record case; its number is 0 for a part, `ABSENT`, or that of the refusal.
     fn record_case(&mut self) -> io::Result<(u32, usize)> {
-        let length = self.counted()?;
+        let length = self.counted()?.len();
         self.counted()?;
         let number = self.told()?;
         self.bytes(16)?;
@@ -251,9 +265,10 @@ impl<R: Read> Stream<R> {
     }
 }
 
-/// Counts the answers of a stream by kind of case, written ones by form too, and number, and prints them.
+/// Counts the answers of a stream by kind of case, written ones by form too, and number, and what bodies' heads tried,
+/// and prints them.
 pub fn count(input: impl Read) -> io::Result<()> {
-    let mut stream = Stream { input };
+    let mut stream = Stream { input, tried: [0; TRIED.len()], close: 0 };
     let mut counts: BTreeMap<(&str, u32), usize> = BTreeMap::new();
     let mut sizes: BTreeMap<&str, (usize, usize)> = BTreeMap::new();
     while let Some(kind) = stream.kind()? {
@@ -274,5 +289,9 @@ pub fn count(input: impl Read) -> io::Result<()> {
             println!("  {answer}: {times}");
         }
     }
+    for (what, times) in TRIED.iter().zip(stream.tried) {
+        println!("bodies, {what}: {times}");
+    }
+    println!("tables with |L-F| below N-1, written: {}", stream.close);
     Ok(())
 }

@@ -78,7 +78,7 @@ fn thousandths(number: i128) -> Vec<u8> {
     long.trim_end_matches('0').trim_end_matches('.').as_bytes().to_vec()
 }
 
-/// Writes a table in a form, or refuses with 1, 2, 14, 15 in this order; `room` is the number of lent bytes.
+/// Writes a table in a form, or refuses with 1, 2, 15 in this order (02, T-03); `room` is the number of lent bytes.
 pub fn write_body(form: TextForm, frame: &Frame, ordinates: &[i32], room: usize) -> Result<Vec<u8>, Refusal> {
     let points = frame.points;
     if !frame.in_limits() {
@@ -86,9 +86,6 @@ pub fn write_body(form: TextForm, frame: &Frame, ordinates: &[i32], room: usize)
     }
     if (ordinates.len() as u64) < points {
         return Err(refusal(2, 0));
-    }
-    if frame.span().abs() < frame.steps() {
-        return Err(refusal(14, 0));
     }
     let given = &ordinates[..points as usize];
     let text = match form.spell() {

@@ -1,8 +1,12 @@
 -- Bounds of the seven records and of the six numbers, which callers need. Assumes nothing.
+use mathlib.Core.Path.{_≡_}
+use mathlib.Core.List.{List}
 use Prim.Native.Nat.{ℕ, _<_}
+use Rattle.alphabet_spec.specs.Entries.{table}
 use Rattle.decimal_spec.specs.Number.{bound}
 use Rattle.figure.specs.Bounds.{Small, Factor}
 use Rattle.file_texts.specs.Spans.{Within}
+use Rattle.file_spec.specs.declared.Decimal.{Decimal}
 use Rattle.file_spec.specs.declared.Needed.{Needed}
 use Rattle.file_spec.specs.declared.Gathered.{Gathered}
 use Rattle.file_spec.specs.declared.Gathered.the-variants as gathered
@@ -24,6 +28,13 @@ pub record AllWithin (len : ℕ) (t : Needed) : Type 0 where
 abbrev pub gatheredIn : ℕ → Gathered → Type 0
 gatheredIn len (gathered.All t) = AllWithin len t
 gatheredIn len gathered.Lacking = Unit
+
+-- the numbers after the factors can be read: the byte table t is lent, each text lies in the file, and the factors are as they can be spelled
+pub record FactorsRead (t : List ℕ) (len : ℕ) (x : Needed) (xf yf : Decimal) : Type 0 where
+  pub lent : t ≡ table
+  pub within : AllWithin len x
+  pub xfactor : Factor xf
+  pub yfactor : Factor yf
 
 -- each of the six numbers as it can be spelled
 pub record AllSmall (n : Numbers) : Type 0 where

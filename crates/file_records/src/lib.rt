@@ -6,9 +6,9 @@ ghost use Rattle.alphabet_spec.specs.Entries.{table};
 ghost use Rattle.file_spec.specs.Texts.{text-of, gatheredFrom};
 ghost use Rattle.label.specs.Answers.{foundIn};
 ghost use Rattle.file_spec.specs.Figures.{figuresOf};
-ghost use Rattle.figure.specs.Bounds.{Small, Factor};
+ghost use Rattle.figure.specs.Bounds.{Small};
 ghost use Rattle.file_records.specs.Order.{nameAt, neededOf, fromFirstx, fromNpoints};
-ghost use Rattle.file_records.specs.Bounds.{AllWithin, gatheredIn, figuresIn};
+ghost use Rattle.file_records.specs.Bounds.{AllWithin, gatheredIn, FactorsRead, figuresIn};
 use alphabet::TABLE;
 use decimal_spec::Count;
 use file_spec::Decimal;
@@ -104,7 +104,7 @@ fn figures_from_firstx(
     xfactor: Decimal,
     yfactor: Decimal,
 ) -> Figures
-    requires { ⌜ (now t ≡ table) × AllWithin (length (now file)) x × Factor xfactor × Factor yfactor ⌝ }
+    requires { ⌜ FactorsRead (now t) (length (now file)) x xfactor yfactor ⌝ }
     ensures { λ r. ⌜ (r ≡ fromFirstx (now (file .entry)) x xfactor yfactor) × figuresIn r ⌝ }
 {
     let one = x.firstx;
@@ -128,7 +128,7 @@ fn figures_from_npoints(
     firstx: Decimal,
     lastx: Decimal,
 ) -> Figures
-    requires { ⌜ (now t ≡ table) × AllWithin (length (now file)) x × Factor xfactor × Factor yfactor × Small firstx × Small lastx ⌝ }
+    requires { ⌜ FactorsRead (now t) (length (now file)) x xfactor yfactor × Small firstx × Small lastx ⌝ }
     ensures { λ r. ⌜ (r ≡ fromNpoints (now (file .entry)) x xfactor yfactor firstx lastx) × figuresIn r ⌝ }
 {
     let one = x.npoints;

@@ -4,6 +4,7 @@ use mathlib.Core.List.{List, [], _∷_}
 use Prim.Native.Nat.{ℕ}
 use lib.IntN.{ℤ}
 use lib.ListN.{length}
+use borrow.Author.Tests.{ne-eqb}
 use Rattle.terms.specs.Logic.{zero-one}
 use Rattle.terms.specs.Refusals.{fault-at, refusalIn}
 use Rattle.terms.specs.declared.Fault.{Fault}
@@ -21,7 +22,7 @@ use Rattle.file_spec.specs.File.{FileAnswer, refuse-file, accept-file, readFile
 use Rattle.file_spec.specs.declared.FileTable.{FileTable}
 use Rattle.file_spec.specs.declared.FileRead.the-variants as files
 use Rattle.file.specs.Answers.{FileSays}
-use Rattle.host.specs.Answers.{refusedOf, tableAnswer, TableTold, textAnswer, OutcomeTold, bits, fileAnswer, FileTold, recordAnswer, RecordTold}
+use Rattle.host.specs.Answers.{refusedOf, tableAnswer, TableTold, textAnswer, OutcomeTold, no-form, writeForm, bits, fileAnswer, FileTold, recordAnswer, RecordTold}
 
 -- ---- a table read
 
@@ -60,6 +61,12 @@ told-wrote x e o = let z = text-wrote x e in record { numbers = z; returned = ap
 
 pub told-declined : (x : Outcome) {text text' : List ℕ} {r : Fault} → texts.Refused r ≡ writing.told x → text' ≡ laid text x → OutcomeTold x text text' (r .number ∷ 0 ∷ []) (r .number)
 told-declined x e o = let z = text-declined x e in record { numbers = z; returned = ap refusedOf z; leaves = o }
+
+-- a number that is no form's
+pub no-such-form : (k : ℕ) (f l : ℤ) (n : ℕ) (ys : List ℤ) (text : List ℕ) → (k ≡ 0 → ⊥) → (k ≡ 1 → ⊥) → (k ≡ 2 → ⊥) → (k ≡ 3 → ⊥)
+    → OutcomeTold (writeForm k f l n ys (length text)) text text (no-form ∷ 0 ∷ []) no-form
+unfolding laid
+no-such-form k f l n ys text a b c d = rw (ne-eqb k 0 a, ne-eqb k 1 b, ne-eqb k 2 c, ne-eqb k 3 d) (record { numbers = refl; returned = refl; leaves = refl })
 
 -- ---- a file read
 

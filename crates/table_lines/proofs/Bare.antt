@@ -43,7 +43,7 @@ bare-value s at b h l =
     sym (ap bare (h .within ∙ seen-step s b (inner (behind s b)) i) ∙ bare-inside _ b _ (behind s b) (kind tabs-too (getD s b 0)) (rw e at l) (λ x. h .stops (e ∙ x)))
 
 pub bare-end : (s : List ℕ) (at b j : ℕ) → Blanked s at b → Ended s b (Next j) → true ≡ bare (here s at)
-bare-end s at b j h e = sym (ap bare (h .within ∙ e .4 (behind s b)))
+bare-end s at b j h e = sym (ap bare (h .within ∙ e .within (behind s b)))
 
 pub bare-bad : (s : List ℕ) (at b : ℕ) → Blanked s at b → Ended s b Bad → false ≡ bare (here s at)
 bare-bad s at b h e = sym (ap bare (h .within ∙ e .1 (behind s b)))

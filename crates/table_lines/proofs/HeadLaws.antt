@@ -22,6 +22,7 @@ use Rattle.alphabet.specs.Ran.{Ran, ran-is, ran-below}
 use Rattle.table_spec.specs.Values.{headed-at}
 use Rattle.table_spec.specs.Reading.{Tokens, head, fault, Mode, fresh, inner, Rest, starts, unit, scaled, pointed, thousandths, headed, opening, step}
 use Rattle.table_lines.specs.Seen.{behind, later-seen, seen-kind, seen-step, not-behind}
+use Rattle.table_lines.specs.Ends.{LineOpens}
 use Rattle.table_lines.specs.Heads.{Scaled, Pointed, Topped, Headed}
 use Rattle.table_lines.specs.declared.HeadRead.{HeadRead}
 use Rattle.table_lines.specs.declared.HeadRead.the-variants.{Abscissa, NoHead}
@@ -197,11 +198,11 @@ module _ (s : List ℕ) (i : ℕ) {w j x : ℕ} where
   unfolding opening
   sign-opens m r n K = let low = r .low in let l : 0 < j - (i + 1) = omega (arith, n) in rw (run-there s i r, some-more (ltb x 16) w (j - (i + 1)) l) refl
 
-  pub sign-alone : (e : ℕ) → i < length s → e ≡ entryAt s i → 128 ≤ e → e < 160 → Ran s (i + 1) 0 7 w j x → j ≡ i + 1 → Headed s i NoHead
+  pub sign-alone : (e : ℕ) → LineOpens s i e → 128 ≤ e → Ran s (i + 1) 0 7 w j x → j ≡ i + 1 → Headed s i NoHead
   unfolding opening step thousandths
-  sign-alone e h g l k r n =
+  sign-alone e o l r n =
       let z : j - (i + 1) ≡ 0 = omega arith in
-      seen-kind s i fresh (sign (leb 144 e)) h (ap kindOf (sym g) ∙ sign-kind e l k) ∙ rw (run-there s i r, z, some-none (ltb x 16) w) refl
+      seen-kind s i fresh (sign (leb 144 e)) (o .inside) (ap kindOf (sym (o .stands)) ∙ sign-kind e l (o .before-point)) ∙ rw (run-there s i r, z, some-none (ltb x 16) w) refl
 
 -- a byte that begins a value and no head
 opens-not : (K : ℕ → Mode → Tokens) (a : ℕ) (t : List ℕ) (b : ℕ) (c : Byte) → Back tabs-too b c → 16 ≤ code c → code c < 128 → (code c ≡ 112 → ⊥) → opening K a t c ≡ fault 4 a
@@ -218,32 +219,35 @@ opens-not K a t b cr h l k n = absurd (omega arith)
 opens-not K a t b dollar h l k n = absurd (omega arith)
 opens-not K a t b other h l k n = absurd (omega arith)
 
-pub value-first : (s : List ℕ) (i e : ℕ) → i < length s → e ≡ entryAt s i → 16 ≤ e → e < 128 → (e ≡ 112 → ⊥) → Headed s i NoHead
+pub value-first : (s : List ℕ) (i e : ℕ) → LineOpens s i e → 16 ≤ e → e < 128 → Headed s i NoHead
 unfolding step entry
-value-first s i e h g l k n =
-    let b = getD s i 0 in let z = at-entry s i h in
-    seen-step s i fresh h ∙ opens-not _ i _ b (kind tabs-too b) (kind-back tabs-too b) (omega arith) (omega arith) (λ x. n (g ∙ z ∙ x))
+value-first s i e o l k =
+    let b = getD s i 0 in let g = o .stands in let z = at-entry s i (o .inside) in
+    seen-step s i fresh (o .inside) ∙ opens-not _ i _ b (kind tabs-too b) (kind-back tabs-too b) (omega arith) (omega arith) (λ x. o .no-blank (g ∙ z ∙ x))
 
 -- ---- a head that begins with a digit; with a sign
 
-module _ (s : List ℕ) (i e : ℕ) {w j x : ℕ} (h : i < length s) (g : e ≡ entryAt s i) (n : e ≡ 112 → ⊥) where
+no-blank-here : {s : List ℕ} {i e : ℕ} → LineOpens s i e → entryAt s i ≡ 112 → ⊥
+no-blank-here o y = o .no-blank (o .stands ∙ y)
+
+module _ (s : List ℕ) (i e : ℕ) {w j x : ℕ} (o : LineOpens s i e) where
   module _ (l : e < 16) (r : Ran s (i + 1) e 6 w j x) where
     pub digit-small : w < 10000000
-    digit-small = let d = digit-at s i (rw g at l) in let b = ran-below r in let z = d .2 in omega arith
+    digit-small = let g = o .stands in let d = digit-at s i (rw g at l) in let b = ran-below r in let z = d .2 in omega arith
 
     pub digit-long : x < 16 → Headed s i NoHead
-    digit-long k = no-head i false (digit e) h (ap kindOf (sym g) ∙ digit-kind e l) (λ y. n (g ∙ y)) r (digit-opens s i e r) k
+    digit-long k = no-head i false (digit e) (o .inside) (ap kindOf (sym (o .stands)) ∙ digit-kind e l) (no-blank-here o) r (digit-opens s i e r) k
 
     pub digit-headed : 16 ≤ x → (y : HeadRead) → Pointed s j w false y → Headed s i y
-    digit-headed k = headed-by i false (digit e) h (ap kindOf (sym g) ∙ digit-kind e l) (λ y. n (g ∙ y)) r (digit-opens s i e r) k
+    digit-headed k = headed-by i false (digit e) (o .inside) (ap kindOf (sym (o .stands)) ∙ digit-kind e l) (no-blank-here o) r (digit-opens s i e r) k
 
-  module _ (l : 128 ≤ e) (k : e < 160) (r : Ran s (i + 1) 0 7 w j x) where
+  module _ (l : 128 ≤ e) (r : Ran s (i + 1) 0 7 w j x) where
     pub sign-small : w < 10000000
     sign-small = let b = ran-below r in omega arith
 
     module _ (m : j ≡ i + 1 → ⊥) where
       pub sign-long : x < 16 → Headed s i NoHead
-      sign-long = no-head i (leb 144 e) (sign (leb 144 e)) h (ap kindOf (sym g) ∙ sign-kind e l k) (λ y. n (g ∙ y)) r (sign-opens s i (leb 144 e) r m)
+      sign-long = no-head i (leb 144 e) (sign (leb 144 e)) (o .inside) (ap kindOf (sym (o .stands)) ∙ sign-kind e l (o .before-point)) (no-blank-here o) r (sign-opens s i (leb 144 e) r m)
 
       pub sign-headed : 16 ≤ x → (y : HeadRead) → Pointed s j w (leb 144 e) y → Headed s i y
-      sign-headed = headed-by i (leb 144 e) (sign (leb 144 e)) h (ap kindOf (sym g) ∙ sign-kind e l k) (λ y. n (g ∙ y)) r (sign-opens s i (leb 144 e) r m)
+      sign-headed = headed-by i (leb 144 e) (sign (leb 144 e)) (o .inside) (ap kindOf (sym (o .stands)) ∙ sign-kind e l (o .before-point)) (no-blank-here o) r (sign-opens s i (leb 144 e) r m)

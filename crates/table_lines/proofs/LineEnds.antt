@@ -74,14 +74,16 @@ end-is s i c h k e = rw (lt-ltb i (length s) h, at-kind s i h ∙ k, e) refl
 module _ (s : List ℕ) (i : ℕ) (c : Byte) (f : Ends c) (h : i < length s) (k : kindOf (entryAt s i) ≡ c) where
   ends-there : (j : ℕ) → suc i ≤ j → j ≤ length s → ending c (drop (suc i) s) ≡ ends (j - suc i) → Ended s i (Next j)
   unfolding step
-  ends-there j l m e = (
-    omega arith,
-    m,
-    λ _. l,
-    seen-kind s i fresh c h k ∙ f .0 _ i _ ∙ rw e (later-seen s (suc i) j fresh l m),
-    λ q. seen-kind s i (inner q) c h k ∙ f .1 _ i _ q ∙ rw e (ap line (later-seen s (suc i) j fresh l m)),
-    (let z : suc i + (j - suc i) ≡ j = omega arith in end-is s i c h k e ∙ ap Next z),
-  )
+  ends-there j l m e =
+      let z : suc i + (j - suc i) ≡ j = omega arith in
+      record {
+        low = omega arith;
+        high = m;
+        moves = λ _. l;
+        before = seen-kind s i fresh c h k ∙ f .0 _ i _ ∙ rw e (later-seen s (suc i) j fresh l m);
+        within = λ q. seen-kind s i (inner q) c h k ∙ f .1 _ i _ q ∙ rw e (ap line (later-seen s (suc i) j fresh l m));
+        is = end-is s i c h k e ∙ ap Next z;
+      }
 
   ends-not : ending c (drop (suc i) s) ≡ none → Ended s i Bad
   unfolding step
@@ -116,7 +118,14 @@ pub end-over : (s : List ℕ) (i : ℕ) → i ≤ length s → entryAt s i ≡ 2
 unfolding stop endAt
 end-over s i l e =
     let z = entry-end s i e in let f : i ≡ length s = omega arith in
-    (omega arith, l, λ h. absurd (omega arith), refl, λ q. seen-end s i (inner q) z ∙ ap line (sym (seen-end s i fresh z)), rw (le-ltb i (length s) z) refl)
+    record {
+      low = omega arith;
+      high = l;
+      moves = λ h. absurd (omega arith);
+      before = refl;
+      within = λ q. seen-end s i (inner q) z ∙ ap line (sym (seen-end s i fresh z));
+      is = rw (le-ltb i (length s) z) refl;
+    }
 
 pub end-lf : (s : List ℕ) (i : ℕ) → entryAt s i ≡ 176 → Ended s i (Next (i + 1))
 unfolding ending

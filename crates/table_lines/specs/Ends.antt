@@ -40,14 +40,30 @@ endOf i none = Bad
 unfoldable pub endAt : List ℕ → ℕ → Ending
 endAt s i = pick (ltb i (length s)) (endOf i (ending (kind tabs-too (getD s i 0)) (drop (suc i) s))) (Next i)
 
--- a line's end stands at i, and the next line at j; or a byte that cannot stand there
+-- a line's end stands at i, and the next line at j, which is further on but at the end of the body: before a head the line is passed over, within a line it is the line's end
+pub record LineOver (s : List ℕ) (i j : ℕ) : Type 0 where
+  pub low : i ≤ j
+  pub high : j ≤ length s
+  pub moves : i < length s → i < j
+  pub before : seen s i fresh ≡ seen s j fresh
+  pub within : (q : Bool) → seen s i (inner q) ≡ line (seen s j fresh)
+  pub is : endAt s i ≡ Next j
+
+-- that; or a byte that cannot stand there
 abbrev pub Ended : List ℕ → ℕ → Ending → Type 0
-Ended s i (Next j) = (i ≤ j) × (j ≤ length s) × (i < length s → i < j) × (seen s i fresh ≡ seen s j fresh) × ((q : Bool) → seen s i (inner q) ≡ line (seen s j fresh)) × (endAt s i ≡ Next j)
+Ended s i (Next j) = LineOver s i j
 Ended s i Bad = (seen s i fresh ≡ fault 3 i) × ((q : Bool) → seen s i (inner q) ≡ fault 3 i) × (endAt s i ≡ Bad)
 
--- the next line that is not passed over starts at j, with an entry that is below a point's; or the body ends; or a byte cannot stand where it does. What is left to read shows the place j
+-- a line's first token stands at the place j: the entry e there is below a point's (160), and no blank's (112)
+pub record LineOpens (s : List ℕ) (j e : ℕ) : Type 0 where
+  pub inside : j < length s
+  pub stands : e ≡ entryAt s j
+  pub before-point : e < 160
+  pub no-blank : e ≡ 112 → ⊥
+
+-- the next line that is not passed over starts at j, with the entry e; or the body ends; or a byte cannot stand where it does. What is left to read shows the place j
 -- itself, as that of a head, of what is none (4), or of such a byte (3)
 abbrev pub Started : List ℕ → ℕ → Start → Type 0
-Started s i (start.Head j e) = (i ≤ j) × (j < length s) × (e ≡ entryAt s j) × (e < 160) × (e ≡ 112 → ⊥) × (seen s i fresh ≡ seen s j fresh)
+Started s i (start.Head j e) = (i ≤ j) × LineOpens s j e × (seen s i fresh ≡ seen s j fresh)
 Started s i start.End = seen s i fresh ≡ over (length s)
 Started s i (start.Bad j) = seen s i fresh ≡ fault 3 j

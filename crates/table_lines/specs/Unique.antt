@@ -33,9 +33,9 @@ blanks-unique {r = r} {q} x y = let f : r < q → ⊥ = no-further x y in let g 
 -- ---- line_end
 
 pub line-end-unique : (s : List ℕ) (i : ℕ) (x y : Ending) → Ended s i x → Ended s i y → x ≡ y
-line-end-unique s i (Next j) (Next k) a b = sym (a .5) ∙ b .5
-line-end-unique s i (Next j) Bad a b = sym (a .5) ∙ b .2
-line-end-unique s i Bad (Next k) a b = sym (a .2) ∙ b .5
+line-end-unique s i (Next j) (Next k) a b = sym (a .is) ∙ b .is
+line-end-unique s i (Next j) Bad a b = sym (a .is) ∙ b .2
+line-end-unique s i Bad (Next k) a b = sym (a .2) ∙ b .is
 line-end-unique s i Bad Bad a b = refl
 
 -- ---- row_start: the first token that is left shows its place
@@ -81,11 +81,11 @@ opening-shows K a t other l n = absurd (omega arith)
 head-shows : (s : List ℕ) (i j e : ℕ) → Started s i (start.Head j e) → Shows j (seen s i fresh)
 unfolding step entry
 head-shows s i j e x =
-    let z : e ≡ entry (getD s j 0) = x .2 ∙ at-entry s j (x .1) in
-    rw (x .5 ∙ seen-step s j fresh (x .1)) (opening-shows _ j (drop (suc j) s) (kind tabs-too (getD s j 0)) (rw z at (x .3)) (λ w. x .4 (z ∙ w)))
+    let o = x .1 in let z : e ≡ entry (getD s j 0) = o .stands ∙ at-entry s j (o .inside) in
+    rw (x .2 ∙ seen-step s j fresh (o .inside)) (opening-shows _ j (drop (suc j) s) (kind tabs-too (getD s j 0)) (rw z at (o .before-point)) (λ w. o .no-blank (z ∙ w)))
 
 pub row-start-unique : (s : List ℕ) (i : ℕ) (x y : Start) → Started s i x → Started s i y → x ≡ y
-row-start-unique s i (start.Head j e) (start.Head k f) a b = let z : j ≡ k = sym (head-shows s i j e a .1) ∙ head-shows s i k f b .1 in rw (a .2, b .2, z) refl
+row-start-unique s i (start.Head j e) (start.Head k f) a b = let z : j ≡ k = sym (head-shows s i j e a .1) ∙ head-shows s i k f b .1 in rw (a .1 .stands, b .1 .stands, z) refl
 row-start-unique s i (start.Head j e) start.End a b = absurd (let z = sym (head-shows s i j e a .0) ∙ ap sort b in omega arith)
 row-start-unique s i (start.Head j e) (start.Bad k) a b = absurd (let z = sym (head-shows s i j e a .0) ∙ ap sort b in omega arith)
 row-start-unique s i start.End (start.Head k f) a b = absurd (let z = sym (head-shows s i k f b .0) ∙ ap sort a in omega arith)

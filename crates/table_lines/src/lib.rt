@@ -7,7 +7,7 @@ ghost use Rattle.table_spec.specs.Values.{headed-at};
 ghost use Rattle.table_spec.specs.Reading.{bare, unit};
 ghost use Rattle.table_lines.specs.declared.HeadRead.{HeadRead};
 ghost use Rattle.table_lines.specs.Seen.{here};
-ghost use Rattle.table_lines.specs.Ends.{Blanked, Commented, Ended, Started};
+ghost use Rattle.table_lines.specs.Ends.{Blanked, Commented, Ended, LineOpens, Started};
 ghost use Rattle.table_lines.specs.Heads.{Pointed, Headed};
 use alphabet::BLANK;
 use alphabet::CR;
@@ -185,7 +185,7 @@ fn fraction(t: &[u8; 256], s: &[u8], w: Run, minus: bool) -> HeadRead
 
 // The head at a place whose entry is e.
 pub fn head(t: &[u8; 256], s: &[u8], at: usize, e: u64) -> HeadRead
-    requires { ⌜ (now t ≡ table) × (at < length (now s)) × (e ≡ entryAt (now s) at) × (e < 160) × (e ≡ 112 → ⊥) ⌝ }
+    requires { ⌜ (now t ≡ table) × LineOpens (now s) at e ⌝ }
     ensures { λ r. ⌜ Headed (now (s .entry)) at r ⌝ }
 {
     let next = at + 1;

@@ -78,11 +78,11 @@ module _ (fr : Frame) (s : List ℕ) (r : Row) (at : ℕ) where
           unfolding judge
           line-read out out' (linewise.Refused c a) l = λ p w b. line-valued p w b ∙ rw (l p (first (r .dif)) (line-starts p w b) .law) refl
           line-read out out' (linewise.Next n) l =
-              let a = t .low in let x = l .0 in (
+              let a = t .low in let x = l .low in (
                 omega arith,
-                record { high = l .1; small = l .2; few = l .3 },
+                record { high = l .high; small = l .small; few = l .few },
                 λ p w b.
-                    let v = l .5 p (first (r .dif)) (line-starts p w b) in
+                    let v = l .done p (first (r .dif)) (line-starts p w b) in
                     record {
                       points = v .points;
                       ordinate = v .ordinate;

@@ -3,9 +3,9 @@
 ghost use mathlib.Core.Path.{_≡_};
 ghost use Prim.Native.Nat.{_<_};
 ghost use lib.ListN.{length};
-ghost use Rattle.alphabet_spec.specs.Entries.{code, entryAt, table};
-ghost use Rattle.alphabet_spec.specs.Bytes.{point, blank};
+ghost use Rattle.alphabet_spec.specs.Entries.{table};
 ghost use Rattle.frame.specs.Legal.{Sound};
+ghost use Rattle.table_lines.specs.Ends.{LineOpens};
 ghost use Rattle.terms.specs.Logic.{pick};
 ghost use Rattle.table_spec.specs.Values.{index};
 ghost use Rattle.table_spec.specs.Reading.{read, readTable, stored};
@@ -71,7 +71,7 @@ fn read_line(
     at: usize,
     e: u64,
 ) -> LineRead
-    requires { ⌜ (now t ≡ table) × Sound fr × Rests (fr .points) (now s) r × (at < length (now s)) × (e ≡ entryAt (now s) at) × (e < code point) × (e ≡ code blank → ⊥) ⌝ }
+    requires { ⌜ (now t ≡ table) × Sound fr × Rests (fr .points) (now s) r × LineOpens (now s) at e ⌝ }
     ensures { λ v. ⌜ LineSays (frame-rules fr) (now (s .entry)) r at (now (out .entry)) (now (out .exit)) v ⌝ }
 {
     let dif = r.dif;

@@ -1,5 +1,3 @@
-pub mod NumberLaws
-pub mod Moves
 pub mod Turns
 pub mod Meanings
 pub mod Walks

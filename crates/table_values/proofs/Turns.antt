@@ -17,7 +17,7 @@ use Rattle.table_spec.specs.Values.{Value, Form, isDif, Spot, after, lastOr}
 use Rattle.table_spec.specs.Reading.{fault, line, fresh, adds, refuses, says, difBefore}
 use Rattle.table_lines.specs.Seen.{seen, here}
 use Rattle.table_lines.specs.Ends.{Blanked}
-use Rattle.table_values.specs.Numbers.{Clear, Token}
+use Rattle.table_numbers.specs.Numbers.{Clear, Token}
 use Rattle.table_values.specs.LineValues.{broken, given, taken, line-says, given-none, given-given}
 use Rattle.table_values.specs.States.{Codes, own, gap, dif, dup-not, dup-dif, difForm, Holds, opening, checking, going, Sits, Reads, Gone, Stepped, rowAfter, lastAt, LineDone, LineBroken}
 use Rattle.table_values.specs.declared.Cur.{Cur}

@@ -1,23 +1,20 @@
 -- States of the code, one after the other: within a run of differences, and along a line. No place of the code is named here. Assumes nothing.
-use mathlib.Core.Path.{_≡_, refl, _∙_, subst}
-use mathlib.Core.Bool.{Bool}
-use mathlib.Core.List.{List, [], _∷_, map}
-use Prim.Native.Nat.{ℕ, suc, _+_, _-_, _*_, _≤_, _<_}
+use mathlib.Core.Path.{_≡_, refl}
+use mathlib.Core.List.{List, [], _∷_}
+use Prim.Native.Nat.{ℕ, _+_, _-_, _≤_, _<_}
 use native.Mathlib.Omega.{arith}
-use native.Mathlib.Numerals.{add-one}
-use native.Mathlib.Nat.{mul-one}
 use lib.Dec.{leb}
 use lib.IntN.{ℤ}
-use lib.ListN.{length, set, length-set}
-use lib.Seq.{sets}
+use lib.ListN.{set}
 use Rattle.table_spec.specs.Frame.{entry-for}
-use Rattle.table_spec.specs.Values.{Value, by, By, Spot, moved, copies}
-use Rattle.table_values.specs.Numbers.{Token}
-use Rattle.table_values.specs.States.{shiftedTo, Reaches, dif, Holds, opening, checking, going, Sits, Went, Stepped, rowAfter, Lined}
+use Rattle.table_spec.specs.Values.{Value, by, By, Spot}
+use Rattle.table_numbers.specs.Numbers.{Token}
+use Rattle.table_ordinates.specs.Reach.{shiftedTo}
+use Rattle.table_values.specs.States.{dif, Holds, opening, checking, going, Sits, Went, Stepped, rowAfter, Lined}
 use Rattle.table_values.specs.declared.Cur.{Cur}
 use Rattle.table_values.specs.declared.Step.the-variants as step
 use Rattle.table_values.specs.declared.LineRead.the-variants as linewise
-use Rattle.table_values.proofs.Moves.{shift-some, reach-next, reach-small}
+use Rattle.table_ordinates.proofs.Moves.{shift-some}
 use Rattle.table_values.proofs.Turns.{value-adds, gone-same, clear-then, gone-gone, gone-done, gone-broken}
 use Rattle.table_values.proofs.Meanings.{dif-adds}
 
@@ -69,53 +66,15 @@ first-state at e k want = record { at = at; e = e; k = k; q = 0; want = want; st
 module _ {N : ℕ} {s : List ℕ} {at e k want : ℕ} {b : Cur} {out mid : List ℤ} (out' : List ℤ) (g : Went N s (first-state at e k want) b out mid) where
   pub went-line : {j : ℕ} → Stepped N s b mid out' (step.Line j) → Lined N s at k want out out' (linewise.Next (rowAfter b j))
   went-line {j} h =
-      let x = g .low in let y = h .0 in let z = g .sits in let l = h .3 in let q = z .stands in (
-        omega arith,
-        h .1,
-        z .small,
-        z .few,
-        record { stop = b .at; low = x; clear = g .clear; ends = omega arith; next = h .4 },
-        λ p w v. rw (h .2) (gone-done N s at k p w out mid b (g .law p w v) j (h .5)),
-      )
+      let x = g .low in let y = h .low in let z = g .sits in let l = h .ends in let q = z .stands in
+      record {
+        low = omega arith;
+        high = h .high;
+        small = z .small;
+        few = z .few;
+        ends = record { stop = b .at; low = x; clear = g .clear; ends = omega arith; next = h .next };
+        done = λ p w v. rw (h .same) (gone-done N s at k p w out mid b (g .law p w v) j (h .law));
+      }
 
   pub went-refused : {n : ℕ} → Stepped N s b mid out' (step.Refused n) → Lined N s at k want out out' (linewise.Refused n (b .at))
   went-refused {n} h = λ p w v. rw (h .0) (gone-broken N s at k p w out mid b (g .law p w v) n (b .at) (h .1))
-
--- ---- copies, stored one after the other
-
-pub record Repeating (out₀ out : List ℤ) (k q n i u left : ℕ) (m : Bool) (d : ℕ) : Type 0 where
-  pub stored : sets out i (map entry-for (copies left (By m d) u)) ≡ sets out₀ k (map entry-for (copies n (By m d) q))
-  pub reach : Reaches m d left u
-  pub small : u < 4294967296
-  pub count : i + left ≡ k + n
-  pub same : length out ≡ length out₀
-
-pub repeat-start : (out : List ℤ) (k q n : ℕ) (m : Bool) (d : ℕ) → q < 4294967296 → Reaches m d n q → Repeating out out k q n k q n m d
-repeat-start out k q n m d h r = record { stored = refl; reach = r; small = h; count = refl; same = refl }
-
-module _ {out₀ out : List ℤ} {k q n i u left : ℕ} {m : Bool} {d : ℕ} (g : Repeating out₀ out k q n i u left m d) (l : 0 < left) where
-  one-less : left ≡ suc (left - 1)
-  one-less = omega arith
-
-  further : Reaches m d 1 u × Reaches m d (left - 1) (moved m d u)
-  further = reach-next m d (left - 1) u (subst (λ (x : ℕ). Reaches m d x u) one-less (g .reach))
-
-  pub repeat-reach : Reaches m d 1 u
-  repeat-reach = further .0
-
-  pub repeat-small : (v : ℕ) → v ≡ moved m d u → v < 4294967296
-  repeat-small v e = let y : d * 1 ≡ d = mul-one d in rw (e, ← y) (reach-small m d 1 u (g .small) repeat-reach)
-
-  pub repeat-turn : (v : ℕ) → v ≡ moved m d u → (out' : List ℤ) → out' ≡ set out i (entry-for v) → Repeating out₀ out' k q n (i + 1) v (left - 1) m d
-  repeat-turn v e out' f =
-      let c = g .count in
-      record {
-        stored = rw (f, add-one i, e) (subst (λ (x : ℕ). sets out i (map entry-for (copies x (By m d) u)) ≡ sets out₀ k (map entry-for (copies n (By m d) q))) one-less (g .stored));
-        reach = rw e (further .1);
-        small = repeat-small v e;
-        count = omega arith;
-        same = rw f (length-set out i (entry-for v)) ∙ g .same;
-      }
-
-pub repeat-end : {out₀ out : List ℤ} {k q n i u left : ℕ} {m : Bool} {d : ℕ} → Repeating out₀ out k q n i u left m d → left ≡ 0 → out ≡ sets out₀ k (map entry-for (copies n (By m d) q))
-repeat-end {out₀} {out} {k} {q} {n} {i} {u} {left} {m} {d} g z = subst (λ (x : ℕ). sets out i (map entry-for (copies x (By m d) u)) ≡ sets out₀ k (map entry-for (copies n (By m d) q))) z (g .stored)

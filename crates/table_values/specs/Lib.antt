@@ -1,4 +1,3 @@
-pub mod Numbers
 pub mod LineValues
 pub mod States
 pub mod Unique

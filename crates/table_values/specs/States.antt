@@ -2,20 +2,21 @@
 use mathlib.Core.Path.{_≡_}
 use mathlib.Core.Bool.{Bool, true, false}
 use mathlib.Core.List.{List, [], map}
-use Prim.Native.Nat.{ℕ, _+_, _*_, _<_, _≤_}
+use mathlib.Core.Logic.{_⊎_}
+use Prim.Native.Nat.{ℕ, _+_, _<_, _≤_}
 use lib.Dec.{leb, eqb}
 use lib.IntN.{ℤ}
 use lib.ListN.{length}
 use lib.Seq.{sets}
 use Rattle.terms.specs.Logic.{pick}
-use Rattle.alphabet_spec.specs.Entries.{entryAt}
+use Rattle.alphabet_spec.specs.Entries.{entryAt, table}
 use Rattle.table_spec.specs.Frame.{entry-for}
-use Rattle.table_spec.specs.Values.{Form, Own, Gap, By, Dup, Spot, first, after, moved}
-use Rattle.table_spec.specs.Reading.{line, fresh, inRange, difBefore}
+use Rattle.table_spec.specs.Values.{times, Form, Own, Gap, By, Dup, Spot, first, after}
+use Rattle.table_spec.specs.Reading.{line, fresh, difBefore}
 use Rattle.table_lines.specs.Seen.{seen, here}
 use Rattle.table_lines.specs.Ends.{endAt}
 use Rattle.table_lines.specs.declared.Ending.the-variants as ending
-use Rattle.table_values.specs.Numbers.{Clear}
+use Rattle.table_numbers.specs.Numbers.{valueAt, Clear, Token, below}
 use Rattle.table_values.specs.LineValues.{whole, broken, given, line-says}
 use Rattle.table_values.specs.declared.Cur.{Cur}
 use Rattle.table_values.specs.declared.Step.{Step}
@@ -23,15 +24,6 @@ use Rattle.table_values.specs.declared.Step.the-variants as step
 use Rattle.table_values.specs.declared.Row.{Row}
 use Rattle.table_values.specs.declared.LineRead.{LineRead}
 use Rattle.table_values.specs.declared.LineRead.the-variants as linewise
-
--- an ordinate moved by a difference, or 0 where that is out of range
-abbrev pub shiftedTo : Bool → ℕ → ℕ → ℕ
-shiftedTo m v q = pick (inRange (moved m v q)) (moved m v q) 0
-
--- n steps of a size from an ordinate keep within 32 bits
-abbrev pub Reaches : Bool → ℕ → ℕ → ℕ → Type 0
-Reaches true d n q = d * n ≤ q
-Reaches false d n q = q + d * n < 4294967296
 
 -- ---- within a line
 
@@ -62,6 +54,23 @@ pub record Sits (N : ℕ) (s : List ℕ) (c : Cur) : Type 0 where
   pub size : c .step < 10000000000
   pub few : c .k ≤ N
 
+-- a value with the number v stands where the state is, within a table of at most 65,536 points: its entry is below a point's, and neither a missing mark's nor a blank's
+pub record Valued (N : ℕ) (s : List ℕ) (c : Cur) (v j f : ℕ) : Type 0 where
+  pub sits : Sits N s c
+  pub most : N ≤ 65536
+  pub before-point : c .e < 160
+  pub kind : c .e < 96 ⊎ 128 ≤ c .e
+  pub small : v < below (c .e)
+  pub token : Token s (c .at) (valueAt (c .e) v) j f
+
+-- a DUP that adds n copies stands where the state is, within a table of at most 65,536 points
+pub record Again (N : ℕ) (s : List ℕ) (c : Cur) (n j f : ℕ) : Type 0 where
+  pub sits : Sits N s c
+  pub most : N ≤ 65536
+  pub some : 1 ≤ n
+  pub small : n < 100000
+  pub token : Token s (c .at) (times (n + 1)) j f
+
 -- what holds for each ordinate before and spot that the state keeps
 abbrev pub Reads : Cur → (ℕ → Spot → Type 0) → Type 0
 Reads c P = (p : ℕ) (w : Spot) → Holds (c .q) (c .want) (c .step) (c .form) p w → P p w
@@ -83,14 +92,31 @@ pub record Went (N : ℕ) (s : List ℕ) (c r : Cur) (out out' : List ℤ) : Typ
   pub sits : Sits N s r
   pub law : Reads c (λ p w. Gone N s (c .at) (c .k) p w out out' r)
 
--- one token: a value, or blanks; the line's end, with the next line at j; or a refusal at the token, and nothing was stored
+-- the line's end stands where the state is, and the next line at j; nothing was stored
+pub record AtEnd (s : List ℕ) (c : Cur) (j : ℕ) (out out' : List ℤ) : Type 0 where
+  pub low : c .at ≤ j
+  pub high : j ≤ length s
+  pub same : out' ≡ out
+  pub ends : 160 ≤ c .e
+  pub next : endAt s (c .at) ≡ ending.Next j
+  pub law : here s (c .at) ≡ line (seen s j fresh)
+
+-- one token: a value, or blanks; the line's end; or a refusal at the token, and nothing was stored
 abbrev pub Stepped : ℕ → List ℕ → Cur → List ℤ → List ℤ → Step → Type 0
 Stepped N s c out out' (step.Go r) = (c .at < r .at) × Went N s c r out out'
-Stepped N s c out out' (step.Line j) =
-    (c .at ≤ j) × (j ≤ length s) × (out' ≡ out) × (160 ≤ c .e) × (endAt s (c .at) ≡ ending.Next j) × (here s (c .at) ≡ line (seen s j fresh))
+Stepped N s c out out' (step.Line j) = AtEnd s c j out out'
 Stepped N s c out out' (step.Refused n) = (out' ≡ out) × Reads c (λ p w. line-says N (here s (c .at)) (c .k) p w ≡ broken [] n (c .at))
 
 -- ---- a line
+
+-- a line's values may be read from the place `at` on, with the entry e there and k points given, within a table of at most 65,536 points; the byte table t is lent
+pub record FirstValue (N : ℕ) (t s : List ℕ) (at e k : ℕ) : Type 0 where
+  pub lent : t ≡ table
+  pub most : N ≤ 65536
+  pub some : 0 < at
+  pub high : at ≤ length s
+  pub stands : e ≡ entryAt s at
+  pub few : k ≤ N
 
 -- the line that goes on at the place i ends at `stop`, the first place with a line's end, a comment or a byte that cannot stand there, and the next one begins at j
 pub record LineEnds (s : List ℕ) (i j : ℕ) : Type 0 where
@@ -131,8 +157,16 @@ pub record LineBroken (N : ℕ) (s : List ℕ) (i k p : ℕ) (w : Spot) (out out
 abbrev pub Starts : ℕ → (ℕ → Spot → Type 0) → Type 0
 Starts want P = (p : ℕ) (w : Spot) → Holds 0 want 0 0 p w → P p w
 
+-- all values of a line: r is the state after it
+pub record LineWhole (N : ℕ) (s : List ℕ) (i k want : ℕ) (out out' : List ℤ) (r : Row) : Type 0 where
+  pub low : i ≤ r .at
+  pub high : r .at ≤ length s
+  pub small : r .q < 4294967296
+  pub few : r .k ≤ N
+  pub ends : LineEnds s i (r .at)
+  pub done : Starts want (λ p w. LineDone N s i k p w out out' r)
+
 -- the values of a line: the state after it, or a refusal and its place
 abbrev pub Lined : ℕ → List ℕ → ℕ → ℕ → ℕ → List ℤ → List ℤ → LineRead → Type 0
-Lined N s i k want out out' (linewise.Next r) =
-    (i ≤ r .at) × (r .at ≤ length s) × (r .q < 4294967296) × (r .k ≤ N) × LineEnds s i (r .at) × Starts want (λ p w. LineDone N s i k p w out out' r)
+Lined N s i k want out out' (linewise.Next r) = LineWhole N s i k want out out' r
 Lined N s i k want out out' (linewise.Refused n a) = Starts want (λ p w. LineBroken N s i k p w out out' n a)

@@ -54,7 +54,7 @@ module _ (N : ℕ) (s : List ℕ) (i k : ℕ) (out : List ℤ) {p : ℕ} {w : Sp
   unlike f g = let z = sym (f .law) ∙ g .law in zero-one cc
 
 pub values-unique : (N : ℕ) (s : List ℕ) (i k want : ℕ) (out a b : List ℤ) (x y : LineRead) → Lined N s i k want out a x → Lined N s i k want out b y → (x ≡ y) × (a ≡ b)
-values-unique N s i k want out a b (linewise.Next x) (linewise.Next y) f g = started want (λ p w h. done-same N s i k out (next-same (f .4) (g .4)) (f .5 p w h) (g .5 p w h))
-values-unique N s i k want out a b (linewise.Next x) (linewise.Refused n u) f g = started want (λ p w h. unlike N s i k out (f .5 p w h) (g p w h))
-values-unique N s i k want out a b (linewise.Refused n u) (linewise.Next y) f g = started want (λ p w h. unlike N s i k out (g .5 p w h) (f p w h))
+values-unique N s i k want out a b (linewise.Next x) (linewise.Next y) f g = started want (λ p w h. done-same N s i k out (next-same (f .ends) (g .ends)) (f .done p w h) (g .done p w h))
+values-unique N s i k want out a b (linewise.Next x) (linewise.Refused n u) f g = started want (λ p w h. unlike N s i k out (f .done p w h) (g p w h))
+values-unique N s i k want out a b (linewise.Refused n u) (linewise.Next y) f g = started want (λ p w h. unlike N s i k out (g .done p w h) (f p w h))
 values-unique N s i k want out a b (linewise.Refused n u) (linewise.Refused m v) f g = started want (λ p w h. broken-same N s i k out (f p w h) (g p w h))

@@ -1,38 +1,29 @@
 // The values of a line (01, "Values", "Meaning"). The byte table is lent to each function, and the state goes in and comes back by value.
 ghost use mathlib.Core.Path.{_≡_};
-ghost use mathlib.Core.List.{map};
-ghost use mathlib.Core.Logic.{_⊎_};
-ghost use Prim.Native.Nat.{_+_, _%_, _<_, _≤_};
+ghost use Prim.Native.Nat.{_<_, _≤_};
 ghost use lib.Dec.{leb};
-ghost use lib.ListN.{length, set};
-ghost use lib.Seq.{sets};
-ghost use Rattle.alphabet_spec.specs.Entries.{entryAt, table};
-ghost use Rattle.table_spec.specs.Frame.{entry-for};
-ghost use Rattle.table_spec.specs.Values.{own, by, times, By, copies, moved, room};
-ghost use Rattle.table_values.specs.Numbers.{leadOf, valueAt, below, Token, Numbered};
-ghost use Rattle.table_values.specs.States.{shiftedTo, difForm, rowAfter, Reaches, Sits, Went, Stepped, Lined};
+ghost use Rattle.alphabet_spec.specs.Entries.{table};
+ghost use Rattle.table_spec.specs.Values.{own, by, times};
+ghost use Rattle.table_numbers.specs.Numbers.{Token};
+ghost use Rattle.table_values.specs.States.{difForm, rowAfter, Sits, Valued, Again, Went, Stepped, FirstValue, Lined};
 use alphabet::BLANK;
 use alphabet::DIF;
 use alphabet::DIF_MINUS;
 use alphabet::KIND;
 use alphabet::MISSING;
-use alphabet::PAST_DIGITS;
-use alphabet::PLUS;
 use alphabet::POINT;
-use alphabet::digits;
 use alphabet::entry_at;
-use signed::PAST_ORDINATES;
 use signed::ZERO_ORDINATE;
-use signed::entry_for;
 use table_lines::Ending;
 use table_lines::blanks;
 use table_lines::line_end;
-
-// A number: itself, the place after it and the entry there; or one that is misspelled.
-enum NumberRead {
-    Read(u64, usize, u64),
-    Misspelled,
-}
+use table_numbers::NumberRead;
+use table_numbers::number;
+use table_numbers::packed;
+use table_ordinates::moved_by;
+use table_ordinates::put;
+use table_ordinates::repeat;
+use table_ordinates::shifted;
 
 // Within a line: the place and the entry there; how many points; the ordinate before (0: none on this line, or missing); the ordinate that a check line's first value must equal (0: not
 // asked); the size of the last difference; and the form of the value before: 0 none, or a DUP that is not DIF; 1 a DUP that is; 2 a value of its own; from DIF on a difference, its first byte's entry.
@@ -65,138 +56,6 @@ pub struct Row {
 pub enum LineRead {
     Next(Row),
     Refused(u64, usize),
-}
-
-// ---- numbers
-
-// How many digits may follow the pseudo-digit with the entry e: ten with it, five for DUP, none after @ and %.
-fn further(e: u64) -> usize
-    requires { ⌜ (16 ≤ e) × (e < 96) ⌝ }
-    ensures { λ r. ⌜ r ≡ room (leadOf e) (e % 16) ⌝ }
-{
-    if e < DIF {
-        return 4;
-    }
-    if e % KIND == 0 {
-        return 0;
-    }
-    9
-}
-
-// A pseudo-digit and its digits, at a place whose entry is e.
-fn packed(t: &[u8; 256], s: &[u8], at: usize, e: u64) -> NumberRead
-    requires { ⌜ (now t ≡ table) × (e ≡ entryAt (now s) at) × (16 ≤ e) × (e < 96) ⌝ }
-    ensures { λ r. ⌜ Numbered (now (s .entry)) at e r ⌝ }
-{
-    let next = at + 1;
-    let r = digits(t, s, next, e % KIND, further(e));
-    if r.e < PAST_DIGITS {
-        return NumberRead::Misspelled;
-    }
-    NumberRead::Read(r.v, r.at, r.e)
-}
-
-// A sign and digits, at a place whose entry is e.
-fn signed_number(t: &[u8; 256], s: &[u8], at: usize, e: u64) -> NumberRead
-    requires { ⌜ (now t ≡ table) × (e ≡ entryAt (now s) at) × (128 ≤ e) × (e < 160) ⌝ }
-    ensures { λ r. ⌜ Numbered (now (s .entry)) at e r ⌝ }
-{
-    let next = at + 1;
-    let r = digits(t, s, next, 0, 10);
-    if r.at == next {
-        return NumberRead::Misspelled;
-    }
-    if r.e < PAST_DIGITS {
-        return NumberRead::Misspelled;
-    }
-    NumberRead::Read(r.v, r.at, r.e)
-}
-
-// Digits directly after a blank, at a place whose entry is the digit e.
-fn plain_number(t: &[u8; 256], s: &[u8], at: usize, e: u64) -> NumberRead
-    requires { ⌜ (now t ≡ table) × (e ≡ entryAt (now s) at) × (e < 16) × (0 < at) ⌝ }
-    ensures { λ r. ⌜ Numbered (now (s .entry)) at e r ⌝ }
-{
-    if entry_at(t, s, at - 1) != BLANK {
-        return NumberRead::Misspelled;
-    }
-    let next = at + 1;
-    let r = digits(t, s, next, e, 9);
-    if r.e < PAST_DIGITS {
-        return NumberRead::Misspelled;
-    }
-    NumberRead::Read(r.v, r.at, r.e)
-}
-
-// The number of the value at a place whose entry is e, below a point's, and neither `?` nor a blank.
-fn number(t: &[u8; 256], s: &[u8], at: usize, e: u64) -> NumberRead
-    requires { ⌜ (now t ≡ table) × (e ≡ entryAt (now s) at) × (e < 160) × (0 < at) × (e < 96 ⊎ 128 ≤ e) ⌝ }
-    ensures { λ r. ⌜ Numbered (now (s .entry)) at e r ⌝ }
-{
-    if e < PAST_DIGITS {
-        return plain_number(t, s, at, e);
-    }
-    if e >= PLUS {
-        return signed_number(t, s, at, e);
-    }
-    packed(t, s, at, e)
-}
-
-// ---- ordinates
-
-// An ordinate and a difference, where the sum is one.
-fn moved_by(q: u64, minus: bool, v: u64) -> u64
-    requires { ⌜ Reaches minus v 1 q ⌝ }
-    ensures { λ r. ⌜ r ≡ moved minus v q ⌝ }
-{
-    if minus {
-        return q - v;
-    }
-    q + v
-}
-
-// An ordinate and a difference, or 0 if that is no ordinate.
-fn shifted(q: u64, minus: bool, v: u64) -> u64
-    requires { ⌜ (q < 4294967296) × (v < 1000000000000000) ⌝ }
-    ensures { λ r. ⌜ r ≡ shiftedTo minus v q ⌝ }
-{
-    if minus {
-        if v >= q {
-            return 0;
-        }
-        return q - v;
-    }
-    let u = q + v;
-    if u >= PAST_ORDINATES {
-        return 0;
-    }
-    u
-}
-
-// Stores an ordinate, if there is room for it.
-fn put(out: &mut [i32], k: usize, u: u64)
-    requires { ⌜ u < 4294967296 ⌝ }
-    ensures { λ _. ⌜ now (out .exit) ≡ set (now (out .entry)) k (entry-for u) ⌝ }
-{
-    if k < out.len() {
-        out[k] = entry_for(u);
-    }
-}
-
-// Stores n ordinates, each a step from the one before.
-fn repeat(out: &mut [i32], k: usize, q: u64, minus: bool, d: u64, n: usize)
-    requires { ⌜ (k + n ≤ 200000) × (q < 4294967296) × Reaches minus d n q ⌝ }
-    ensures { λ _. ⌜ now (out .exit) ≡ sets (now (out .entry)) k (map entry-for (copies n (By minus d) q)) ⌝ }
-{
-    let mut i = k;
-    let mut u = q;
-    let mut left = n;
-    while left > 0 {
-        u = moved_by(u, minus, d);
-        put(out, i, u);
-        i += 1;
-        left -= 1;
-    }
 }
 
 // ---- one value
@@ -358,7 +217,7 @@ fn difference(s: &[u8], points: usize, out: &mut [i32], c: Cur, v: u64, j: usize
 
 // A DUP of a value of its own, or of a missing one: n further copies of the ordinate.
 fn same_again(s: &[u8], points: usize, out: &mut [i32], c: Cur, n: usize, j: usize, f: u64) -> Step
-    requires { ⌜ Sits points (now s) c × (points ≤ 65536) × (2 ≤ c .form) × (c .form < 32) × (1 ≤ n) × (n < 100000) × Token (now s) (c .at) (times (n + 1)) j f ⌝ }
+    requires { ⌜ Again points (now s) c n j f × (2 ≤ c .form) × (c .form < 32) ⌝ }
     ensures { λ r. ⌜ Stepped points (now (s .entry)) c (now (out .entry)) (now (out .exit)) r ⌝ }
 {
     let k = c.k;
@@ -381,7 +240,7 @@ fn same_again(s: &[u8], points: usize, out: &mut [i32], c: Cur, n: usize, j: usi
 
 // A DUP of a difference: n further steps.
 fn steps_again(s: &[u8], points: usize, out: &mut [i32], c: Cur, n: usize, j: usize, f: u64) -> Step
-    requires { ⌜ Sits points (now s) c × (points ≤ 65536) × (32 ≤ c .form) × (1 ≤ n) × (n < 100000) × Token (now s) (c .at) (times (n + 1)) j f ⌝ }
+    requires { ⌜ Again points (now s) c n j f × (32 ≤ c .form) ⌝ }
     ensures { λ r. ⌜ Stepped points (now (s .entry)) c (now (out .entry)) (now (out .exit)) r ⌝ }
 {
     let k = c.k;
@@ -431,7 +290,7 @@ fn dup_value(s: &[u8], points: usize, out: &mut [i32], c: Cur, v: u64, j: usize,
 
 // The value at the place, whose number is v.
 fn value(s: &[u8], points: usize, out: &mut [i32], c: Cur, v: u64, j: usize, f: u64) -> Step
-    requires { ⌜ Sits points (now s) c × (points ≤ 65536) × (c .e < 160) × (c .e < 96 ⊎ 128 ≤ c .e) × (v < below (c .e)) × Token (now s) (c .at) (valueAt (c .e) v) j f ⌝ }
+    requires { ⌜ Valued points (now s) c v j f ⌝ }
     ensures { λ r. ⌜ Stepped points (now (s .entry)) c (now (out .entry)) (now (out .exit)) r ⌝ }
 {
     let e = c.e;
@@ -514,7 +373,7 @@ pub fn values(
     k: usize,
     want: u64,
 ) -> LineRead
-    requires { ⌜ (now t ≡ table) × (points ≤ 65536) × (0 < at) × (at ≤ length (now s)) × (e ≡ entryAt (now s) at) × (k ≤ points) ⌝ }
+    requires { ⌜ FirstValue points (now t) (now s) at e k ⌝ }
     ensures { λ r. ⌜ Lined points (now (s .entry)) at k want (now (out .entry)) (now (out .exit)) r ⌝ }
 {
     let mut c = Cur {

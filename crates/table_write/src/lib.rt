@@ -1,5 +1,6 @@
 // Writing a table in one of the four forms (01, "The written text"; 02, T-02).
 ghost use mathlib.Core.Path.{_≡_};
+ghost use Prim.Native.Nat.{_≤_};
 ghost use lib.Dec.{leb};
 ghost use lib.ListN.{length};
 ghost use Rattle.table_spec.specs.declared.Style.the-variants.{Difdup};
@@ -50,9 +51,9 @@ fn is_full(style: Style) -> bool
     }
 }
 
-// The text in a form, from the start of the lent bytes. Its length.
+// The text in a form, from the start of the lent bytes, which hold it. Its length.
 fn lay(style: Style, ys: &[i32], text: &mut [u8], fr: Frame) -> usize
-    requires { ⌜ Sound fr × (length (now ys) ≡ fr .points) ⌝ }
+    requires { ⌜ Sound fr × (length (now ys) ≡ fr .points) × (length (lines-of style (headOf fr) (ordinates (now ys))) ≤ length (now text)) ⌝ }
     ensures { λ r. ⌜ Put (now (text .entry)) 0 (now (text .exit)) r (lines-of style (headOf fr) (ordinates (now (ys .entry)))) ⌝ }
 {
     if is_full(style) {
@@ -68,7 +69,7 @@ fn length_of(style: Style, ys: &[i32], fr: Frame) -> usize
 {
     let mut none = [0u8; 1];
     if is_full(style) {
-        return text_values::lay(style, ys, &mut none[..0], fr);
+        return text_values::measure(style, ys, &mut none[..0], fr);
     }
     measure(ys, &mut none[..0], fr)
 }

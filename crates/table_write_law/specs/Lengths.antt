@@ -208,7 +208,9 @@ module _ (st : Style) (full : in-full st ≡ true) (N : ℕ) (hd : ℕ → List 
   values-most (y ∷ ys) i col b =
       let v = valueText st y in
       let m = value-most st y in
-      by-case (λ t. 4 * length (pick t (v ++ values (valueText st) hd ys (suc i) (col + length v)) (13 ∷ 10 ∷ hd i ++ (v ++ values (valueText st) hd ys (suc i) (length (hd i) + length v)))) ≤ 60 * length (y ∷ ys) + col + 8)
+      let on = v ++ values (valueText st) hd ys (suc i) (col + length v) in
+      let anew = hd i ++ (v ++ values (valueText st) hd ys (suc i) (length (hd i) + length v)) in
+      by-case (λ t. 4 * length (pick t on (13 ∷ 10 ∷ anew)) ≤ 60 * length (y ∷ ys) + col + 8)
       (leb (col + length v) 80)
       (λ _. omega (arith, length-append v (values (valueText st) hd ys (suc i) (col + length v)), values-most ys (suc i) (col + length v) (omega arith)))
       (λ e. let k = leb-false (col + length v) 80 e in

@@ -99,7 +99,9 @@ module _ (st : Style) (R : Rules) (few : R .points ≤ 65536) (hd : ℕ → List
     goes-on : (r : Form) (i p col : ℕ) → Ok r p → 0 < i → i + length (y ∷ ys) ≡ R .points → Inside R (after r) i p (y ∷ ys) (go-on st hd (text st hd ys) (isDif r) col i p y ys)
     unfolding go-on
     goes-on r i p col o a b =
-        by-case (λ t. Inside R (after r) i p (y ∷ ys) (pick t (put st hd (text st hd ys) col i p y ys) (13 ∷ 10 ∷ open-line st hd (text st hd ys) (isDif r) i p y ys))) (leb (col + length (group st p y ys)) 80)
+        let K = text st hd ys in
+        by-case (λ t. Inside R (after r) i p (y ∷ ys) (pick t (put st hd K col i p y ys) (13 ∷ 10 ∷ open-line st hd K (isDif r) i p y ys)))
+        (leb (col + length (group st p y ys)) 80)
         (λ e. put-next r i p col (o .small) b)
         (λ e. line-ends (opens (isDif r) i p (λ d. (o .given d, a)) (o .small) b))
 

@@ -9,7 +9,7 @@ use lib.IntN.{ℤ}
 use lib.ListN.{length, take, drop, length-map}
 use lib.Seq.{length-take-le}
 use lib.Signed.{mag}
-use borrow.Author.Tests.{ltb-false, leb-true}
+use borrow.Author.Tests.{le-ltb, ltb-false, leb-true}
 use Rattle.terms.specs.Logic.{pick, by-case, both-true}
 use Rattle.table_spec.specs.Frame.{frame-legal, abscissa-legal, abscissa, rules, longest-body, zero-ordinate, ordinate-of, entry-for}
 use Rattle.table_spec.specs.Writing.{declined, wrote, fitted, written, writeTable}
@@ -51,6 +51,26 @@ entries-again : (zs : List ℤ) → Entries zs → map entry-for (map ordinate-o
 entries-again [] h = refl
 entries-again (z ∷ zs) h = rw (lower-lift zero-ordinate z (h .0), entries-again zs (h .1)) refl
 
+-- ---- what is written
+
+-- the writer takes every legal frame
+legal-takes : (f l : ℤ) (n : ℕ) → frame-legal f l n ≡ true → Takes (abscissa f) (abscissa l) n
+unfolding frame-legal
+legal-takes f l n e =
+    let a = both-true (abscissa-legal f) _ e in let b = both-true (abscissa-legal l) _ (a .1) in
+    let c = both-true (leb 1 n) _ (b .1) in let d = both-true (leb n 65536) _ (c .1) in
+    let x = legal-abscissa f (a .0) in let y = legal-abscissa l (b .0) in
+    record { low-first = x .0; low-last = y .0; high-first = x .1; high-last = y .1; some = leb-true 1 n (c .0); few = leb-true n 65536 (d .0) }
+
+-- so every list in a legal frame is written, where there is room: nothing is refused but by 1, 2 and 15 (02, T-03: "14 is withdrawn")
+pub always-written : (st : Style) (f l : ℤ) (n : ℕ) (es : List ℤ) (space : ℕ) → frame-legal f l n ≡ true → n ≤ length es → 15 * n + 44 ≤ space
+    → writeTable st f l n es space ≡ wrote (written st (abscissa f) (abscissa l) n (map ordinate-of (take n es)))
+unfolding writeTable
+always-written st f l n es space e h r =
+    let ys = map ordinate-of (take n es) in
+    let m = written-most st (abscissa f) (abscissa l) n ys (legal-takes f l n e) (length-map (take n es) ordinate-of ∙ length-take-le n es h) in
+    rw (e, le-ltb (length es) n h, le-ltb space (length (written st (abscissa f) (abscissa l) n ys)) (omega (arith, m, r))) refl
+
 -- ---- what was written
 
 module _ (st : Style) (f l : ℤ) (n : ℕ) (es : List ℤ) (space : ℕ) (t : List ℕ) where
@@ -78,12 +98,7 @@ module _ (st : Style) (f l : ℤ) (n : ℕ) (es : List ℤ) (space : ℕ) (t : L
       (λ _ a e. never e) refl
 
   takes : Taken → Takes (abscissa f) (abscissa l) n
-  unfolding frame-legal
-  takes k =
-      let a = both-true (abscissa-legal f) _ (k .legal) in let b = both-true (abscissa-legal l) _ (a .1) in
-      let c = both-true (leb 1 n) _ (b .1) in let d = both-true (leb n 65536) _ (c .1) in
-      let x = legal-abscissa f (a .0) in let y = legal-abscissa l (b .0) in
-      record { low-first = x .0; low-last = y .0; high-first = x .1; high-last = y .1; some = leb-true 1 n (c .0); few = leb-true n 65536 (d .0) }
+  takes k = legal-takes f l n (k .legal)
 
   counted : Taken → length (map ordinate-of (take n es)) ≡ n
   counted k = length-map (take n es) ordinate-of ∙ length-take-le n es (k .enough)

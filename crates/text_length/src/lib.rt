@@ -8,7 +8,7 @@ ghost use Rattle.table_spec.specs.Writing.{lines-of};
 ghost use Rattle.text_groups.specs.Tokens.{Found, lone};
 ghost use Rattle.frame.specs.Legal.{Sound};
 ghost use Rattle.table_text.specs.Pieces.{headOf, ordinates};
-ghost use Rattle.text_lines.specs.Lines.{from, Started, Wrote, Counted, Full, difference-state};
+ghost use Rattle.text_lines.specs.Lines.{from, PointsLeft, Countable, Wrote, Counted, Full, difference-state};
 use frame::Frame;
 use frame::distance;
 use signed::ordinate_at;
@@ -55,7 +55,7 @@ fn state_after(s: State, i: usize, p: u64, column: usize) -> State
 
 // Points in DIF form without DUP, after one in DIF form, as long as they fit on the line: most points of most tables.
 fn lone_differences(ys: &[i32], s: State) -> State
-    requires { ⌜ Started s × (s .dif ≡ true) × (0 < s .last) × (s .given < length (now ys)) × (length (now ys) ≤ 65536) × (s .column ≤ s .at) × (s .at < 2 ^ 58) ⌝ }
+    requires { ⌜ Countable (2 ^ 58) (now ys) s × (s .given < length (now ys)) × (s .dif ≡ true) × (0 < s .last) ⌝ }
     ensures { λ r. ⌜ Counted (ordinates (now (ys .entry))) s r × (r .given < length (now (ys .entry))) ⌝ }
 {
     let n = ys.len();
@@ -81,7 +81,7 @@ fn lone_differences(ys: &[i32], s: State) -> State
 
 // The same from any state.
 fn count_differences(ys: &[i32], s: State) -> State
-    requires { ⌜ Started s × (s .given < length (now ys)) × (length (now ys) ≤ 65536) × (s .column ≤ s .at) × (s .at < 2 ^ 58) ⌝ }
+    requires { ⌜ Countable (2 ^ 58) (now ys) s × (s .given < length (now ys)) ⌝ }
     ensures { λ r. ⌜ Counted (ordinates (now (ys .entry))) s r × (r .given < length (now (ys .entry))) ⌝ }
 {
     if s.last == 0 {
@@ -117,7 +117,7 @@ fn count_group(ys: &[i32], s: State, g: Group) -> State
 
 // The groups that fit on the line.
 fn count_line(ys: &[i32], s: State) -> State
-    requires { ⌜ Started s × (s .given ≤ length (now ys)) × (length (now ys) ≤ 65536) × (s .column ≤ s .at) × (s .at < 2 ^ 57) ⌝ }
+    requires { ⌜ Countable (2 ^ 57) (now ys) s × (s .given ≤ length (now ys)) ⌝ }
     ensures { λ r. ⌜ Counted (ordinates (now (ys .entry))) s r × Full (ordinates (now (ys .entry))) s r ⌝ }
 {
     let n = ys.len();
@@ -139,7 +139,7 @@ fn count_line(ys: &[i32], s: State) -> State
 
 // The groups that fit on the line, and the start of a new line if points are left.
 fn count_turn(ys: &[i32], none: &mut [u8], fr: Frame, s: State) -> State
-    requires { ⌜ Sound fr × (length (now ys) ≡ fr .points) × Started s × (s .given < length (now ys)) × (s .column ≤ s .at) × (s .at < 2 ^ 56) × (s .column ≤ 60) × (length (now none) ≡ 0) ⌝ }
+    requires { ⌜ PointsLeft (2 ^ 56) fr (now ys) s × (s .column ≤ s .at) × (s .column ≤ 60) × (length (now none) ≡ 0) ⌝ }
     ensures { λ r. ⌜ Wrote (headOf fr) (ordinates (now (ys .entry))) (s .given) (s .at) (from (headOf fr) (ordinates (now (ys .entry))) s) (now (none .entry)) (now (none .exit)) r
         × (r .given < length (now (ys .entry)) → r .column ≤ 60) ⌝ }
 {

@@ -3,9 +3,12 @@ use mathlib.Core.Path.{_≡_}
 use mathlib.Core.Bool.{Bool, true, false}
 use mathlib.Core.List.{List, _∷_, _++_}
 use Prim.Native.Nat.{ℕ, _+_, _-_, _*_, _≤_, _<_}
+use lib.IntN.{ℤ}
 use lib.ListN.{length, getD, drop}
 use Rattle.terms.specs.Logic.{pick}
 use Rattle.table_spec.specs.Writing.{check, text}
+use Rattle.frame.specs.declared.Frame.{Frame}
+use Rattle.frame.specs.Legal.{Sound}
 use Rattle.text_lines.specs.declared.State.{State}
 use Rattle.table_text.specs.Pieces.{Put, Ahead}
 use Rattle.text_groups.specs.Tokens.{count-at, group-at, dif-at}
@@ -33,6 +36,21 @@ module _ (head-of : ℕ → List ℕ) where
 pub record Started (s : State) : Type 0 where
   pub some : s .dif ≡ true → 0 < s .given
   pub small : s .last < 4294967296
+
+-- points are left to write in a sound frame, the entries are its points, and the place is below `far`
+pub record PointsLeft (far : ℕ) (fr : Frame) (es : List ℤ) (s : State) : Type 0 where
+  pub sound : Sound fr
+  pub all : length es ≡ fr .points
+  pub started : Started s
+  pub some : s .given < length es
+  pub near : s .at < far
+
+-- points can be counted on from the state: the entries are no more than a table has, and the place is below `far`
+pub record Countable (far : ℕ) (es : List ℤ) (s : State) : Type 0 where
+  pub started : Started s
+  pub few : length es ≤ 65536
+  pub column-most : s .column ≤ s .at
+  pub near : s .at < far
 
 -- the state after the start of a new line, at the place b
 abbrev pub line-state : State → ℕ → State

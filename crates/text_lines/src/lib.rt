@@ -9,7 +9,7 @@ ghost use Rattle.table_spec.specs.Groups.{sqzText};
 ghost use Rattle.frame.specs.Legal.{Sound};
 ghost use Rattle.table_text.specs.Pieces.{Put, headOf, ordinates};
 ghost use Rattle.text_groups.specs.Tokens.{Found};
-ghost use Rattle.text_lines.specs.Lines.{start, opening, after, from, Wrote, Started, NewLine};
+ghost use Rattle.text_lines.specs.Lines.{start, opening, after, from, Wrote, Started, PointsLeft, NewLine};
 use frame::Frame;
 use signed::ZERO_ORDINATE;
 use signed::ordinate_at;
@@ -150,8 +150,7 @@ pub fn new_line(out: &mut [u8], fr: Frame, s: State) -> State
 
 // The next group on a new line: as it was found on a check line, found afresh on another.
 fn break_line(ys: &[i32], out: &mut [u8], fr: Frame, s: State, g: Group) -> State
-    requires { ⌜ Sound fr × (length (now ys) ≡ fr .points) × Started s × (s .given < length (now ys)) × Found (ordinates (now ys)) (s .given) (s .last) g
-        × (80 < s .column + g .width) × (s .at < 2 ^ 57) ⌝ }
+    requires { ⌜ PointsLeft (2 ^ 57) fr (now ys) s × Found (ordinates (now ys)) (s .given) (s .last) g × (80 < s .column + g .width) ⌝ }
     ensures { λ r. ⌜ Wrote (headOf fr) (ordinates (now (ys .entry))) (s .given) (s .at) (from (headOf fr) (ordinates (now (ys .entry))) s) (now (out .entry)) (now (out .exit)) r ⌝ }
 {
     let i = s.given;
@@ -168,7 +167,7 @@ fn break_line(ys: &[i32], out: &mut [u8], fr: Frame, s: State, g: Group) -> Stat
 
 // One group more, on this line if it fits whole, else on a new one.
 pub fn turn(ys: &[i32], out: &mut [u8], fr: Frame, s: State) -> State
-    requires { ⌜ Sound fr × (length (now ys) ≡ fr .points) × Started s × (s .given < length (now ys)) × (s .at < 2 ^ 57) × (s .column ≤ s .at) ⌝ }
+    requires { ⌜ PointsLeft (2 ^ 57) fr (now ys) s × (s .column ≤ s .at) ⌝ }
     ensures { λ r. ⌜ Wrote (headOf fr) (ordinates (now (ys .entry))) (s .given) (s .at) (from (headOf fr) (ordinates (now (ys .entry))) s) (now (out .entry)) (now (out .exit)) r ⌝ }
 {
     let i = s.given;

@@ -17,8 +17,14 @@ use Rattle.table_spec.specs.Writing.{lines-of}
 use Rattle.table_write_law.specs.Tokens.{form-cases}
 use Rattle.table_write_law.specs.Plain.{valueText, values, plain-lines}
 use Rattle.table_write_law.specs.Lengths.{value-most}
-use Rattle.table_text.specs.Pieces.{number}
+use Rattle.frame.specs.declared.Frame.{Frame}
+use Rattle.frame.specs.Legal.{Sound}
+use Rattle.table_spec.specs.Frame.{nearest}
+use Rattle.table_write_law.specs.Abscissas.{nearest-range}
+use Rattle.table_write_law.specs.Heads.{head-length}
+use Rattle.table_text.specs.Pieces.{number, headOf}
 use Rattle.text_values.specs.Shows.{spelled, marks-of, Based, shown}
+use Rattle.text_values.specs.Lines.{whole}
 
 pub marks-based : (st : Style) → Based (marks-of st)
 unfolding marks-of
@@ -55,9 +61,21 @@ values-same f g e hd (y ∷ ys) i col =
     rw (e y, values-same f g e hd ys (suc i) (col + length (g y)), values-same f g e hd ys (suc i) (length (hd i) + length (g y))) refl
 
 -- the whole text
-pub form-text : (st : Style) → in-full st ≡ true → (hd : ℕ → List ℕ) (ys : List ℕ) → 0 < length ys → length (hd 0) ≤ 15
+form-text : (st : Style) → in-full st ≡ true → (hd : ℕ → List ℕ) (ys : List ℕ) → 0 < length ys → length (hd 0) ≤ 15
     → lines-of st hd ys ≡ hd 0 ++ values (shown (marks-of st)) hd ys 0 (length (hd 0))
 form-text st full hd [] h l = absurd (not-suc-le-zero h)
 form-text st full hd (y ∷ ys) h l =
     plain-lines st full hd y ys (omega (arith, value-most st y))
     ∙ ap (λ (t : List ℕ). hd 0 ++ t) (values-same (valueText st) (shown (marks-of st)) (marks-show st) hd (y ∷ ys) 0 (length (hd 0)))
+
+-- a head is short
+first-head : (fr : Frame) → Sound fr → length (headOf fr 0) ≤ 15
+unfolding headOf
+first-head fr s =
+    let low-first = s .low-first in let low-last = s .low-last in let first = s .first in let last = s .last in let some = s .some in
+    let z = nearest-range (fr .first) (fr .last) (fr .points) 0 1 19999999999 (omega arith) (omega arith) (omega arith) (omega arith) (omega arith) in
+    omega (arith, head-length (nearest (fr .first) (fr .last) (fr .points) 0) (omega (arith, z .0)) (omega (arith, z .1)))
+
+-- the text of a form in a frame
+pub form-whole : (st : Style) → in-full st ≡ true → (fr : Frame) → Sound fr → (ys : List ℕ) → length ys ≡ fr .points → lines-of st (headOf fr) ys ≡ whole (marks-of st) fr ys
+form-whole st full fr s ys e = let some = s .some in form-text st full (headOf fr) ys (omega arith) (first-head fr s)

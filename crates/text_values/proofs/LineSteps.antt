@@ -3,14 +3,19 @@ use mathlib.Core.Path.{_≡_, refl, sym, ap, _∙_}
 use mathlib.Core.List.{List, [], _∷_, _++_}
 use Prim.Native.Nat.{ℕ, _+_, _-_, _^_, _≤_, _<_}
 use native.Mathlib.Omega.{arith}
+use native.Mathlib.Nat.{zero-add}
 use native.Mathlib.Numerals.{add-one}
-use lib.ListN.{length, getD, drop-of-length-le}
+use lib.ListN.{length, getD, drop-of-length-le, length-append}
 use lib.Seq.{sets, drop-cons}
 use borrow.Author.Tests.{le-leb, lt-leb}
 use Rattle.table_write_law.specs.Plain.{values}
-use Rattle.table_text.specs.Pieces.{Put, Ahead, put-length, ahead-of}
+use Rattle.table_text.specs.Pieces.{Put, Ahead, put-length, ahead-of, sets-past}
 use Rattle.text_values.specs.declared.State.{State}
 use Rattle.text_values.specs.Lines.{from, Wrote, Going}
+
+-- where nothing is lent, a piece is only measured
+pub put-nothing : (o : List ℕ) (at w : ℕ) (g : List ℕ) → length o ≡ 0 → w ≡ length g → Put o at o (at + w) g
+put-nothing o at w g e f = record { next = ap (λ (n : ℕ). at + n) f; stored = sym (sets-past o at g (omega arith)) }
 
 -- the state after the first head
 abbrev pub start : ℕ → State
@@ -34,6 +39,18 @@ module _ (shown : ℕ → List ℕ) (hd : ℕ → List ℕ) (ys : List ℕ) wher
         → from shown hd ys s ≡ (13 ∷ 10 ∷ []) ++ (hd (s .given) ++ (here ++ from shown hd ys (next at (length (hd (s .given)) + length here))))
     unfolding from values
     from-breaks at l = rw (drop-cons ys (s .given) 0 inside, lt-leb (s .column + length here) 80 l, add-one (s .given)) refl
+
+    -- ---- the bytes that the next value takes of those that are left
+
+    pub room-fits : {w k : ℕ} → w ≡ length here → s .column + w ≤ 80 → s .at + length (from shown hd ys s) ≤ k → s .at + w ≤ k
+    room-fits e l h =
+        let rest = from shown hd ys (next 0 (s .column + length here)) in
+        omega (arith, ap length (from-fits 0 (omega arith)), length-append here rest)
+
+    pub room-breaks : {w k : ℕ} → w ≡ length here → 80 < s .column + w → s .at + length (from shown hd ys s) ≤ k → s .at + 2 + length (hd (s .given)) + w ≤ k
+    room-breaks e l h =
+        let rest = from shown hd ys (next 0 (length (hd (s .given)) + length here)) in
+        omega (arith, ap length (from-breaks 0 (omega arith)), length-append (hd (s .given)) (here ++ rest), length-append here rest)
 
     -- ---- a turn
 
@@ -90,6 +107,10 @@ module _ (shown : ℕ → List ℕ) (hd : ℕ → List ℕ) (ys : List ℕ) wher
         column-most = w .column-most;
       }
 
+  -- the whole text
+  abbrev all : List ℕ
+  all = hd 0 ++ values shown hd ys 0 (length (hd 0))
+
   from-end : (s : State) → length ys ≤ s .given → from shown hd ys s ≡ 13 ∷ 10 ∷ []
   unfolding from values
   from-end s h = rw (drop-of-length-le ys h) refl
@@ -101,13 +122,18 @@ module _ (shown : ℕ → List ℕ) (hd : ℕ → List ℕ) (ys : List ℕ) wher
   again-as : {x o : List ℕ} {n at : ℕ} {t t' : List ℕ} → t ≡ t' → Ahead x n o at t → Ahead x n o at t'
   again-as e r = rw e at r
 
+  -- what is left in a state is what the whole text has after it
+  ahead : {o o₁ o₃ : List ℕ} {n i : ℕ} {s : State} → Put o 0 o₁ n (hd 0) → Going shown hd ys o₁ (start n) o₃ s i
+      → Ahead (sets o 0 all) (0 + length all) o₃ (s .at) (from shown hd ys s)
+  ahead {n = n} h g =
+      g .law _ _ (again-as (sym (from-start n (omega (arith, h .next)))) (ahead-of (values shown hd ys 0 (length (hd 0))) h (record { whole = refl; ends = refl })))
+
+  pub left-of : {o o₁ o₃ : List ℕ} {n i : ℕ} {s : State} → Put o 0 o₁ n (hd 0) → Going shown hd ys o₁ (start n) o₃ s i → s .at + length (from shown hd ys s) ≡ length all
+  left-of h g = ahead h g .ends ∙ zero-add (length all)
+
   pub finish : {o o₁ o₃ o₅ : List ℕ} {n r i : ℕ} {s : State} → Put o 0 o₁ n (hd 0) → Going shown hd ys o₁ (start n) o₃ s i → length ys ≤ i → Put o₃ (s .at) o₅ r (13 ∷ 10 ∷ [])
-      → Put o 0 o₅ r (hd 0 ++ values shown hd ys 0 (length (hd 0)))
-  finish {o = o} {n = n} {s = s} h g k v =
-      let all = hd 0 ++ values shown hd ys 0 (length (hd 0)) in
-      let a : Ahead (sets o 0 all) (0 + length all) o 0 all = record { whole = refl; ends = refl } in
-      let b = ahead-of (values shown hd ys 0 (length (hd 0))) h a in
+      → Put o 0 o₅ r all
+  finish {s = s} h g k v =
       let is = g .is in
-      let d = g .law (sets o 0 all) (0 + length all) (again-as (sym (from-start n (omega (arith, h .next)))) b) in
-      let y = again-as (from-end s (omega arith)) d in
+      let y = again-as (from-end s (omega arith)) (ahead h g) in
       record { next = v .next ∙ y .ends; stored = v .stored ∙ y .whole }

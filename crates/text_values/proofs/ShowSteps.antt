@@ -1,5 +1,5 @@
 -- What the showing of a value in full needs. No place of the code is named here. Assumes nothing.
-use mathlib.Core.Path.{_≡_, refl, sym, ap, _∙_}
+use mathlib.Core.Path.{_≡_, refl, ap, _∙_}
 use mathlib.Core.Bool.{Bool, true, false}
 use mathlib.Core.List.{List, _++_}
 use Prim.Native.Nat.{ℕ, _+_, _-_, _≤_, _<_}
@@ -10,7 +10,7 @@ use Rattle.terms.specs.Logic.{pick}
 use Rattle.table_text.specs.Digits.{further}
 use Rattle.table_text.specs.DigitLaws.{further-le}
 use Rattle.table_text.proofs.NumberSteps.{number-length}
-use Rattle.table_text.specs.Pieces.{Put, number, put-none, put-byte, sets-past}
+use Rattle.table_text.specs.Pieces.{Put, number, put-none, put-byte}
 use Rattle.text_values.specs.declared.Marks.{Marks}
 use Rattle.text_values.specs.declared.Shown.{Shown}
 use Rattle.text_values.specs.Shows.{mark, spelled, shown, Shows}
@@ -52,9 +52,17 @@ shows-parts space signed base size a b digits h k d x y =
 pub shows-own : {t : List ℕ} {v : Shown} → Shows t v → Shows (spelled (v .space) (v .signed) (v .base) (v .size)) v
 shows-own h = record { text = refl; base = h .base; size = h .size; digits = h .digits; width-is = h .width-is ∙ ap length (h .text); slim = h .slim }
 
--- where nothing is lent, a piece is only measured
-pub put-nothing : (o : List ℕ) (at : ℕ) {w : ℕ} {g : List ℕ} → length o ≡ 0 → w ≡ length g → Put o at o (at + w) g
-put-nothing o at {g = g} e f = record { next = ap (λ (n : ℕ). at + n) f; stored = sym (sets-past o at g (omega arith)) }
+-- the marks and the digits of a value are its bytes
+pub marks-within : {v : Shown} → Shows (spelled (v .space) (v .signed) (v .base) (v .size)) v → v .width ≡ length (mark (v .space) 32) + length (mark (v .signed) 45) + 1 + v .digits
+marks-within {v} h =
+    omega (
+      arith,
+      h .width-is,
+      h .digits,
+      spelled-length (v .space) (v .signed) (v .base) (v .size),
+      mark-length (v .space) 32,
+      mark-length (v .signed) 45,
+    )
 
 pub put-marked : {o o' : List ℕ} (at b : ℕ) (q : Bool) → q ≡ true → o' ≡ set o at b → Put o at o' (at + 1) (mark q b)
 put-marked at b q e f = rw e (put-byte at b f)

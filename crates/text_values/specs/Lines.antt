@@ -1,11 +1,28 @@
 -- The text from a value on, and what the functions on lines ensure (02, T-02). Assumes nothing.
 use mathlib.Core.Path.{_≡_}
-use mathlib.Core.List.{List}
-use Prim.Native.Nat.{ℕ, _+_, _*_, _≤_}
+use mathlib.Core.List.{List, _++_}
+use Prim.Native.Nat.{ℕ, _+_, _*_, _^_, _≤_, _<_}
 use lib.ListN.{length, drop}
 use Rattle.table_write_law.specs.Plain.{values}
-use Rattle.table_text.specs.Pieces.{Ahead}
+use Rattle.frame.specs.declared.Frame.{Frame}
+use Rattle.frame.specs.Legal.{Sound}
+use Rattle.table_text.specs.Pieces.{Ahead, headOf}
+use Rattle.text_values.specs.declared.Marks.{Marks}
 use Rattle.text_values.specs.declared.State.{State}
+use Rattle.text_values.specs.Shows.{shown, Based}
+
+-- the whole text that a form's marks make: the first head, and the values
+abbrev pub whole : Marks → Frame → List ℕ → List ℕ
+whole m fr ys = headOf fr 0 ++ values (shown m) (headOf fr) ys 0 (length (headOf fr 0))
+
+-- a state from which one value more can be written: the n ordinates are a sound frame's, one is left, and the place is far from the largest number
+pub record Ready (m : Marks) (fr : Frame) (n : ℕ) (s : State) : Type 0 where
+  pub based : Based m
+  pub sound : Sound fr
+  pub all : n ≡ fr .points
+  pub left : s .given < n
+  pub near : s .at < 2 ^ 57
+  pub column : s .column ≤ s .at
 
 -- the text of a value, and the head of a point
 module _ (shown : ℕ → List ℕ) (hd : ℕ → List ℕ) where

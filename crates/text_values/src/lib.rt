@@ -1,16 +1,17 @@
 // Values in full on lines: the text of AFFN, PAC and SQZ (02, T-02). Inner functions: the frame is a sound one, and the ordinates are its points.
 ghost use mathlib.Core.Path.{_≡_};
 ghost use mathlib.Core.Bool.{true};
-ghost use mathlib.Core.List.{_++_, map};
+ghost use mathlib.Core.List.{map};
 ghost use Prim.Native.Nat.{_≤_};
 ghost use lib.ListN.{length};
 ghost use Rattle.table_spec.specs.Frame.{ordinate-of};
 ghost use Rattle.table_spec.specs.Groups.{in-full};
 ghost use Rattle.table_spec.specs.Writing.{lines-of};
 ghost use Rattle.frame.specs.Legal.{Sound};
-ghost use Rattle.table_write_law.specs.Plain.{values};
 ghost use Rattle.table_text.specs.Pieces.{Put, headOf};
-ghost use Rattle.text_values.specs.Shows.{shown, Based};
+ghost use Rattle.text_values.specs.Shows.{Based};
+ghost use Rattle.text_values.specs.Lines.{whole};
+use crate::lines::count_turn;
 use crate::lines::turn;
 use crate::shows::marks_of;
 use frame::Frame;
@@ -18,6 +19,7 @@ use table_spec::Style;
 use table_text::digits::put_end;
 use table_text::heads::put_head;
 
+mod digits;
 mod lines;
 mod shows;
 
@@ -51,10 +53,10 @@ struct State {
     column: usize,
 }
 
-// The whole text from the start of the lent bytes. Its length.
+// The whole text from the start of the lent bytes, which hold it. Its length.
 fn pass(m: Marks, ys: &[i32], text: &mut [u8], fr: Frame) -> usize
-    requires { ⌜ Based m × Sound fr × (length (now ys) ≡ fr .points) ⌝ }
-    ensures { λ r. ⌜ Put (now (text .entry)) 0 (now (text .exit)) r (headOf fr 0 ++ values (shown m) (headOf fr) (map ordinate-of (now (ys .entry))) 0 (length (headOf fr 0))) × (length (headOf fr 0) ≤ 15) ⌝ }
+    requires { ⌜ Based m × Sound fr × (length (now ys) ≡ fr .points) × (length (whole m fr (map ordinate-of (now ys))) ≤ length (now text)) ⌝ }
+    ensures { λ r. ⌜ Put (now (text .entry)) 0 (now (text .exit)) r (whole m fr (map ordinate-of (now (ys .entry)))) ⌝ }
 {
     let n = ys.len();
     let head = put_head(text, 0, fr, 0);
@@ -72,11 +74,41 @@ fn pass(m: Marks, ys: &[i32], text: &mut [u8], fr: Frame) -> usize
     put_end(text, at)
 }
 
-// The text of a form whose values are written in full, from the start of the lent bytes. Its length; where nothing is lent, that only.
+// The same where nothing is lent: the length of the text.
+fn count(m: Marks, ys: &[i32], none: &mut [u8], fr: Frame) -> usize
+    requires { ⌜ Based m × Sound fr × (length (now ys) ≡ fr .points) × (length (now none) ≡ 0) ⌝ }
+    ensures { λ r. ⌜ Put (now (none .entry)) 0 (now (none .exit)) r (whole m fr (map ordinate-of (now (ys .entry)))) ⌝ }
+{
+    let n = ys.len();
+    let head = put_head(none, 0, fr, 0);
+    let mut s = State {
+        given: 0,
+        at: head,
+        column: head,
+    };
+    let mut i = 0;
+    while i < n {
+        s = count_turn(m, ys, none, fr, s);
+        i = s.given;
+    }
+    let at = s.at;
+    put_end(none, at)
+}
+
+// The text of a form whose values are written in full, from the start of the lent bytes, which hold it. Its length.
 pub fn lay(style: Style, ys: &[i32], text: &mut [u8], fr: Frame) -> usize
-    requires { ⌜ (in-full style ≡ true) × Sound fr × (length (now ys) ≡ fr .points) ⌝ }
+    requires { ⌜ (in-full style ≡ true) × Sound fr × (length (now ys) ≡ fr .points) × (length (lines-of style (headOf fr) (map ordinate-of (now ys))) ≤ length (now text)) ⌝ }
     ensures { λ r. ⌜ Put (now (text .entry)) 0 (now (text .exit)) r (lines-of style (headOf fr) (map ordinate-of (now (ys .entry)))) ⌝ }
 {
     let m = marks_of(style);
     pass(m, ys, text, fr)
+}
+
+// The length of that text.
+pub fn measure(style: Style, ys: &[i32], none: &mut [u8], fr: Frame) -> usize
+    requires { ⌜ (in-full style ≡ true) × Sound fr × (length (now ys) ≡ fr .points) × (length (now none) ≡ 0) ⌝ }
+    ensures { λ r. ⌜ r ≡ length (lines-of style (headOf fr) (map ordinate-of (now (ys .entry)))) ⌝ }
+{
+    let m = marks_of(style);
+    count(m, ys, none, fr)
 }

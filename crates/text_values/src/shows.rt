@@ -1,20 +1,20 @@
 // Values written in full (02, T-02).
 ghost use mathlib.Core.Path.{_≡_};
-ghost use Prim.Native.Nat.{_+_, _^_, _≤_, _<_};
+ghost use Prim.Native.Nat.{_+_, _≤_, _<_};
+ghost use lib.ListN.{length};
 ghost use Rattle.terms.specs.Logic.{pick};
 ghost use Rattle.table_text.specs.Pieces.{Put};
 ghost use Rattle.text_values.specs.Shows.{mark, spelled, shown, marks-of, Based, Shows};
 use crate::Marks;
 use crate::Shown;
+use crate::digits::digits_after;
+use crate::digits::store_number;
 use signed::ZERO_ORDINATE;
 use table_spec::Style;
 use table_text::digits::DIGIT;
 use table_text::digits::MISSING;
 use table_text::digits::SQZ;
 use table_text::digits::SQZ_MINUS;
-use table_text::digits::further_digits;
-use table_text::digits::put;
-use table_text::digits::put_number;
 
 // The marks of a form. DIFDUP writes its values in full as SQZ does.
 pub fn marks_of(style: Style) -> Marks
@@ -71,7 +71,7 @@ fn measured(space: bool, signed: bool, base: u64, size: u64) -> Shown
     requires { ⌜ (base ≤ 105) × (size < 4294967296) ⌝ }
     ensures { λ r. ⌜ Shows (spelled space signed base size) r ⌝ }
 {
-    let digits = further_digits(size);
+    let digits = digits_after(size);
     let first = mark_width(space);
     let second = mark_width(signed);
     let width = first + second + 1 + digits;
@@ -103,24 +103,21 @@ pub fn show(m: Marks, u: u64) -> Shown
 
 // A byte, if there is to be one. The place after it.
 fn put_mark(out: &mut [u8], at: usize, yes: bool, b: u8) -> usize
-    requires { ⌜ at < 2 ^ 61 ⌝ }
+    requires { ⌜ at < length (now out) ⌝ }
     ensures { λ r. ⌜ Put (now (out .entry)) at (now (out .exit)) r (mark yes b) × (r ≤ at + 1) ⌝ }
 {
     if yes {
-        put(out, at, b);
+        out[at] = b;
         return at + 1;
     }
     at
 }
 
-// A value; where nothing is lent it is only measured. The place after it.
+// A value, all of whose bytes are lent. The place after it.
 pub fn put_shown(out: &mut [u8], at: usize, v: Shown) -> usize
-    requires { ⌜ Shows (spelled (v .space) (v .signed) (v .base) (v .size)) v × (at < 2 ^ 60) ⌝ }
+    requires { ⌜ Shows (spelled (v .space) (v .signed) (v .base) (v .size)) v × (at + v .width ≤ length (now out)) ⌝ }
     ensures { λ r. ⌜ Put (now (out .entry)) at (now (out .exit)) r (spelled (v .space) (v .signed) (v .base) (v .size)) × (r ≤ at + 12) ⌝ }
 {
-    if out.len() == 0 {
-        return at + v.width;
-    }
     let space = v.space;
     let signed = v.signed;
     let base = v.base;
@@ -128,5 +125,5 @@ pub fn put_shown(out: &mut [u8], at: usize, v: Shown) -> usize
     let digits = v.digits;
     let a = put_mark(out, at, space, b' ');
     let b = put_mark(out, a, signed, b'-');
-    put_number(out, b, base, size, digits)
+    store_number(out, b, base, size, digits)
 }

@@ -1,6 +1,7 @@
 //! Right spellings of a table, in every form that 01 lets pass, mixed at random.
 
-use crate::frame::{nearest, Frame, MISSING};
+use super::coarse;
+use crate::frame::{nearest, Frame, MISSING, UNITS};
 use crate::random::Random;
 
 /// How a body is spelled: odds (once in so many times) and forms that one body keeps to.
@@ -14,6 +15,8 @@ pub struct Style {
     pub line_ends: Vec<&'static [u8]>,
     pub odd_heads: usize,
     pub half_heads: usize,
+    /// To how many places after the point heads are rounded, if they are (02, T-03).
+    pub places: Option<usize>,
     pub slips: usize,
 }
 
@@ -45,12 +48,12 @@ pub fn style(random: &mut Random) -> Style {
         line_ends: random.pick(&ends),
         odd_heads: random.pick(&[2, 6, 1_000]),
         half_heads: random.pick(&[40, 1_000_000, 1_000_000]),
+        places: random.pick(&[None, None, None, None, Some(0), Some(1), Some(2)]),
         slips: random.pick(&[20, NEVER, NEVER]),
     }
 }
 
-/// A spelling of a table in this frame. It is right unless no head can pass, or the style takes heads at half a spacing
-/// or slips.
+/// A spelling of a table in this frame. It is right unless the style takes heads at half a spacing or slips.
 pub fn body(random: &mut Random, style: &Style, frame: &Frame, ordinates: &[i32]) -> Vec<u8> {
     let mut body = Vec::new();
     let mut next = 0;
@@ -215,11 +218,16 @@ fn after_blank(random: &mut Random, y: i64, body: &mut Vec<u8>) {
     body.extend(zero_filled(random, y.unsigned_abs(), 10));
 }
 
-/// A head for a point, spelled anyhow.
-fn head(random: &mut Random, style: &Style, frame: &Frame, index: usize) -> Vec<u8> {
+/// A head for a point: rounded to the style's places, if it has some, or else spelled anyhow.
+pub fn head(random: &mut Random, style: &Style, frame: &Frame, index: usize) -> Vec<u8> {
+    if let Some(places) = style.places {
+        if let Some(h) = coarse::head(random, style, frame, index, UNITS[places]) {
+            return spelled_head(random, style, h, places);
+        }
+    }
     let h =
         if random.once_in(style.odd_heads) { odd_head(random, style, frame, index) } else { exact_head(frame, index) };
-    spelled_head(random, style, h.clamp(-9_999_999_999, 9_999_999_999))
+    spelled_head(random, style, h.clamp(-9_999_999_999, 9_999_999_999), 0)
 }
 
 /// The abscissa of a point, in thousandths times the number of steps.
@@ -256,8 +264,9 @@ fn odd_head(random: &mut Random, style: &Style, frame: &Frame, index: usize) -> 
     }
 }
 
-/// A head of so many thousandths with signs, leading zeros, a point and as many digits after it as one likes.
-fn spelled_head(random: &mut Random, style: &Style, h: i128) -> Vec<u8> {
+/// A head of so many thousandths with signs, leading zeros, a point and as many digits after it as one likes; if it has
+/// no more than so many places, just those.
+fn spelled_head(random: &mut Random, style: &Style, h: i128, places: usize) -> Vec<u8> {
     let plain = random.once_in(2) || style.odd_heads >= 1_000;
     let mut spelled = Vec::new();
     if h < 0 || (h == 0 && !plain && random.once_in(4)) {
@@ -273,7 +282,7 @@ fn spelled_head(random: &mut Random, style: &Style, h: i128) -> Vec<u8> {
     });
     let part = format!("{:03}", magnitude % 1000);
     let least = part.trim_end_matches('0').len();
-    let shown = if plain { least } else { least + random.below(4 - least) };
+    let shown = if plain || style.places.is_some() { least.max(places) } else { least + random.below(4 - least) };
     if shown > 0 || (!plain && random.once_in(4)) {
         spelled.push(b'.');
         spelled.extend(&part.as_bytes()[..shown]);

@@ -85,9 +85,11 @@ fn offset(random: &mut Random, steps: i64) -> i64 {
     }
 }
 
-/// A frame with a span near N - 1, on either side of refusal 14.
+/// A frame with a span near N - 1, or below it: heads of neighbours are the same (02, T-03).
 pub fn tight_frame(random: &mut Random, points: usize) -> Frame {
-    let span = (points as i64 - 1 + random.between(-2, 3)).max(1);
+    let steps = points as i64 - 1;
+    let near = steps + random.between(-1, 3);
+    let span = if random.once_in(4) { random.between(1, steps.max(1)) } else { near.max(1) };
     let first = random.between(-2000, 2000);
     let last = if points == 1 {
         first

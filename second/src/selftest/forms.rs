@@ -24,7 +24,7 @@ fn rows(points: usize) -> Frame {
 }
 
 /// Compares the text of a table, with `/` for CR LF, and what is read from it.
-fn written(report: &mut Report, form: TextForm, frame: Frame, list: &[i32], expected: &str) {
+pub fn written(report: &mut Report, form: TextForm, frame: Frame, list: &[i32], expected: &str) {
     let text = write_body(form, &frame, list, expected.len() + expected.matches('/').count());
     let text = text.map(|text| String::from_utf8(text).unwrap());
     report.compare(expected, plain(text), Ok(expected.replace('/', "\r\n")));
@@ -141,7 +141,7 @@ fn check_heads(report: &mut Report) {
     written(report, TextForm::Sqz, frame(-10, -31, 15), &list, &format!("-0.01{seven}/-0.02{seven}/-0.031{one}/"));
 }
 
-/// Refusals 1, 2, 14 and 15 in each form, each before those after it; DIFDUP's are the same.
+/// Refusals 1, 2 and 15 in each form, each before those after it; DIFDUP's are the same.
 fn check_refusals(report: &mut Report) {
     for (form, length) in FORMS.into_iter().zip([11, 11, 11, 7]) {
         let mut refused = |what: &str, frame: Frame, given: usize, room: usize, number: u32| {
@@ -156,14 +156,13 @@ fn check_refusals(report: &mut Report) {
         refused("1: too many points", frame(0, FAR, 65_537), 4, 99, 1);
         refused("2", frame(0, 2, 4), 3, 0, 2);
         refused("2: none", frame(0, 3000, 4), 0, 99, 2);
-        refused("14", frame(0, 2, 4), 4, 0, 14);
-        refused("14, falling", frame(0, -2, 4), 5, 99, 14);
+        refused("15, closer than a thousandth", frame(0, -2, 4), 4, 0, 15);
         refused("15: none", frame(0, 3000, 4), 4, 0, 15);
         refused("15: one less", frame(0, 3000, 4), 5, length - 1, 15);
         let exact = write_body(form, &rows(4), &[0, 1, 0, 0, 9], length);
         report.compare("exact", plain(exact).map(|text| text.len()), Ok(length));
-        let tight = write_body(form, &frame(0, 3, 4), &[X; 4], 99);
-        report.compare("not 14", plain(tight).map(|text| text.len()), Ok([5, 11, 7, 7][form as usize]));
+        let close = write_body(form, &frame(0, -2, 4), &[X; 4], 99);
+        report.compare("no 14", plain(close).map(|text| text.len()), Ok([5, 11, 7, 7][form as usize]));
     }
 }
 

@@ -56,7 +56,7 @@ figures-from-npoints-requires c κs =
     let read = c .before .before .before in let known = right read in let z = start (first known) in
     let one = rw (known .before .firstx .given .1) at (first known .decimal-in .ensures .1) in
     let two = rw (c .before .lastx .given .1) at (read .decimal-in2 .ensures .1) in
-    (z .pre .0, z .pre .1, z .pre .2, z .pre .3, one, two)
+    (z .pre, one, two)
 
 returns-3 : tie.Need-returns-3
 returns-3 c =

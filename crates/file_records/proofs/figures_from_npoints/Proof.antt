@@ -59,7 +59,8 @@ returns-3 c =
     let many = rw (known .before .npoints .given .1) at (first known .count-in .ensures .1) in
     let small = rw (c .before .firsty .given .1) at (read .decimal-in .ensures .1) in
     let p = z .pre in
-    (all-right (a .file .now) (a .x) (a .xfactor) (a .yfactor) (a .firstx) (a .lastx) one two, record { xfactor = p .2; yfactor = p .3; firstx = p .4; lastx = p .5; npoints = many; firsty = small })
+    let all = all-right (a .file .now) (a .x) (a .xfactor) (a .yfactor) (a .firstx) (a .lastx) one two in
+    (all, record { xfactor = p .0 .xfactor; yfactor = p .0 .yfactor; firstx = p .1; lastx = p .2; npoints = many; firsty = small })
 
 pub figures-from-npoints-spec : {M : Type 1} → statement M
 figures-from-npoints-spec =

@@ -56,7 +56,7 @@ figures-from-firstx-requires c κs =
     let read = c .before .before .before in let known = right read in let z = start (first known) in
     let one = rw (known .before .xfactor .given .1) at (first known .factor-in .ensures .1) in
     let two = rw (c .before .yfactor .given .1) at (read .factor-in2 .ensures .1) in
-    (z .pre .0, z .pre .1, one, two)
+    record { lent = z .pre .0; within = z .pre .1; xfactor = one; yfactor = two }
 
 returns-3 : tie.Need-returns-3
 returns-3 c =

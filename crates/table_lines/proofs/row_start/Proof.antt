@@ -33,7 +33,8 @@ returns c =
     let e = c .before .entry-at .ensures in
     let x = c .if1 .taken in
     let y = b .low in
-    (omega arith, entry-in (c .before .before .before .before .before .args .s .now) (c .before .before .blanks .result) (λ z. omega (arith, e)), e, x, λ z. b .stops (sym e ∙ z), l .2 ∙ b .before)
+    let i = entry-in (c .before .before .before .before .before .args .s .now) (c .before .before .blanks .result) (λ z. omega (arith, e)) in
+    (omega arith, record { inside = i; stands = e; before-point = x; no-blank = λ z. b .stops (sym e ∙ z) }, l .2 ∙ b .before)
 
 returns-2 : tie.Need-returns-2 Inv-loop μ-loop
 returns-2 c =
@@ -54,8 +55,8 @@ loop-less c =
     let y = b .low in
     let n = entry-in (c .before .before .before .before .before .before .before .before .before .before .args .s .now) (c .before .before .before .before .before .before .before .blanks .result)
     (λ e. c .before .before .before .before .if2 .left (c .before .before .before .before .before .before .entry-at .ensures ∙ e)) in
-    let z = x .2 n in
-    omega (arith, x .1)
+    let z = x .moves n in
+    omega (arith, x .high)
 
 loop-again : tie.Need-loop-again Inv-loop μ-loop
 loop-again c =
@@ -63,7 +64,7 @@ loop-again c =
     let b = c .before .before .before .before .before .before .before .blanks .ensures in
     let x = rw (c .before .j .given .1) at (c .before .before .before .line-end .ensures) in
     let y = b .low in
-    (omega (arith, x .0), x .1, l .2 ∙ b .before ∙ x .3)
+    (omega (arith, x .low), x .high, l .2 ∙ b .before ∙ x .before)
 
 enum-told : tie.Need-enum-told Inv-loop μ-loop
 enum-told c = search needs

@@ -52,7 +52,7 @@ read-line-requires : tie.Need-read-line-requires Inv-loop μ-loop
 read-line-requires c κs =
     let head = c .before .before in let read = head .before .before in let turn = read .before in let p = turn .before .before .pre in
     let x = rw (head .j2 .given .1) at (read .row-start .ensures) in
-    (p .0, p .1, turn .loop .inv .rests, x .1, x .2, x .3, x .4)
+    (p .0, p .1, turn .loop .inv .rests, x .1)
 
 enum-known-n : tie.Need-enum-known-n Inv-loop μ-loop
 enum-known-n c = search needs
@@ -66,7 +66,7 @@ returns-3 : tie.Need-returns-3 Inv-loop μ-loop
 returns-3 c =
     let told = c .before in let line = told .before .before .before in let head = line .before .before .before in let read = head .before .before in
     let x = rw (head .j2 .given .1) at (read .row-start .ensures) in
-    reached-refused (read .before .loop .inv) _ _ (x .5) (rw (told .n .given .1) at (line .read-line .ensures))
+    reached-refused (read .before .loop .inv) _ _ (x .2) (rw (told .n .given .1) at (line .read-line .ensures))
 
 enum-known-next : tie.Need-enum-known-next Inv-loop μ-loop
 enum-known-next c = search needs
@@ -82,7 +82,7 @@ loop-again : tie.Need-loop-again Inv-loop μ-loop
 loop-again c =
     let told = c .before in let line = told .before .before .before in let head = line .before .before .before in let read = head .before .before in
     let x = rw (head .j2 .given .1) at (read .row-start .ensures) in
-    reached-next (read .before .loop .inv) _ (x .5) (rw (told .next .given .1) at (line .read-line .ensures))
+    reached-next (read .before .loop .inv) _ (x .2) (rw (told .next .given .1) at (line .read-line .ensures))
 
 pub pass-spec : {M : Type 1} → statement M
 pass-spec =

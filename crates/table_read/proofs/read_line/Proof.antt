@@ -88,7 +88,7 @@ values-requires : tie.Need-values-requires
 values-requires c κs =
     let k = known (indexed (c .before .before .before .before)) in let p = start (read k) .pre in let t = topped k in
     let low = t .low in
-    (p .0, p .1 .few, omega arith, t .high, t .stands, p .2 .few)
+    record { lent = p .0; most = p .1 .few; some = omega arith; high = t .high; stands = t .stands; few = p .2 .few }
 
 returns-3 : tie.Need-returns-3
 returns-3 c = let h = c .before .before in line-four (frame h) _ (row h) _ (rw (c .enum-told .given .1) at (h .head .ensures)) [] []

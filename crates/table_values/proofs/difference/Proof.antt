@@ -6,7 +6,7 @@ use native.Mathlib.Omega.{arith}
 use lib.Dec.{leb}
 use Rattle.table_values.specs.States.{going, dif}
 use Rattle.table_values.proofs.Turns.{value-not, value-full, value-adds, value-stepped}
-use Rattle.table_values.proofs.Moves.{shift-some}
+use Rattle.table_ordinates.proofs.Moves.{shift-some}
 use Rattle.table_values.proofs.Meanings.{dif-none, dif-out, dif-adds}
 use Rattle.table_values.proofs.Walks.{sits-next}
 use borrow.Author.Needs.{needs}

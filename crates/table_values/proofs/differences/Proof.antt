@@ -6,8 +6,8 @@ use lib.Dec.{leb}
 use lib.ListN.{length}
 use borrow.Author.Needs.{needs}
 use Rattle.table_values.specs.States.{Went}
-use Rattle.table_values.proofs.NumberLaws.{below-ten, dif-at}
-use Rattle.table_values.proofs.Moves.{shift-some}
+use Rattle.table_numbers.proofs.NumberLaws.{below-ten, dif-at}
+use Rattle.table_ordinates.proofs.Moves.{shift-some}
 use Rattle.table_values.proofs.Walks.{went-none, went-on}
 use Rattle.table_values.proofs.differences.Statement.{statement}
 use Rattle.table_values.proofs.differences.Tie as tie
@@ -38,7 +38,7 @@ shifted-requires : tie.Need-shifted-requires Inv-loop μ-loop
 shifted-requires c κs =
     let l = c .before .before .before .before .before .before .loop .inv .0 .sits in let x = rw (c .before .v .given .1) at (c .before .before .before .packed .ensures) in
     let b = below-ten (c .before .before .before .before .before .before .loop .e) in
-    (l .small, let y = x .0 in omega arith)
+    (l .small, let y = x .small in omega arith)
 
 put-requires : tie.Need-put-requires Inv-loop μ-loop
 put-requires c κs =
@@ -56,7 +56,7 @@ loop-again c =
     let x = rw (c .before .before .before .before .before .before .v .given .1) at (c .before .before .before .before .before .before .before .before .packed .ensures) in let b = below-ten (l .e) in
     let d = c .before .before .before .before .before .before .before .before .before .before .loop-test .taken in let lo : 32 ≤ l .e = omega arith in let hi : l .e < 64 = omega arith in
     let u = shift-some (leb 48 (l .e)) _ (l .q) _ (c .before .before .before .before .shifted .ensures) (c .before .before .before .if3 .left) in (
-      went-on _ _ _ (l .inv .0) (l .inv .1) lo hi (let y = x .0 in omega arith) (rw (dif-at (l .e) _ lo hi) at (x .1))
+      went-on _ _ _ (l .inv .0) (l .inv .1) lo hi (let y = x .small in omega arith) (rw (dif-at (l .e) _ lo hi) at (x .token))
           (c .before .before .before .before .before .before .before .before .before .if2 .left) (c .before .before .before .before .shifted .ensures) (c .before .before .before .if3 .left)
           (c .before .put .ensures),
       u .low,

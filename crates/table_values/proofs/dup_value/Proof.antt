@@ -3,7 +3,7 @@ use mathlib.Core.Path.{_≡_, refl, subst}
 use Prim.Native.Nat.{ℕ, _+_, _-_}
 use native.Mathlib.Omega.{arith}
 use Rattle.table_spec.specs.Values.{times}
-use Rattle.table_values.specs.Numbers.{Token}
+use Rattle.table_numbers.specs.Numbers.{Token}
 use Rattle.table_values.proofs.Turns.{value-not}
 use Rattle.table_values.proofs.Meanings.{dup-nowhere, dup-few}
 use borrow.Author.Needs.{needs}
@@ -23,7 +23,8 @@ same-again-requires : tie.Need-same-again-requires
 same-again-requires c κs =
     let p = c .before .before .before .before .before .pre in let a = c .before .before .before .before .before .args in let l = c .before .before .if2 .left in
     let e : a .v ≡ a .v - 1 + 1 = omega arith in
-    (p .0, p .1, c .before .before .before .if1 .left, c .before .if3 .taken, omega arith, omega arith, subst (λ (n : ℕ). Token (a .s .now) (a .c .at) (times n) (a .j) (a .f)) e (p .3))
+    let t = subst (λ (n : ℕ). Token (a .s .now) (a .c .at) (times n) (a .j) (a .f)) e (p .3) in
+    (record { sits = p .0; most = p .1; some = omega arith; small = omega arith; token = t }, c .before .before .before .if1 .left, c .before .if3 .taken)
 
 same-length : tie.Need-same-length
 same-length c = search needs
@@ -35,7 +36,8 @@ steps-again-requires : tie.Need-steps-again-requires
 steps-again-requires c κs =
     let p = c .before .before .before .before .before .pre in let a = c .before .before .before .before .before .args in let l = c .before .before .if2 .left in
     let e : a .v ≡ a .v - 1 + 1 = omega arith in
-    (p .0, p .1, c .before .if3 .left, omega arith, omega arith, subst (λ (n : ℕ). Token (a .s .now) (a .c .at) (times n) (a .j) (a .f)) e (p .3))
+    let t = subst (λ (n : ℕ). Token (a .s .now) (a .c .at) (times n) (a .j) (a .f)) e (p .3) in
+    (record { sits = p .0; most = p .1; some = omega arith; small = omega arith; token = t }, c .before .if3 .left)
 
 same-length-2 : tie.Need-same-length-2
 same-length-2 c = search needs

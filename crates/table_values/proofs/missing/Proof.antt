@@ -6,7 +6,7 @@ use native.Mathlib.Omega.{arith}
 use Rattle.table_spec.specs.Values.{Gap}
 use Rattle.table_values.specs.States.{going, gap as codes-gap}
 use Rattle.table_values.proofs.Turns.{value-not, value-full, value-adds, value-stepped}
-use Rattle.table_values.proofs.NumberLaws.{gap-token}
+use Rattle.table_numbers.proofs.NumberLaws.{gap-token}
 use Rattle.table_values.proofs.Meanings.{gap-asked, gap-free}
 use borrow.Author.Needs.{needs}
 use Rattle.table_values.proofs.missing.Statement.{statement}

@@ -6,7 +6,7 @@ use native.Mathlib.Omega.{arith}
 use Rattle.table_spec.specs.Values.{Own}
 use Rattle.table_values.specs.States.{going, own as codes-own}
 use Rattle.table_values.proofs.Turns.{value-not, value-full, value-adds, value-stepped}
-use Rattle.table_values.proofs.Moves.{own-reach, own-small}
+use Rattle.table_ordinates.proofs.Moves.{own-reach, own-small}
 use Rattle.table_values.proofs.Meanings.{own-large, own-free, own-unequal, own-equal}
 use Rattle.table_values.proofs.Walks.{sits-next}
 use borrow.Author.Needs.{needs}

@@ -1,5 +1,5 @@
 -- `table_values::token` meets its contract: whatever stands next on a line.
-use Rattle.table_values.proofs.NumberLaws.{kinds}
+use Rattle.table_numbers.proofs.NumberLaws.{kinds}
 use mathlib.Core.Path.{refl}
 use Prim.Native.Nat.{_-_}
 use native.Mathlib.Omega.{arith}
@@ -18,7 +18,9 @@ enum-told : tie.Need-enum-told
 enum-told c = search needs
 
 returns : tie.Need-returns
-returns c = let x = rw (c .before .j .given .1) at (c .before .before .before .line-end .ensures) in (x .0, x .1, refl, c .before .before .before .before .if1 .taken, x .5, x .4 _)
+returns c =
+    let x = rw (c .before .j .given .1) at (c .before .before .before .line-end .ensures) in
+    record { low = x .low; high = x .high; same = refl; ends = c .before .before .before .before .if1 .taken; next = x .is; law = x .within _ }
 
 returns-2 : tie.Need-returns-2
 returns-2 c = let x = rw (c .enum-told .given .1) at (c .before .before .line-end .ensures) in (refl, λ y w h. fault-token _ _ _ _ y w 3 (x .1 _))
@@ -63,15 +65,16 @@ enum-known-v c = search needs
 
 value-requires : tie.Need-value-requires
 value-requires c κs =
-    let p = c .before .before .before .before .before .before .before .before .before .pre in let x = rw (c .before .before .v .given .1) at (c .before .before .before .before .number .ensures) in (
-      p .2,
-      p .1,
-      c .before .before .before .before .before .before .before .if1 .left,
-      kinds _ _ _ (p .2 .stands) (c .before .before .before .before .before .before .before .if1 .left)
-          (c .before .before .before .before .before .before .if2 .left) (c .before .before .before .before .before .if3 .left),
-      x .0,
-      x .1,
-    )
+    let p = c .before .before .before .before .before .before .before .before .before .pre in let x = rw (c .before .before .v .given .1) at (c .before .before .before .before .number .ensures) in
+    record {
+      sits = p .2;
+      most = p .1;
+      before-point = c .before .before .before .before .before .before .before .if1 .left;
+      kind = kinds _ _ _ (p .2 .stands) (c .before .before .before .before .before .before .before .if1 .left)
+          (c .before .before .before .before .before .before .if2 .left) (c .before .before .before .before .before .if3 .left);
+      small = x .small;
+      token = x .token;
+    }
 
 returns-5 : tie.Need-returns-5
 returns-5 c = let x = rw (c .enum-told2 .given .1) at (c .before .before .number .ensures) in (refl, λ y w h. fault-token _ _ _ _ y w 5 x)

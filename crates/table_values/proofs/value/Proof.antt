@@ -1,7 +1,7 @@
 -- `table_values::value` meets its contract: the value at the place, whose number is v.
 use Prim.Native.Nat.{_-_, _<_, _≤_}
 use native.Mathlib.Omega.{arith}
-use Rattle.table_values.proofs.NumberLaws.{below-ten, dup-at, dif-at, own-at-all}
+use Rattle.table_numbers.proofs.NumberLaws.{below-ten, dup-at, dif-at, own-at-all}
 use borrow.Author.Needs.{needs}
 use Rattle.table_values.proofs.value.Statement.{statement}
 use Rattle.table_values.proofs.value.Tie as tie
@@ -9,7 +9,7 @@ use Rattle.table_values.proofs.value.Tie as tie
 dup-value-requires : tie.Need-dup-value-requires
 dup-value-requires c κs =
     let p = c .before .before .before .pre in let a = c .before .before .before .args in let z = dup-at (a .c .e) (a .v) (c .before .if1 .taken) in
-    (p .0, p .1, rw (z .1) at (p .4), rw (z .0) at (p .5))
+    (p .sits, p .most, rw (z .1) at (p .small), rw (z .0) at (p .token))
 
 same-length : tie.Need-same-length
 same-length c = search needs
@@ -21,7 +21,7 @@ difference-requires : tie.Need-difference-requires
 difference-requires c κs =
     let p = c .before .before .before .before .pre in let a = c .before .before .before .before .args in let d = c .before .if2 .taken in let l : 32 ≤ a .c .e = omega arith in
     let h : a .c .e < 64 = omega arith in
-    (p .0, (let b = below-ten (a .c .e) in let x = p .4 in omega arith), l, h, rw (dif-at (a .c .e) (a .v) l h) at (p .5))
+    (p .sits, (let b = below-ten (a .c .e) in let x = p .small in omega arith), l, h, rw (dif-at (a .c .e) (a .v) l h) at (p .token))
 
 same-length-2 : tie.Need-same-length-2
 same-length-2 c = search needs
@@ -32,7 +32,7 @@ returns-2 c = search needs
 own-value-requires : tie.Need-own-value-requires
 own-value-requires c κs =
     let p = c .before .before .before .before .pre in let a = c .before .before .before .before .args in
-    (p .0, rw (own-at-all (a .c .e) (a .v) (c .before .before .if1 .left) (c .before .if2 .left) (p .2) (p .3)) at (p .5))
+    (p .sits, rw (own-at-all (a .c .e) (a .v) (c .before .before .if1 .left) (c .before .if2 .left) (p .before-point) (p .kind)) at (p .token))
 
 same-length-3 : tie.Need-same-length-3
 same-length-3 c = search needs

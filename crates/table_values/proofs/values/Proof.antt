@@ -18,15 +18,15 @@ abbrev μ-loop : tie.MeasureT-loop
 loop-holds : tie.Need-loop-holds Inv-loop μ-loop
 loop-holds c =
     let p = c .before .pre in
-    (went-none _ _ (record { some = p .2; high = p .3; stands = p .4; small = omega arith; size = omega arith; few = p .5 }), refl)
+    (went-none _ _ (record { some = p .some; high = p .high; stands = p .stands; small = omega arith; size = omega arith; few = p .few }), refl)
 
 differences-requires : tie.Need-differences-requires Inv-loop μ-loop
-differences-requires c κs = (c .before .before .before .pre .0, c .before .loop .inv .0 .sits)
+differences-requires c κs = (c .before .before .before .pre .lent, c .before .loop .inv .0 .sits)
 
 token-requires : tie.Need-token-requires Inv-loop μ-loop
 token-requires c κs =
     let p = c .before .before .before .before .before .before .pre in
-    (p .0, p .1, c .before .before .differences .ensures .sits)
+    (p .lent, p .most, c .before .before .differences .ensures .sits)
 
 enum-known-d : tie.Need-enum-known-d Inv-loop μ-loop
 enum-known-d c = search needs

@@ -31,7 +31,8 @@ turn-requires c κs =
     let l = length-map (a .ys .now) ordinate-of in
     let few = p .0 .few in
     let i = g .is in
-    (p .0, p .1, g .started, omega (arith, c .before .loop-test .taken), omega (arith, going-near _ _ g (omega (arith, p .1))), g .column-most)
+    let near = going-near _ _ g (omega (arith, p .1)) in
+    (record { sound = p .0; all = p .1; started = g .started; some = omega (arith, c .before .loop-test .taken); near = omega arith }, g .column-most)
 
 loop-less : tie.Need-loop-less Inv-loop μ-loop
 loop-less c =

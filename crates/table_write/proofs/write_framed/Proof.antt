@@ -28,7 +28,9 @@ fits-requires : tie.Need-fits-requires
 fits-requires c κs = (start (c .before) .pre, few (c .before))
 
 lay-requires : tie.Need-lay-requires
-lay-requires c κs = let e = c .before .before .before .before in (start e .pre, few e)
+lay-requires c κs =
+    let t = c .before in let e = t .before .before .before in
+    (start e .pre, few e, leb-true _ _ (sym (t .before .fits2 .ensures) ∙ t .if2 .taken))
 
 same-length : tie.Need-same-length
 same-length c = search needs

@@ -11,7 +11,7 @@ returns : tie.Need-returns
 returns c =
     let a = c .before .before .args in
     let p = c .before .before .pre in
-    (counted-none _ (a .s) (p .0) (omega (arith, p .1, length-map (a .ys .now) ordinate-of)) (p .3), p .1)
+    (counted-none _ (a .s) (p .0 .started) (omega (arith, p .1, length-map (a .ys .now) ordinate-of)) (p .0 .column-most), p .1)
 
 lone-differences-requires : tie.Need-lone-differences-requires
 lone-differences-requires c κs = search needs
@@ -23,7 +23,7 @@ returns-3 : tie.Need-returns-3
 returns-3 c =
     let a = c .before .before .before .args in
     let p = c .before .before .before .pre in
-    (counted-none _ (a .s) (p .0) (omega (arith, p .1, length-map (a .ys .now) ordinate-of)) (p .3), p .1)
+    (counted-none _ (a .s) (p .0 .started) (omega (arith, p .1, length-map (a .ys .now) ordinate-of)) (p .0 .column-most), p .1)
 
 pub count-differences-spec : {M : Type 1} → statement M
 count-differences-spec = tie.close (tie.spec returns lone-differences-requires returns-2 returns-3)

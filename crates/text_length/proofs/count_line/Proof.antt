@@ -20,30 +20,31 @@ loop-holds : tie.Need-loop-holds Inv-loop μ-loop
 loop-holds c =
     let a = c .args in
     let p = c .pre in
-    (counted-none _ (a .s) (p .0) (omega (arith, p .1, length-map (a .ys .now) ordinate-of)) (p .3), refl)
+    (counted-none _ (a .s) (p .0 .started) (omega (arith, p .1, length-map (a .ys .now) ordinate-of)) (p .0 .column-most), refl)
 
 count-differences-requires : tie.Need-count-differences-requires Inv-loop μ-loop
 count-differences-requires c κs =
     let a = c .before .before .args in
-    let p = c .before .before .pre in
+    let p = c .before .before .pre .0 in
     let t = c .before .loop .inv in
     let l = length-map (a .ys .now) ordinate-of in
-    (t .0 .started, omega (arith, t .1, c .loop-test .taken), p .2, t .0 .column-most, omega (arith, p .4, counted-near _ (t .0) (omega (arith, p .2))))
+    let near = counted-near _ (t .0) (omega (arith, p .few)) in
+    (record { started = t .0 .started; few = p .few; column-most = t .0 .column-most; near = omega (arith, p .near) }, omega (arith, t .1, c .loop-test .taken))
 
 find-requires : tie.Need-find-requires Inv-loop μ-loop
-find-requires c κs = let e = c .count-differences .ensures in (e .1, c .before .before .before .pre .2, e .0 .started .small)
+find-requires c κs = let e = c .count-differences .ensures in (e .1, c .before .before .before .pre .0 .few, e .0 .started .small)
 
 add-if1 : tie.Need-add-if1 Inv-loop μ-loop
 add-if1 c =
     let a = c .before .before .before .before .args in
-    let p = c .before .before .before .before .pre in
+    let p = c .before .before .before .before .pre .0 in
     let l = length-map (a .ys .now) ordinate-of in
     let t = c .before .before .before .loop .inv in
     let e = c .before .count-differences .ensures in
     let slim = c .find .ensures .slim in
     let m = e .0 .column-most in
-    let near = counted-near _ (counted-then _ (t .0) (e .0)) (omega (arith, p .2)) in
-    omega (arith, p .4)
+    let near = counted-near _ (counted-then _ (t .0) (e .0)) (omega (arith, p .few)) in
+    omega (arith, p .near)
 
 returns : tie.Need-returns Inv-loop μ-loop
 returns c =
@@ -53,11 +54,11 @@ returns c =
 count-group-requires : tie.Need-count-group-requires Inv-loop μ-loop
 count-group-requires c κs =
     let a = c .before .before .before .before .before .args in
-    let p = c .before .before .before .before .before .pre in
+    let p = c .before .before .before .before .before .pre .0 in
     let l = length-map (a .ys .now) ordinate-of in
     let t = c .before .before .before .before .loop .inv in
     let e = c .before .before .count-differences .ensures in
-    (c .before .find .ensures, c .if1 .left, p .2, e .0 .column-most, omega (arith, p .4, counted-near _ (counted-then _ (t .0) (e .0)) (omega (arith, p .2))))
+    (c .before .find .ensures, c .if1 .left, p .few, e .0 .column-most, omega (arith, p .near, counted-near _ (counted-then _ (t .0) (e .0)) (omega (arith, p .few))))
 
 loop-less : tie.Need-loop-less Inv-loop μ-loop
 loop-less c =

@@ -14,7 +14,7 @@ returns : tie.Need-returns
 returns c =
     let p = c .before .before .before .before .pre in
     let e = c .before .before .count-line .ensures in
-    (counted-all _ _ (e .0) _ (omega (arith, p .7)) (omega (arith, p .3, c .if1 .taken)), λ l. absurd (omega (arith, c .if1 .taken)))
+    (counted-all _ _ (e .0) _ (omega (arith, p .3)) (omega (arith, p .0 .some, c .if1 .taken)), λ l. absurd (omega (arith, c .if1 .taken)))
 
 new-line-requires : tie.Need-new-line-requires
 new-line-requires c κs = search needs
@@ -30,7 +30,7 @@ returns-2 c =
     let e = c .before .before .before .before .before .before .count-line .ensures in
     let b = c .before .before .before .before .if1 .left in
     let v = c .before .before .new-line .ensures in
-    (counted-line _ _ (e .0) (omega arith) (e .1) v (omega (arith, p .7)) (omega (arith, p .3)) (p .6), λ _. line-short _ _ (e .0) (omega arith) (e .1) v)
+    (counted-line _ _ (e .0) (omega arith) (e .1) v (omega (arith, p .3)) (omega (arith, p .0 .some)) (p .2), λ _. line-short _ _ (e .0) (omega arith) (e .1) v)
 
 pub count-turn-spec : {M : Type 1} → statement M
 count-turn-spec =

@@ -26,7 +26,7 @@ loop-holds c =
     let a = c .before .args in
     let p = c .before .pre in
     let y = c .ordinate-at .ensures in
-    lone-start _ (a .s) _ (p .0) (p .1) (p .2) (omega (arith, p .3, length-map (a .ys .now) ordinate-of)) (p .5) (y .0) (y .1)
+    lone-start _ (a .s) _ (p .0 .started) (p .2) (p .3) (omega (arith, p .1, length-map (a .ys .now) ordinate-of)) (p .0 .column-most) (y .0) (y .1)
 
 ordinate-at-requires-2 : tie.Need-ordinate-at-requires-2 Inv-loop μ-loop
 ordinate-at-requires-2 c κs = search needs
@@ -38,15 +38,15 @@ add-all : tie.Need-add-all Inv-loop μ-loop
 add-all c =
     let t = c .before .before .before .loop .inv in
     let high = t .high in
-    let p = c .before .before .before .before .before .pre in
-    omega (arith, c .lone-width .ensures .1, p .5, p .6)
+    let p = c .before .before .before .before .before .pre .0 in
+    omega (arith, c .lone-width .ensures .1, p .column-most, p .near)
 
 state-after-requires : tie.Need-state-after-requires Inv-loop μ-loop
 state-after-requires c κs =
     let t = c .before .before .before .before .loop .inv in
     let high = t .high in
-    let p = c .before .before .before .before .before .before .pre in
-    (t .low, omega (arith, p .5, p .6), omega (arith, p .6))
+    let p = c .before .before .before .before .before .before .pre .0 in
+    (t .low, omega (arith, p .column-most, p .near), omega (arith, p .near))
 
 returns : tie.Need-returns Inv-loop μ-loop
 returns c =
@@ -72,8 +72,8 @@ state-after-requires-2 : tie.Need-state-after-requires-2 Inv-loop μ-loop
 state-after-requires-2 c κs =
     let t = c .before .loop .inv in
     let high = t .high in
-    let p = c .before .before .before .pre in
-    (t .low, omega (arith, p .5, p .6), omega (arith, p .6))
+    let p = c .before .before .before .pre .0 in
+    (t .low, omega (arith, p .column-most, p .near), omega (arith, p .near))
 
 returns-2 : tie.Need-returns-2 Inv-loop μ-loop
 returns-2 c =

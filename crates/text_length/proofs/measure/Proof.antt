@@ -37,12 +37,8 @@ count-turn-requires c κs =
     let i = g .is in
     let same = g .same in
     let left = c .before .loop-test .taken in (
-      p .0,
-      p .1,
-      g .started,
-      omega arith,
+      record { sound = p .0; all = p .1; started = g .started; some = omega arith; near = going-near _ _ g (omega (arith, p .1)) },
       g .column-most,
-      going-near _ _ g (omega (arith, p .1)),
       x .1 (omega arith),
       omega (arith, p .2, put-length (c .before .before .before .before .before .begin .ensures .2)),
     )

@@ -23,8 +23,8 @@ returns c =
     let a = c .before .before .before .before .before .before .before .before .before .before .args in
     let p = c .before .before .before .before .before .before .before .before .before .before .pre in
     let f = c .before .before .fill .ensures in
-    turn-breaks (headOf (a .fr)) (ordinates (a .ys .now)) (a .s) (a .g) (omega (arith, p .3, length-map (a .ys .now) ordinate-of))
-    (p .4) _ (p .5) (rw (c .before .before .before .before .if1 .taken) refl) (c .before .before .before .before .before .before .before .new-line .ensures) (f .0) (f .1)
+    turn-breaks (headOf (a .fr)) (ordinates (a .ys .now)) (a .s) (a .g) (omega (arith, p .0 .some, length-map (a .ys .now) ordinate-of))
+    (p .1) _ (p .2) (rw (c .before .before .before .before .if1 .taken) refl) (c .before .before .before .before .before .before .before .new-line .ensures) (f .0) (f .1)
 
 find-requires : tie.Need-find-requires
 find-requires c κs = search needs
@@ -40,8 +40,8 @@ returns-2 c =
     let a = c .before .before .before .before .before .before .before .before .before .before .before .args in
     let p = c .before .before .before .before .before .before .before .before .before .before .before .pre in
     let f = c .before .before .fill2 .ensures in
-    turn-breaks (headOf (a .fr)) (ordinates (a .ys .now)) (a .s) (a .g) (omega (arith, p .3, length-map (a .ys .now) ordinate-of))
-    (p .4) _ (p .5) (rw (c .before .before .before .before .before .if1 .left) refl) (c .before .before .before .before .before .before .before .before .new-line .ensures) (f .0) (f .1)
+    turn-breaks (headOf (a .fr)) (ordinates (a .ys .now)) (a .s) (a .g) (omega (arith, p .0 .some, length-map (a .ys .now) ordinate-of))
+    (p .1) _ (p .2) (rw (c .before .before .before .before .before .if1 .left) refl) (c .before .before .before .before .before .before .before .before .new-line .ensures) (f .0) (f .1)
 
 pub break-line-spec : {M : Type 1} → statement M
 break-line-spec =

@@ -22,7 +22,7 @@ same-length c = search needs
 
 returns : tie.Need-returns
 returns c = let a = c .before .before .before .before .before .before .before .args in let p = c .before .before .before .before .before .before .before .pre in
-    turn-fits (headOf (a .fr)) (ordinates (a .ys .now)) (a .s) _ (omega (arith, p .3, length-map (a .ys .now) ordinate-of))
+    turn-fits (headOf (a .fr)) (ordinates (a .ys .now)) (a .s) _ (omega (arith, p .0 .some, length-map (a .ys .now) ordinate-of))
     (c .before .before .before .before .before .find .ensures) (c .before .before .before .before .if1 .taken) (c .before .before .fill .ensures .0)
 
 break-line-requires : tie.Need-break-line-requires

@@ -1,10 +1,10 @@
 -- `text_values::lay` meets its contract: the pass with the marks of a form makes its text.
-use native.Mathlib.Omega.{arith}
+use mathlib.Core.Path.{_∙_}
 use mathlib.Core.List.{map}
 use lib.ListN.{length-map}
 use Rattle.table_spec.specs.Frame.{ordinate-of}
-use Rattle.table_text.specs.Pieces.{headOf, put-as}
-use Rattle.text_values.proofs.FormSteps.{marks-based, form-text}
+use Rattle.table_text.specs.Pieces.{put-as}
+use Rattle.text_values.proofs.FormSteps.{marks-based, form-whole}
 use borrow.Author.Needs.{needs}
 use Rattle.text_values.proofs.lay.Statement.{statement}
 use Rattle.text_values.proofs.lay.Tie as tie
@@ -13,7 +13,12 @@ marks-of-requires : tie.Need-marks-of-requires
 marks-of-requires c κs = search needs
 
 pass-requires : tie.Need-pass-requires
-pass-requires c κs = let p = c .before .before .before .pre in (rw (c .before .marks-of .ensures) (marks-based (c .before .before .before .args .style)), p .1, p .2)
+pass-requires c κs =
+    let z = c .before .before .before in
+    let a = z .args in
+    let p = z .pre in
+    let e = form-whole (a .style) (p .0) (a .fr) (p .1) (map ordinate-of (a .ys .now)) (length-map (a .ys .now) ordinate-of ∙ p .2) in
+    rw (c .before .marks-of .ensures, ← e) (marks-based (a .style), p .1, p .2, p .3)
 
 same-length : tie.Need-same-length
 same-length c = search needs
@@ -24,10 +29,8 @@ returns c =
     let z = b .before .before in
     let a = z .args in
     let p = z .pre in
-    let e = c .before .before .pass .ensures in
-    let some = p .1 .some in
-    put-as (form-text (a .style) (p .0) (headOf (a .fr)) (map ordinate-of (a .ys .now)) (omega (arith, p .2, length-map (a .ys .now) ordinate-of)) (e .1))
-    (rw (b .marks-of .ensures) at (e .0))
+    let e = form-whole (a .style) (p .0) (a .fr) (p .1) (map ordinate-of (a .ys .now)) (length-map (a .ys .now) ordinate-of ∙ p .2) in
+    put-as e (rw (b .marks-of .ensures) at (c .before .before .pass .ensures))
 
 pub lay-spec : {M : Type 1} → statement M
 lay-spec = tie.close (tie.spec marks-of-requires pass-requires same-length returns)

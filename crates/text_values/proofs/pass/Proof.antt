@@ -5,10 +5,10 @@ use mathlib.Core.List.{map}
 use lib.ListN.{length, length-map}
 use borrow.Author.Needs.{needs}
 use Rattle.table_spec.specs.Frame.{ordinate-of}
-use Rattle.table_text.specs.Pieces.{headOf}
+use Rattle.table_text.specs.Pieces.{headOf, put-length}
 use Rattle.text_values.specs.Shows.{shown}
 use Rattle.text_values.specs.Lines.{Going}
-use Rattle.text_values.proofs.LineSteps.{starts, goes, going-near, finish}
+use Rattle.text_values.proofs.LineSteps.{starts, goes, going-near, left-of, finish}
 use Rattle.text_values.proofs.pass.Statement.{statement}
 use Rattle.text_values.proofs.pass.Tie as tie
 
@@ -28,13 +28,18 @@ loop-holds c =
 
 turn-requires : tie.Need-turn-requires Inv-loop μ-loop
 turn-requires c κs =
-    let z = c .before .before .before .before .before .before .before .before in
+    let l = c .before .before in
+    let z = l .before .before .before .before .before .before in
     let p = z .pre in
-    let g = c .before .before .loop .inv in
+    let g = l .loop .inv in
+    let h = l .before .before .before .put-head .ensures .0 in
     let is = g .is in
     let few = p .1 .few in
-    let near = going-near _ _ _ g (omega (arith, p .2, length-map (z .args .ys .now) ordinate-of)) in
-    (p .0, p .1, p .2, omega (arith, c .before .loop-test .taken), omega (arith, near), g .column-most)
+    let same = g .same in
+    let near = going-near _ _ _ g (omega (arith, p .2, length-map (z .args .ys .now) ordinate-of)) in (
+      record { based = p .0; sound = p .1; all = p .2; left = omega (arith, c .before .loop-test .taken); near = omega (arith, near); column = g .column-most },
+      omega (arith, p .3, left-of _ _ _ h g, put-length h),
+    )
 
 loop-less : tie.Need-loop-less Inv-loop μ-loop
 loop-less c =
@@ -65,9 +70,8 @@ returns c =
     let h = b .before .before .before .before .put-head .ensures in
     let a = b .before .before .before .before .before .before .before .args in
     let n = h .0 .next in
-    let whole = finish (shown (a .m)) (headOf (a .fr)) (map ordinate-of (a .ys .now)) (h .0) (b .before .loop .inv)
-    (omega (arith, b .loop-test .left, length-map (a .ys .now) ordinate-of)) (c .before .before .put-end .ensures) in
-    (whole, omega (arith, h .1))
+    finish (shown (a .m)) (headOf (a .fr)) (map ordinate-of (a .ys .now)) (h .0) (b .before .loop .inv)
+    (omega (arith, b .loop-test .left, length-map (a .ys .now) ordinate-of)) (c .before .before .put-end .ensures)
 
 pub pass-spec : {M : Type 1} → statement M
 pass-spec =

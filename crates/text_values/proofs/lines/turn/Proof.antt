@@ -1,12 +1,14 @@
 -- `text_values::lines::turn` meets its contract: one value more, on this line if it fits, else on a new one.
-use native.Mathlib.Omega.{arith}
+use mathlib.Core.Path.{ap, _∙_}
 use mathlib.Core.List.{map}
-use lib.ListN.{length-map}
+use Prim.Native.Nat.{ℕ}
+use native.Mathlib.Omega.{arith}
+use lib.ListN.{length, length-map}
 use Rattle.table_spec.specs.Frame.{ordinate-of}
-use Rattle.table_text.specs.Pieces.{headOf, put-as}
+use Rattle.table_text.specs.Pieces.{headOf, put-as, put-length}
 use Rattle.text_values.specs.Shows.{shown}
 use Rattle.text_values.proofs.ShowSteps.{shows-own}
-use Rattle.text_values.proofs.LineSteps.{turn-fits, turn-breaks}
+use Rattle.text_values.proofs.LineSteps.{room-fits, room-breaks, turn-fits, turn-breaks}
 use borrow.Author.Needs.{needs}
 use Rattle.text_values.proofs.lines.turn.Statement.{statement}
 use Rattle.text_values.proofs.lines.turn.Tie as tie
@@ -24,7 +26,16 @@ add-given : tie.Need-add-given
 add-given c = search needs
 
 put-shown-requires : tie.Need-put-shown-requires
-put-shown-requires c κs = (shows-own (c .before .before .show .ensures), omega (arith, c .before .before .before .before .before .pre .4))
+put-shown-requires c κs =
+    let b = c .before in
+    let z = b .before .before .before .before in
+    let a = z .args in
+    let v = b .before .show .ensures in
+    let w = v .width-is ∙ ap (λ (x : ℕ). length (shown (a .m) x)) (b .before .before .ordinate-at .ensures .0) in (
+      shows-own v,
+      room-fits (shown (a .m)) (headOf (a .fr)) (map ordinate-of (a .ys .now)) (a .s) (omega (arith, z .pre .0 .left, length-map (a .ys .now) ordinate-of))
+          w (b .if1 .taken) (z .pre .1),
+    )
 
 same-length : tie.Need-same-length
 same-length c = search needs
@@ -35,8 +46,8 @@ returns c =
     let z = b .before .before .before .before in
     let a = z .args in
     let v = b .before .show .ensures in
-    turn-fits (shown (a .m)) (headOf (a .fr)) (map ordinate-of (a .ys .now)) (a .s) (omega (arith, z .pre .3, length-map (a .ys .now) ordinate-of))
-    (b .before .before .ordinate-at .ensures .0) (v .width-is) (v .slim) (z .pre .5) (b .if1 .taken) (put-as (v .text) (c .before .before .put-shown .ensures .0))
+    turn-fits (shown (a .m)) (headOf (a .fr)) (map ordinate-of (a .ys .now)) (a .s) (omega (arith, z .pre .0 .left, length-map (a .ys .now) ordinate-of))
+    (b .before .before .ordinate-at .ensures .0) (v .width-is) (v .slim) (z .pre .0 .column) (b .if1 .taken) (put-as (v .text) (c .before .before .put-shown .ensures .0))
 
 put-end-requires : tie.Need-put-end-requires
 put-end-requires c κs = search needs
@@ -49,8 +60,15 @@ put-shown-requires-2 c κs =
     let h = c .before .before .before in
     let e = h .before .before .before .before in
     let b = e .before .before in
-    let n = e .put-end .ensures .next in
-    (shows-own (b .before .show .ensures), omega (arith, b .before .before .before .before .pre .4, h .put-head .ensures .1))
+    let z = b .before .before .before .before in
+    let a = z .args in
+    let v = b .before .show .ensures in
+    let w = v .width-is ∙ ap (λ (x : ℕ). length (shown (a .m) x)) (b .before .before .ordinate-at .ensures .0) in
+    let l = room-breaks (shown (a .m)) (headOf (a .fr)) (map ordinate-of (a .ys .now)) (a .s) (omega (arith, z .pre .0 .left, length-map (a .ys .now) ordinate-of))
+    w (b .if1 .left) (z .pre .1) in
+    let p = e .put-end .ensures in
+    let q = h .put-head .ensures .0 in
+    (shows-own v, omega (arith, l, p .next, q .next, put-length p, put-length q))
 
 sub-bytes : tie.Need-sub-bytes
 sub-bytes c = search needs
@@ -66,8 +84,8 @@ returns-2 c =
     let z = b .before .before .before .before in
     let a = z .args in
     let v = b .before .show .ensures in
-    turn-breaks (shown (a .m)) (headOf (a .fr)) (map ordinate-of (a .ys .now)) (a .s) (omega (arith, z .pre .3, length-map (a .ys .now) ordinate-of))
-    (b .before .before .ordinate-at .ensures .0) (v .width-is) (v .slim) (z .pre .5) (b .if1 .left)
+    turn-breaks (shown (a .m)) (headOf (a .fr)) (map ordinate-of (a .ys .now)) (a .s) (omega (arith, z .pre .0 .left, length-map (a .ys .now) ordinate-of))
+    (b .before .before .ordinate-at .ensures .0) (v .width-is) (v .slim) (z .pre .0 .column) (b .if1 .left)
     (e .put-end .ensures) (h .put-head .ensures .0) (h .put-head .ensures .1) (put-as (v .text) (c .before .before .put-shown2 .ensures .0))
 
 pub turn-spec : {M : Type 1} → statement M

@@ -4,8 +4,8 @@ use borrow.Author.Needs.{needs}
 use Rattle.text_values.proofs.shows.measured.Statement.{statement}
 use Rattle.text_values.proofs.shows.measured.Tie as tie
 
-further-digits-requires : tie.Need-further-digits-requires
-further-digits-requires c κs = search needs
+digits-after-requires : tie.Need-digits-after-requires
+digits-after-requires c κs = search needs
 
 mark-width-requires : tie.Need-mark-width-requires
 mark-width-requires c κs = search needs
@@ -24,13 +24,13 @@ add-width-3 c = search needs
 
 returns : tie.Need-returns
 returns c = let p = c .before .before .before .pre in
-    shows-parts _ _ _ _ _ _ _ (p .0) (p .1) (c .before .before .further-digits .ensures .0) (c .before .mark-width .ensures .0) (c .mark-width2 .ensures .0)
+    shows-parts _ _ _ _ _ _ _ (p .0) (p .1) (c .before .before .digits-after .ensures .0) (c .before .mark-width .ensures .0) (c .mark-width2 .ensures .0)
 
 pub measured-spec : {M : Type 1} → statement M
 measured-spec =
     tie.close
     (tie.spec
-    further-digits-requires
+    digits-after-requires
     mark-width-requires
     mark-width-requires-2
     add-width
