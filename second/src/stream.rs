@@ -2,7 +2,8 @@
 
 use crate::body::read_body;
 use crate::file::{read_file, record_text, RecordText};
-use crate::frame::Frame;
+use crate::file_text::{write_file, Given, Scales, WrittenFile};
+use crate::frame::{Frame, Refusal};
 use crate::heads::{tried, TRIED};
 use crate::line::Told;
 use crate::text::{write_body, TextForm};
@@ -41,6 +42,28 @@ impl WriteCase {
 pub struct FileCase {
     pub file: Vec<u8>,
     pub room: u32,
+}
+
+/// A file to be written.
+#[derive(Clone, Debug)]
+pub struct WrittenFileCase {
+    pub title: Vec<u8>,
+    pub points: u64,
+    pub scales: Scales<Given>,
+    pub ordinates: Vec<i32>,
+    pub room: u32,
+}
+
+impl WrittenFileCase {
+    /// The answer, with so much room.
+    pub fn answer_in(&self, room: usize) -> Result<WrittenFile, Refusal> {
+        write_file(&self.title, self.points, &self.scales, &self.ordinates, room)
+    }
+
+    /// The answer.
+    pub fn answer(&self) -> Result<WrittenFile, Refusal> {
+        self.answer_in(self.room as usize)
+    }
 }
 
 /// A record to be shown.
@@ -153,6 +176,30 @@ pub fn put_record_case(out: &mut impl Write, case: &RecordCase) -> io::Result<()
     put_u64(out, to)
 }
 
+/// Writes a case of a file to be written, and its answer.
+pub fn put_written_file_case(out: &mut impl Write, case: &WrittenFileCase) -> io::Result<()> {
+    out.write_all(b"V")?;
+    put_bytes(out, &case.title)?;
+    put_u64(out, case.points)?;
+    for Given { mantissa, exponent } in case.scales.list() {
+        put_u64(out, mantissa as u64)?;
+        put_u64(out, exponent as u64)?;
+    }
+    put_u32(out, case.ordinates.len() as u32)?;
+    put_ordinates(out, &case.ordinates)?;
+    put_u32(out, case.room)?;
+    let (number, place, frame, text) = match case.answer() {
+        Ok(WrittenFile { frame, text }) => (0, 0, frame, text),
+        Err(fault) => (fault.number, fault.place, Frame { first: 0, last: 0, points: 0 }, Vec::new()),
+    };
+    put_u32(out, number)?;
+    put_u64(out, place)?;
+    put_u64(out, frame.first as u64)?;
+    put_u64(out, frame.last as u64)?;
+    put_u64(out, text.len() as u64)?;
+    out.write_all(&text)
+}
+
 /// A stream that is being read.
 struct Stream<R: Read> {
     input: R,
@@ -212,6 +259,7 @@ impl<R: Read> Stream<R> {
             b'W' => self.write_case(),
             b'F' => Ok(named("F", self.file_case()?)),
             b'R' => Ok(named("R", self.record_case()?)),
+            b'V' => Ok(named("V", self.written_file_case()?)),
             _ => Err(io::Error::new(io::ErrorKind::InvalidData, "no such kind of case")),
         }
     }
@@ -261,6 +309,19 @@ impl<R: Read> Stream<R> {
         self.counted()?;
         let number = self.told()?;
         self.bytes(16)?;
+        Ok((number, length))
+    }
+
+    /// The rest of a case of a file to be written.
+    fn written_file_case(&mut self) -> io::Result<(u32, usize)> {
+        self.counted()?;
+        self.bytes(8 + 5 * 16)?;
+        let count = self.u32()? as usize;
+        self.bytes(4 * count + 4)?;
+        let number = self.u32()?;
+        self.bytes(24)?;
+        let length = self.u64()? as usize;
+        self.bytes(length)?;
         Ok((number, length))
     }
 }
