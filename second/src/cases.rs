@@ -5,8 +5,8 @@ pub mod damage;
 pub mod files;
 pub mod spell;
 pub mod tables;
-pub mod written_files;
 pub mod writes;
+pub mod written_files;
 
 use crate::frame::{Frame, LONGEST};
 use crate::random::Random;

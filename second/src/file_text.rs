@@ -23,8 +23,7 @@ impl Given {
     pub fn decimal(self) -> Option<Decimal> {
         let mantissa = self.mantissa.unsigned_abs() <= LARGEST_MANTISSA as u64;
         let exponent = self.exponent.unsigned_abs() <= LARGEST_EXPONENT as u64;
-        (mantissa && exponent)
-            .then(|| Decimal { mantissa: i128::from(self.mantissa), exponent: self.exponent as i32 })
+        (mantissa && exponent).then(|| Decimal { mantissa: i128::from(self.mantissa), exponent: self.exponent as i32 })
     }
 }
 

@@ -51,7 +51,8 @@ const WRONG_EXPONENTS: &[i64] =
     &[100, -100, 101, 127, -128, 256, -256, 999, 1 << 32, -(1 << 32) + 1, i64::MAX, i64::MIN, i64::MIN + 1];
 
 /// Abscissas that are too far for most factors: 10,000,000 is beyond the limit by a thousandth.
-const FAR: &[(i64, i64)] = &[(1, 7), (-1, 7), (10, 6), (999_999_999, -2), (999_999_999, 99), (-1, 99), (123_456_789, 2)];
+const FAR: &[(i64, i64)] =
+    &[(1, 7), (-1, 7), (10, 6), (999_999_999, -2), (999_999_999, 99), (-1, 99), (123_456_789, 2)];
 
 /// One case of a file to be written.
 pub fn written_file_case(random: &mut Random, index: usize, cases: usize) -> WrittenFileCase {
