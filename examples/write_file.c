@@ -1,6 +1,6 @@
 /*
- * Writes a small file, prints it, reads it back and compares: the points, the abscissas and every ordinate are the same.
- * Then it gives a FIRSTY that is not the first ordinate's, which is refused.
+ * Writes a small file, prints it, reads it back and compares the ordinates. Then it gives a FIRSTY that is not the
+ * first ordinate's, which is refused.
  */
 #include "lastarunc.h"
 

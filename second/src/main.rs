@@ -5,6 +5,7 @@ mod cases;
 mod difdup;
 mod file;
 mod file_text;
+mod file_tried;
 mod frame;
 mod heads;
 mod line;

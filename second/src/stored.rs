@@ -23,8 +23,8 @@ pub struct Stored<C: Write, A: Write> {
 }
 
 impl<C: Write, A: Write> Stored<C, A> {
-    /// Writes as many cases of each kind as are asked for (bodies, tables to write, files, files to write), none of them
-    /// large; tables are written in each form in turn.
+    /// Writes as many cases of each kind as are asked for (bodies, tables to write, files, files to write), none of
+    /// them large; tables are written in each form in turn.
     pub fn write(&mut self, seed: u64, counts: [usize; 4]) -> io::Result<()> {
         let [bodies, writes, files, written] = counts;
         let random = &mut Random::new(seed);

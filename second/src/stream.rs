@@ -3,6 +3,7 @@
 use crate::body::read_body;
 use crate::file::{read_file, record_text, RecordText};
 use crate::file_text::{write_file, Given, Scales, WrittenFile};
+use crate::file_tried;
 use crate::frame::{Frame, Refusal};
 use crate::heads::{tried, TRIED};
 use crate::line::Told;
@@ -207,6 +208,8 @@ struct Stream<R: Read> {
     tried: [usize; TRIED.len()],
     /// How many tables with |L-F| below N-1 were written.
     close: usize,
+    /// How many files to be written tried each of `file_tried::TRIED`.
+    tried_files: [usize; file_tried::TRIED.len()],
 }
 
 impl<R: Read> Stream<R> {
@@ -314,22 +317,33 @@ impl<R: Read> Stream<R> {
 
     /// The rest of a case of a file to be written.
     fn written_file_case(&mut self) -> io::Result<(u32, usize)> {
-        self.counted()?;
-        self.bytes(8 + 5 * 16)?;
+        let title = self.counted()?;
+        let points = self.u64()?;
+        let mut scales = [Given { mantissa: 0, exponent: 0 }; 5];
+        for given in &mut scales {
+            *given = Given { mantissa: self.u64()? as i64, exponent: self.u64()? as i64 };
+        }
         let count = self.u32()? as usize;
-        self.bytes(4 * count + 4)?;
+        let bytes = self.bytes(4 * count)?;
+        let ordinates = bytes.chunks(4).map(|y| i32::from_le_bytes(y.try_into().expect("four bytes"))).collect();
+        let room = self.u32()?;
         let number = self.u32()?;
         self.bytes(24)?;
         let length = self.u64()? as usize;
         self.bytes(length)?;
+        let case = WrittenFileCase { title, points, scales: Scales::of(scales), ordinates, room };
+        for (times, holds) in self.tried_files.iter_mut().zip(file_tried::tried(&case)) {
+            *times += usize::from(holds);
+        }
         Ok((number, length))
     }
 }
 
-/// Counts the answers of a stream by kind of case, written ones by form too, and number, and what bodies' heads tried,
-/// and prints them.
+/// Counts the answers of a stream by kind of case, written ones by form too, and number, and what bodies' heads and
+/// files to be written tried, and prints them.
 pub fn count(input: impl Read) -> io::Result<()> {
-    let mut stream = Stream { input, tried: [0; TRIED.len()], close: 0 };
+    let tried_files = [0; file_tried::TRIED.len()];
+    let mut stream = Stream { input, tried: [0; TRIED.len()], close: 0, tried_files };
     let mut counts: BTreeMap<(&str, u32), usize> = BTreeMap::new();
     let mut sizes: BTreeMap<&str, (usize, usize)> = BTreeMap::new();
     while let Some(kind) = stream.kind()? {
@@ -354,5 +368,8 @@ pub fn count(input: impl Read) -> io::Result<()> {
         println!("bodies, {what}: {times}");
     }
     println!("tables with |L-F| below N-1, written: {}", stream.close);
+    for (what, times) in file_tried::TRIED.iter().zip(stream.tried_files) {
+        println!("files to write, {what}: {times}");
+    }
     Ok(())
 }

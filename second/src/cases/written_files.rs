@@ -127,7 +127,7 @@ fn nine_digits(number: Decimal) -> Given {
     Given { mantissa: mantissa as i64, exponent: i64::from(exponent) }
 }
 
-/// A whole number times a factor and ten to minus `places`, now and then half a unit less, or the next beside that half.
+/// A whole number times a factor and ten to minus `places`, now and then half a unit off, or beside that half.
 fn scaled(random: &mut Random, number: i128, factor: Decimal, places: i32) -> Given {
     let exact = || Decimal { mantissa: number * factor.mantissa, exponent: factor.exponent - places };
     if !random.once_in(6) {

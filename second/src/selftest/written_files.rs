@@ -4,11 +4,12 @@ use super::{plain, Report, X};
 use crate::cases::written_files::written_file_case;
 use crate::file::{read_file, FileTable};
 use crate::file_text::{Given, Scales};
+use crate::file_tried::{tried, TRIED};
 use crate::random::Random;
 use crate::stream::WrittenFileCase;
 use crate::text::LONGEST_LINE;
 
-/// The lines of the file of 0 1 0 0 with YFACTOR 0.1: 19, 17, 17, 16, 15, 13, 16, 22, 7, 4 and 8 bytes with their CR LF.
+/// The lines of the file of 0 1 0 0 with YFACTOR 0.1: 19, 17, 17, 16, 15, 13, 16, 22, 7, 4 and 8 bytes with CR LF.
 /// Labels in 02's order, each decimal a mantissa, `E`, a sign and two digits; then 01's body and END.
 const ONE_COUNT: [&str; 11] = [
     "##TITLE=one count",
@@ -136,7 +137,7 @@ fn check_spellings(report: &mut Report) {
     }
 }
 
-/// Other frames: below zero and falling, F rounded with halves to the larger, the farthest that nine digits reach, N = 1.
+/// Other frames: below zero and falling, F rounded with halves to the larger, the farthest of nine digits, N = 1.
 fn check_frames(report: &mut Report) {
     let falling = scaled(&[(2, given(-15, -1)), (3, given(-3, 0))]);
     let changes = [(3, "##FIRSTX=-15E-01"), (4, "##LASTX=-3E+00"), (8, "-1.5@Jj%"), (9, "-3@")];
@@ -232,24 +233,32 @@ fn check_order(report: &mut Report) {
     }
 }
 
-/// Random files: those written are read back, and 15 bytes for each point and 297 more hold them (44 of a body's text, as
-/// include/lastarunc.h has it, and 253 of the longest records). Each refusal occurs often.
+/// Random files: those written are read back, and 15 bytes for each point and 297 more hold them (44 of a body's text,
+/// as include/lastarunc.h has it, and 253 of the longest records).
 fn check_random(report: &mut Report, random: &mut Random) {
-    let order = [0, 37, 26, 28, 1, 2, 29, 15];
-    let mut times = [0; 8];
     for _ in 0..20_000 {
         let case = written_file_case(random, 0, usize::MAX);
-        let answer = case.answer();
-        let number = answer.as_ref().map_or_else(|fault| fault.number, |_| 0);
-        times[order.iter().position(|known| *known == number).expect("a number of 02")] += 1;
-        let text = answer.map(|written| String::from_utf8(written.text).expect("a title of ASCII"));
+        let text = case.answer().map(|written| String::from_utf8(written.text).expect("a title of ASCII"));
         if let Ok(text) = &text {
             report.compare("15 N + 297", text.len() <= 15 * case.points as usize + 297, true);
         }
         compare(report, &format!("{case:?}"), &case, text.map_err(|fault| fault.number));
     }
-    let often = times.iter().all(|times| *times >= 500);
-    report.compare(&format!("each answer 500 times: {times:?}"), often, true);
+}
+
+/// Of 20,000 random files each answer has 500 or more, and each thing that is counted 50.
+fn check_often(report: &mut Report) {
+    let random = &mut Random::new(8);
+    let order = [0, 37, 26, 28, 1, 2, 29, 15];
+    let (mut answers, mut things) = ([0; 8], [0; TRIED.len()]);
+    for _ in 0..20_000 {
+        let case = written_file_case(random, 0, usize::MAX);
+        let number = case.answer().map_or_else(|fault| fault.number, |_| 0);
+        answers[order.iter().position(|known| *known == number).expect("a number of 02")] += 1;
+        things.iter_mut().zip(tried(&case)).for_each(|(times, holds)| *times += usize::from(holds));
+    }
+    report.compare(&format!("answers: {answers:?}"), answers.iter().all(|times| *times >= 500), true);
+    report.compare(&format!("tried: {things:?}"), things.iter().all(|times| *times >= 50), true);
 }
 
 /// All of these.
@@ -262,4 +271,5 @@ pub fn check(report: &mut Report, random: &mut Random) {
     check_refusals(report);
     check_order(report);
     check_random(report, random);
+    check_often(report);
 }
