@@ -168,7 +168,7 @@ static void *filled_bytes(size_t n)
 /* ---- Counting and telling ---- */
 
 /* The kinds of case, writes by form, as they are counted; and what -1 means in answer to one. */
-enum kind_of_case { BODIES, WRITES, NO_FORM = WRITES + 4, FILES, RECORDS, KINDS };
+enum kind_of_case { BODIES, WRITES, NO_FORM = WRITES + 4, FILES, RECORDS, WRITTEN_FILES, KINDS };
 static const struct {
     const char *name, *minus_one;
 } kinds[KINDS] = {
@@ -180,6 +180,7 @@ static const struct {
     [NO_FORM] = {"writes in no form", "so answered"},
     [FILES] = {"files", ""},
     [RECORDS] = {"records", "absent"},
+    [WRITTEN_FILES] = {"files to write", ""},
 };
 
 static unsigned long passed, failed;
@@ -519,6 +520,147 @@ static void compare_record(void)
     free(file);
     free(name);
 }
+
+/* A file to be written into `room` bytes, and the second writer's answer: F and L, and a text of `length` bytes. */
+struct file_case {
+    uint32_t title_length, n, room;
+    uint8_t *title, *expected;
+    uint64_t points;
+    struct lastarunc_scales scales;
+    int32_t *ordinates;
+    int64_t number, place, first, last;
+    size_t length;
+};
+
+static struct lastarunc_decimal take_decimal(void)
+{
+    struct lastarunc_decimal d;
+    d.mantissa = take_i64();
+    d.exponent = take_i64();
+    return d;
+}
+
+static struct file_case take_file_case(void)
+{
+    struct file_case c;
+    c.title_length = take_u32();
+    c.title = take_bytes(c.title_length);
+    c.points = take_u64();
+    c.scales.xfactor = take_decimal();
+    c.scales.yfactor = take_decimal();
+    c.scales.firstx = take_decimal();
+    c.scales.lastx = take_decimal();
+    c.scales.firsty = take_decimal();
+    c.n = take_u32();
+    c.ordinates = take_ordinates(c.n);
+    c.room = take_u32();
+    c.number = take_u32();
+    c.place = take_i64();
+    c.first = take_i64();
+    c.last = take_i64();
+    c.length = take_u64();
+    c.expected = take_bytes(c.length);
+    return c;
+}
+
+/* What lastarunc_write_file was lent, each in memory of its own, and what it answers and returns. */
+struct written_file {
+    uint8_t *title, *text;
+    struct lastarunc_scales *scales;
+    int32_t *ordinates;
+    struct lastarunc_text *answer;
+    int64_t returned;
+};
+
+static struct written_file write_the_file(const struct file_case *c)
+{
+    struct written_file w;
+    w.title = copy_of(c->title, c->title_length);
+    w.text = filled_bytes(c->room);
+    w.scales = copy_of(&c->scales, sizeof c->scales);
+    w.ordinates = copy_of(c->ordinates, c->n * sizeof *c->ordinates);
+    w.answer = filled_bytes(sizeof *w.answer);
+    w.returned = lastarunc_write_file(w.title, c->title_length, c->points, w.scales, w.ordinates, c->n, w.text, c->room,
+                                      w.answer);
+    return w;
+}
+
+/* What is wrong with reading a written file back, into room for just its points; NULL if nothing is. */
+static const char *read_back_differs(const struct file_case *c, const uint8_t *text)
+{
+    int32_t *out = filled_ordinates(c->points);
+    struct lastarunc_file file;
+    const char *difference = NULL;
+    if (lastarunc_read_file(text, c->length, out, c->points, &file) || file.refused)
+        difference = "read back, it is refused";
+    else if (file.points != (int64_t)c->points)
+        difference = "read back, it has another N";
+    else if (file.first != c->first || file.last != c->last)
+        difference = "read back, it has another F or L";
+    else
+        difference = ordinates_differ(out, c->points, c->ordinates, c->points);
+    free(out);
+    return difference;
+}
+
+/* What is wrong with an answer, with what was lent, or with the file read back; NULL if nothing is. */
+static const char *written_file_differs(const struct file_case *c, const struct written_file *w)
+{
+    if (w->answer->refused != c->number || w->returned != c->number || c->place != 0)
+        return "number";
+    if (w->answer->length != (int64_t)c->length)
+        return "length";
+    if (guard_altered(w->answer, sizeof *w->answer))
+        return "what stands behind the answer is altered";
+    if (memcmp(w->title, c->title, c->title_length))
+        return "the title is altered";
+    if (memcmp(w->scales, &c->scales, sizeof c->scales))
+        return "the scales are altered";
+    if (memcmp(w->ordinates, c->ordinates, c->n * sizeof *c->ordinates))
+        return "the ordinates are altered";
+    const char *difference = text_differs(w->text, c->room, c->expected, c->length);
+    return difference || c->number ? difference : read_back_differs(c, w->text);
+}
+
+static void show_decimal(const char *what, struct lastarunc_decimal d)
+{
+    printf(" %s %" PRId64 "E%" PRId64, what, d.mantissa, d.exponent);
+}
+
+static void show_written_file(const struct file_case *c, const struct written_file *w)
+{
+    show_bytes("title", c->title, c->title_length);
+    printf("    N %" PRIu64 ", room %" PRIu32 ",", c->points, c->room);
+    show_decimal("XFACTOR", c->scales.xfactor);
+    show_decimal("YFACTOR", c->scales.yfactor);
+    show_decimal("FIRSTX", c->scales.firstx);
+    show_decimal("LASTX", c->scales.lastx);
+    show_decimal("FIRSTY", c->scales.firsty);
+    printf("\n");
+    show_ordinates("ordinates", c->ordinates, c->n);
+    printf("    second: %" PRId64 ", length %zu, F %" PRId64 ", L %" PRId64 "\n", c->number, c->length, c->first,
+           c->last);
+    printf("    here: %" PRId64 ", length %" PRId64 ", returned %" PRId64 "\n", w->answer->refused, w->answer->length,
+           w->returned);
+    show_bytes("second's text", c->expected, c->length);
+    show_bytes("the lent text now", w->text, c->room);
+}
+
+static void compare_written_file(void)
+{
+    struct file_case c = take_file_case();
+    struct written_file w = write_the_file(&c);
+    if (counted(WRITTEN_FILES, c.number, written_file_differs(&c, &w)))
+        show_written_file(&c, &w);
+    free(w.title);
+    free(w.text);
+    free(w.scales);
+    free(w.ordinates);
+    free(w.answer);
+    free(c.title);
+    free(c.ordinates);
+    free(c.expected);
+}
 #endif
 
 /* Says how often each answer was expected, by kind of case. */
@@ -564,6 +706,9 @@ int main(void)
             break;
         case 'R':
             compare_record();
+            break;
+        case 'V':
+            compare_written_file();
             break;
 #endif
         default:

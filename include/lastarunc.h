@@ -16,7 +16,7 @@
  *
  * Pointers.  `p, n` lends the n entries at p: they must be readable, and writable if p is not const, for the length of
  * the call.  If n is 0, p may be any non-null pointer that is aligned for its type.  `answer` must be valid, aligned
- * and writable.  What is written must not overlap anything else that is lent.
+ * and writable, `scales` valid, aligned and readable.  What is written must not overlap anything else that is lent.
  *
  * Abscissas are whole thousandths.
  */
@@ -53,7 +53,10 @@ struct lastarunc_table {
     int64_t points;
 };
 
-/* What lastarunc_write_table and lastarunc_write_form answer. The place of a writer's refusal is always 0. */
+/*
+ * What lastarunc_write_table, lastarunc_write_form and lastarunc_write_file answer. The place of a writer's refusal is
+ * always 0.
+ */
 struct lastarunc_text {
     int64_t refused;
     int64_t length;
@@ -69,6 +72,16 @@ struct lastarunc_file {
 struct lastarunc_record {
     int64_t refused, place, line, column;
     int64_t from, to;
+};
+
+/* A decimal: mantissa times ten to the exponent. */
+struct lastarunc_decimal {
+    int64_t mantissa, exponent;
+};
+
+/* The numbers of a file that lastarunc_write_file writes. */
+struct lastarunc_scales {
+    struct lastarunc_decimal xfactor, yfactor, firstx, lastx, firsty;
 };
 
 /*
@@ -109,6 +122,27 @@ int64_t lastarunc_write_form(uint64_t form, int64_t first, int64_t last, size_t 
  */
 int64_t lastarunc_read_file(const uint8_t *file, size_t file_len, int32_t *out, size_t out_len,
                             struct lastarunc_file *answer);
+
+/*
+ * Writes a simple JCAMP-DX file with this title, these numbers and the first `points` of the n ordinates lent: TITLE,
+ * XFACTOR, YFACTOR, FIRSTX, LASTX, NPOINTS, FIRSTY, XYDATA, the table in DIFDUP form, END, each line ended by CR LF.
+ * The frame's first and last are FIRSTX/XFACTOR and LASTX/XFACTOR in thousandths, rounded as lastarunc_read_file rounds
+ * them. A decimal is spelled as it is given: mantissa, `E`, sign, two digits, as `10E-01` or `0E+07`.
+ * Accepted: answer->length is the number of bytes of the file, and they stand from text[0] on. lastarunc_read_file
+ * accepts them, and gives the same points, first, last and ordinates.
+ * Refused: text is as it was. The numbers, in the order in which they are looked for:
+ *     37   the title is over 72 bytes, has a byte outside 32 to 126, or has `$$`
+ *     26   a mantissa has over 9 digits, an exponent is over 99 in magnitude, or a factor is not above zero
+ *     28   first or last is beyond LASTARUNC_LARGEST_ABSCISSA
+ *     1    the frame is outside its limits
+ *     2    n is less than points
+ *     29   FIRSTY/YFACTOR, rounded to a whole number, is not the first ordinate; not looked for if that is missing
+ *     15   the file is longer than room
+ * 15 bytes for each point and 297 more hold every file.
+ */
+int64_t lastarunc_write_file(const uint8_t *title, size_t title_len, size_t points,
+                             const struct lastarunc_scales *scales, const int32_t *ordinates, size_t n, uint8_t *text,
+                             size_t room, struct lastarunc_text *answer);
 
 /*
  * Finds the record with this name; names are compared as labels are, in upper case without blanks, `-`, `/` and `_`.

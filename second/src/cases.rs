@@ -1,4 +1,4 @@
-//! The seeded generator of cases: bodies, tables to be written, files and records.
+//! The seeded generator of cases: bodies, tables to be written, files and records, files to be written.
 
 pub mod coarse;
 pub mod damage;
@@ -6,15 +6,18 @@ pub mod files;
 pub mod spell;
 pub mod tables;
 pub mod writes;
+pub mod written_files;
 
 use crate::frame::{Frame, LONGEST};
 use crate::random::Random;
-use crate::stream::{put_body_case, put_file_case, put_record_case, put_write_case, BodyCase};
+use crate::stream::{put_body_case, put_file_case, put_record_case, put_write_case, put_written_file_case, BodyCase};
 use crate::text::{write_body, TextForm};
 use std::io::{self, Write};
 
-/// Writes as many cases of each kind as are asked for; a file case is often followed by a record case.
-pub fn write_cases(out: &mut impl Write, seed: u64, bodies: usize, writes: usize, files: usize) -> io::Result<()> {
+/// Writes as many cases of each kind as are asked for: bodies, tables to be written, files, files to be written. A file
+/// case is often followed by a record case.
+pub fn write_cases(out: &mut impl Write, seed: u64, counts: [usize; 4]) -> io::Result<()> {
+    let [bodies, writes, files, written] = counts;
     let random = &mut Random::new(seed);
     for index in 0..bodies {
         put_body_case(out, &body_case(random, index, bodies))?;
@@ -28,6 +31,9 @@ pub fn write_cases(out: &mut impl Write, seed: u64, bodies: usize, writes: usize
         if case.file.len() < 100_000 && random.once_in(2) {
             put_record_case(out, &files::record_case(random, case.file))?;
         }
+    }
+    for index in 0..written {
+        put_written_file_case(out, &written_files::written_file_case(random, index, written))?;
     }
     Ok(())
 }

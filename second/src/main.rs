@@ -4,6 +4,8 @@ mod body;
 mod cases;
 mod difdup;
 mod file;
+mod file_text;
+mod file_tried;
 mod frame;
 mod heads;
 mod line;
@@ -14,6 +16,7 @@ mod stored;
 mod stream;
 mod text;
 
+use file_text::{Given, Scales};
 use frame::{Frame, Refusal, MISSING};
 use std::fs::File;
 use std::io::{self, BufReader, BufWriter, Read, Write};
@@ -26,11 +29,12 @@ const PROGRAM_POINTS: u64 = 4_096;
 
 /// Prints how the program is used, and ends it.
 fn usage() -> ! {
-    eprintln!("second cases --seed S --bodies A --writes B --files C > stream");
-    eprintln!("second stored --seed S --bodies A --writes B --files C --cases PATH --answers PATH");
+    eprintln!("second cases --seed S --bodies A --writes B --files C --written-files D > stream");
+    eprintln!("second stored --seed S --bodies A --writes B --files C --written-files D --cases PATH --answers PATH");
     eprintln!("second count < stream");
     eprintln!("second body F L N [--room R] < body");
     eprintln!("second write FORM F L N [--room R] < ordinates    (FORM: difdup, affn, pac or sqz)");
+    eprintln!("second write-file T N XFACTOR YFACTOR FIRSTX LASTX FIRSTY [--room R] < title and ordinates");
     eprintln!("second file [--whole] [--room R] < file    (--whole: the library's limits, not the program's)");
     eprintln!("second selftest");
     exit(2)
@@ -73,7 +77,8 @@ fn cases_command(arguments: &[String]) -> io::Result<()> {
     let out = &mut BufWriter::new(io::stdout().lock());
     let number = |name| option(arguments, name, 0) as usize;
     let seed = option(arguments, "--seed", 1);
-    cases::write_cases(out, seed, number("--bodies"), number("--writes"), number("--files"))?;
+    let counts = ["--bodies", "--writes", "--files", "--written-files"].map(number);
+    cases::write_cases(out, seed, counts)?;
     out.flush()
 }
 
@@ -83,7 +88,8 @@ fn stored_command(arguments: &[String]) -> io::Result<()> {
     let answers = BufWriter::new(File::create(path(arguments, "--answers"))?);
     let number = |name| option(arguments, name, 0) as usize;
     let seed = option(arguments, "--seed", 1);
-    stored::Stored { cases, answers }.write(seed, number("--bodies"), number("--writes"), number("--files"))
+    let counts = ["--bodies", "--writes", "--files", "--written-files"].map(number);
+    stored::Stored { cases, answers }.write(seed, counts)
 }
 
 /// Reads a body from standard input.
@@ -97,19 +103,51 @@ fn body_command(arguments: &[String]) -> io::Result<()> {
     Ok(())
 }
 
-/// Writes the ordinates on standard input, `?` for a missing one, and prints the text after its length, or the refusal.
+/// Ordinates as words, `?` for a missing one.
+fn ordinates(words: &[u8]) -> Vec<i32> {
+    let words = std::str::from_utf8(words).unwrap_or_else(|_| usage());
+    let ordinate = |word: &str| if word == "?" { MISSING } else { word.parse().unwrap_or_else(|_| usage()) };
+    words.split_whitespace().map(ordinate).collect()
+}
+
+/// Prints a text after its length, or the refusal.
+fn print_text(answer: Result<Vec<u8>, Refusal>) -> io::Result<()> {
+    match answer {
+        Ok(text) => io::stdout().write_all(&[format!("ok {}\n", text.len()).into_bytes(), text].concat()),
+        Err(fault) => io::stdout().write_all(format!("refused {} {}\n", fault.number, fault.place).as_bytes()),
+    }
+}
+
+/// Writes the ordinates on standard input.
 fn write_command(arguments: &[String]) -> io::Result<()> {
     let [form, first, last, points, ..] = arguments else { usage() };
     let form = TextForm::named(form).unwrap_or_else(|| usage());
     let (Ok(first), Ok(last), Ok(points)) = (first.parse(), last.parse(), points.parse()) else { usage() };
     let room = option(arguments, "--room", u64::MAX) as usize;
-    let words = String::from_utf8(input()?).unwrap_or_else(|_| usage());
-    let ordinate = |word: &str| if word == "?" { MISSING } else { word.parse().unwrap_or_else(|_| usage()) };
-    let ordinates: Vec<i32> = words.split_whitespace().map(ordinate).collect();
-    match text::write_body(form, &Frame { first, last, points }, &ordinates, room) {
-        Ok(text) => io::stdout().write_all(&[format!("ok {}\n", text.len()).into_bytes(), text].concat()),
-        Err(fault) => io::stdout().write_all(format!("refused {} {}\n", fault.number, fault.place).as_bytes()),
+    let ordinates = ordinates(&input()?);
+    print_text(text::write_body(form, &Frame { first, last, points }, &ordinates, room))
+}
+
+/// The decimal that a word gives: a mantissa, `E` and an exponent, each any 64-bit number.
+fn given(word: &String) -> Option<Given> {
+    let (mantissa, exponent) = word.split_once('E')?;
+    Some(Given { mantissa: mantissa.parse().ok()?, exponent: exponent.parse().ok()? })
+}
+
+/// Writes a file with the title of so many bytes that standard input begins with, and the ordinates that follow it.
+fn write_file_command(arguments: &[String]) -> io::Result<()> {
+    let [length, points, decimals @ ..] = arguments else { usage() };
+    let (Ok(length), Ok(points)) = (length.parse(), points.parse()) else { usage() };
+    let decimals: Option<Vec<Given>> = decimals.iter().take(5).map(given).collect();
+    let five: [Given; 5] = decimals.and_then(|list| list.try_into().ok()).unwrap_or_else(|| usage());
+    let room = option(arguments, "--room", u64::MAX) as usize;
+    let input = input()?;
+    if length > input.len() {
+        usage()
     }
+    let (title, words) = input.split_at(length);
+    let answer = file_text::write_file(title, points, &Scales::of(five), &ordinates(words), room);
+    print_text(answer.map(|written| written.text))
 }
 
 /// Reads a file from standard input.
@@ -134,6 +172,7 @@ fn main() -> io::Result<()> {
         Some("count") => stream::count(BufReader::new(io::stdin().lock())),
         Some("body") => body_command(&arguments[1..]),
         Some("write") => write_command(&arguments[1..]),
+        Some("write-file") => write_file_command(&arguments[1..]),
         Some("file") => file_command(&arguments[1..]),
         Some("selftest") => exit(selftest::run()),
         _ => usage(),

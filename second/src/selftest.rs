@@ -1,8 +1,9 @@
-//! The samples of document 01 and the readings, with answers written by hand from the documents, and three random
-//! comparisons: right spellings read back, written texts read back, places found again by line and column.
+//! The samples of document 01 and the readings, with answers written by hand from the documents, and four random
+//! comparisons: right spellings, written texts and written files read back, places found again by line and column.
 
 mod forms;
 mod heads;
+mod written_files;
 
 use crate::body::read_body;
 use crate::cases::{coarse, damage, spell, tables};
@@ -587,6 +588,7 @@ pub fn run() -> i32 {
     check_spellings(report, random);
     check_written(report, random);
     check_places(report, random);
+    written_files::check(report, random);
     println!("{} comparisons, {} wrong", report.done, report.wrong);
     i32::from(report.wrong > 0)
 }

@@ -1,11 +1,12 @@
 //! The stored cases of crates/replay: small cases in one file, their answers in another. README.md gives the format.
 
 use crate::body::read_body;
-use crate::cases::{body_case, files, writes::write_case};
+use crate::cases::{body_case, files, writes::write_case, written_files::written_file_case};
 use crate::file::read_file;
-use crate::frame::{Frame, MISSING};
+use crate::file_text::Given;
+use crate::frame::{Frame, Refusal, MISSING};
 use crate::random::Random;
-use crate::stream::{BodyCase, FileCase, WriteCase};
+use crate::stream::{BodyCase, FileCase, WriteCase, WrittenFileCase};
 use crate::text::{write_body, TextForm, FORMS};
 use std::io::{self, Write};
 
@@ -22,8 +23,10 @@ pub struct Stored<C: Write, A: Write> {
 }
 
 impl<C: Write, A: Write> Stored<C, A> {
-    /// Writes as many cases of each kind as are asked for, none of them large; tables are written in each form in turn.
-    pub fn write(&mut self, seed: u64, bodies: usize, writes: usize, files: usize) -> io::Result<()> {
+    /// Writes as many cases of each kind as are asked for (bodies, tables to write, files, files to write), none of
+    /// them large; tables are written in each form in turn.
+    pub fn write(&mut self, seed: u64, counts: [usize; 4]) -> io::Result<()> {
+        let [bodies, writes, files, written] = counts;
         let random = &mut Random::new(seed);
         for _ in 0..bodies {
             let case = small(|| body_case(random, 0, usize::MAX), |case| case.body.len() <= MOST_BYTES);
@@ -37,6 +40,10 @@ impl<C: Write, A: Write> Stored<C, A> {
         for _ in 0..files {
             let case = small(|| files::file_case(random, 0, usize::MAX), |case| case.file.len() <= MOST_BYTES);
             self.file(&case)?;
+        }
+        for _ in 0..written {
+            let case = small(|| written_file_case(random, 0, usize::MAX), file_fits);
+            self.written_file(&case)?;
         }
         self.cases.flush()?;
         self.answers.flush()
@@ -64,10 +71,33 @@ impl<C: Write, A: Write> Stored<C, A> {
     fn table(&mut self, form: TextForm, case: &WriteCase) -> io::Result<()> {
         let kind = [2, 4, 5, 6][form as usize];
         self.put_header(kind, &case.frame, case.room, case.ordinates.len())?;
-        for y in &case.ordinates {
-            self.cases.write_all(&((i64::from(*y) - i64::from(MISSING)) as u32).to_be_bytes())?;
+        self.put_ordinates(&case.ordinates)?;
+        self.put_text(write_body(form, &case.frame, &case.ordinates, case.room as usize))
+    }
+
+    /// A file to write and its answer; crates/replay reads each back. N, room and count stand in the header.
+    fn written_file(&mut self, case: &WrittenFileCase) -> io::Result<()> {
+        let frame = Frame { first: 0, last: 0, points: case.points };
+        self.put_header(7, &frame, case.room, case.ordinates.len())?;
+        self.cases.write_all(&(case.title.len() as u64).to_be_bytes())?;
+        self.cases.write_all(&case.title)?;
+        for Given { mantissa, exponent } in case.scales.list() {
+            self.cases.write_all(&mantissa.to_be_bytes())?;
+            self.cases.write_all(&exponent.to_be_bytes())?;
         }
-        match write_body(form, &case.frame, &case.ordinates, case.room as usize) {
+        self.put_ordinates(&case.ordinates)?;
+        self.put_text(case.answer().map(|written| written.text))
+    }
+
+    /// Ordinates to be written, each plus 2^31 in 4 bytes, big endian.
+    fn put_ordinates(&mut self, ordinates: &[i32]) -> io::Result<()> {
+        let shifted = |y: &i32| (i64::from(*y) - i64::from(MISSING)) as u32;
+        ordinates.iter().try_for_each(|y| self.cases.write_all(&shifted(y).to_be_bytes()))
+    }
+
+    /// The answer of a writer: the text after its length, or the refusal.
+    fn put_text(&mut self, answer: Result<Vec<u8>, Refusal>) -> io::Result<()> {
+        match answer {
             Ok(text) => {
                 writeln!(self.answers, "ok {} same", text.len())?;
                 self.answers.write_all(&text)?;
@@ -101,6 +131,11 @@ fn small<T>(mut make: impl FnMut() -> T, fits: impl Fn(&T) -> bool) -> T {
 
 /// Whether there is room for a table to write and for its text.
 fn fits(case: &WriteCase) -> bool {
+    case.ordinates.len() <= MOST_GIVEN && case.room as usize <= MOST_BYTES
+}
+
+/// Whether there is room for a file to write and for its text.
+fn file_fits(case: &WrittenFileCase) -> bool {
     case.ordinates.len() <= MOST_GIVEN && case.room as usize <= MOST_BYTES
 }
 

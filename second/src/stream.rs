@@ -2,7 +2,9 @@
 
 use crate::body::read_body;
 use crate::file::{read_file, record_text, RecordText};
-use crate::frame::Frame;
+use crate::file_text::{write_file, Given, Scales, WrittenFile};
+use crate::file_tried;
+use crate::frame::{Frame, Refusal};
 use crate::heads::{tried, TRIED};
 use crate::line::Told;
 use crate::text::{write_body, TextForm};
@@ -41,6 +43,28 @@ impl WriteCase {
 pub struct FileCase {
     pub file: Vec<u8>,
     pub room: u32,
+}
+
+/// A file to be written.
+#[derive(Clone, Debug)]
+pub struct WrittenFileCase {
+    pub title: Vec<u8>,
+    pub points: u64,
+    pub scales: Scales<Given>,
+    pub ordinates: Vec<i32>,
+    pub room: u32,
+}
+
+impl WrittenFileCase {
+    /// The answer, with so much room.
+    pub fn answer_in(&self, room: usize) -> Result<WrittenFile, Refusal> {
+        write_file(&self.title, self.points, &self.scales, &self.ordinates, room)
+    }
+
+    /// The answer.
+    pub fn answer(&self) -> Result<WrittenFile, Refusal> {
+        self.answer_in(self.room as usize)
+    }
 }
 
 /// A record to be shown.
@@ -153,6 +177,30 @@ pub fn put_record_case(out: &mut impl Write, case: &RecordCase) -> io::Result<()
     put_u64(out, to)
 }
 
+/// Writes a case of a file to be written, and its answer.
+pub fn put_written_file_case(out: &mut impl Write, case: &WrittenFileCase) -> io::Result<()> {
+    out.write_all(b"V")?;
+    put_bytes(out, &case.title)?;
+    put_u64(out, case.points)?;
+    for Given { mantissa, exponent } in case.scales.list() {
+        put_u64(out, mantissa as u64)?;
+        put_u64(out, exponent as u64)?;
+    }
+    put_u32(out, case.ordinates.len() as u32)?;
+    put_ordinates(out, &case.ordinates)?;
+    put_u32(out, case.room)?;
+    let (number, place, frame, text) = match case.answer() {
+        Ok(WrittenFile { frame, text }) => (0, 0, frame, text),
+        Err(fault) => (fault.number, fault.place, Frame { first: 0, last: 0, points: 0 }, Vec::new()),
+    };
+    put_u32(out, number)?;
+    put_u64(out, place)?;
+    put_u64(out, frame.first as u64)?;
+    put_u64(out, frame.last as u64)?;
+    put_u64(out, text.len() as u64)?;
+    out.write_all(&text)
+}
+
 /// A stream that is being read.
 struct Stream<R: Read> {
     input: R,
@@ -160,6 +208,8 @@ struct Stream<R: Read> {
     tried: [usize; TRIED.len()],
     /// How many tables with |L-F| below N-1 were written.
     close: usize,
+    /// How many files to be written tried each of `file_tried::TRIED`.
+    tried_files: [usize; file_tried::TRIED.len()],
 }
 
 impl<R: Read> Stream<R> {
@@ -212,6 +262,7 @@ impl<R: Read> Stream<R> {
             b'W' => self.write_case(),
             b'F' => Ok(named("F", self.file_case()?)),
             b'R' => Ok(named("R", self.record_case()?)),
+            b'V' => Ok(named("V", self.written_file_case()?)),
             _ => Err(io::Error::new(io::ErrorKind::InvalidData, "no such kind of case")),
         }
     }
@@ -263,12 +314,36 @@ impl<R: Read> Stream<R> {
         self.bytes(16)?;
         Ok((number, length))
     }
+
+    /// The rest of a case of a file to be written.
+    fn written_file_case(&mut self) -> io::Result<(u32, usize)> {
+        let title = self.counted()?;
+        let points = self.u64()?;
+        let mut scales = [Given { mantissa: 0, exponent: 0 }; 5];
+        for given in &mut scales {
+            *given = Given { mantissa: self.u64()? as i64, exponent: self.u64()? as i64 };
+        }
+        let count = self.u32()? as usize;
+        let bytes = self.bytes(4 * count)?;
+        let ordinates = bytes.chunks(4).map(|y| i32::from_le_bytes(y.try_into().expect("four bytes"))).collect();
+        let room = self.u32()?;
+        let number = self.u32()?;
+        self.bytes(24)?;
+        let length = self.u64()? as usize;
+        self.bytes(length)?;
+        let case = WrittenFileCase { title, points, scales: Scales::of(scales), ordinates, room };
+        for (times, holds) in self.tried_files.iter_mut().zip(file_tried::tried(&case)) {
+            *times += usize::from(holds);
+        }
+        Ok((number, length))
+    }
 }
 
-/// Counts the answers of a stream by kind of case, written ones by form too, and number, and what bodies' heads tried,
-/// and prints them.
+/// Counts the answers of a stream by kind of case, written ones by form too, and number, and what bodies' heads and
+/// files to be written tried, and prints them.
 pub fn count(input: impl Read) -> io::Result<()> {
-    let mut stream = Stream { input, tried: [0; TRIED.len()], close: 0 };
+    let tried_files = [0; file_tried::TRIED.len()];
+    let mut stream = Stream { input, tried: [0; TRIED.len()], close: 0, tried_files };
     let mut counts: BTreeMap<(&str, u32), usize> = BTreeMap::new();
     let mut sizes: BTreeMap<&str, (usize, usize)> = BTreeMap::new();
     while let Some(kind) = stream.kind()? {
@@ -293,5 +368,8 @@ pub fn count(input: impl Read) -> io::Result<()> {
         println!("bodies, {what}: {times}");
     }
     println!("tables with |L-F| below N-1, written: {}", stream.close);
+    for (what, times) in file_tried::TRIED.iter().zip(stream.tried_files) {
+        println!("files to write, {what}: {times}");
+    }
     Ok(())
 }

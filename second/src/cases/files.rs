@@ -451,13 +451,13 @@ fn spelled_exponent(random: &mut Random, power: i32) -> Vec<u8> {
 }
 
 /// A decimal of up to so many digits, times a power of ten up to so high or low.
-fn random_decimal(random: &mut Random, most: i64, power: i64) -> Decimal {
+pub fn random_decimal(random: &mut Random, most: i64, power: i64) -> Decimal {
     let mantissa = i128::from(random.between(-most, most));
     Decimal { mantissa, exponent: random.between(-power, power) as i32 }
 }
 
 /// A factor: mostly a simple one.
-fn factor(random: &mut Random) -> Decimal {
+pub fn factor(random: &mut Random) -> Decimal {
     let simple = [(1, 0), (1, 0), (1, -1), (5, -1), (2, 0), (1, -3), (10, -1), (3, 0), (25, -2), (1, 2), (7, 0)];
     let (mantissa, exponent) = random.pick(&simple);
     if random.once_in(10) {
@@ -468,7 +468,7 @@ fn factor(random: &mut Random) -> Decimal {
 }
 
 /// A whole number times a factor, if it can be spelled.
-fn times(number: i128, factor: Decimal, places: i32) -> Option<Decimal> {
+pub fn times(number: i128, factor: Decimal, places: i32) -> Option<Decimal> {
     let mut product = Decimal { mantissa: number * factor.mantissa, exponent: factor.exponent - places };
     while product.mantissa != 0 && product.mantissa % 10 == 0 && product.exponent < 0 {
         product = Decimal { mantissa: product.mantissa / 10, exponent: product.exponent + 1 };
