@@ -1,10 +1,10 @@
 -- What a C host is told: the numbers of the answer's struct, in the header's order, and the first of them once more as the result. What is not given is 0. Assumes nothing.
 use mathlib.Core.Path.{_≡_}
 use mathlib.Core.List.{List, [], _∷_}
-use Prim.Native.Nat.{ℕ, _-_}
+use Prim.Native.Nat.{ℕ, _+_, _-_}
 use lib.IntN.{ℤ, pos, negsuc}
 use lib.Dec.{eqb}
-use lib.ListN.{length}
+use lib.ListN.{length, getD}
 use Rattle.terms.specs.Logic.{pick}
 use Rattle.terms.specs.Places.{lineOf, columnOf}
 use Rattle.table_spec.specs.Reading.{Answer, refuse, accept, readTable, stored}
@@ -14,6 +14,9 @@ use Rattle.table_spec.specs.declared.Style.the-variants.{Difdup, Affn, Pac, Sqz
 use Rattle.label_spec.specs.Records.{recordFor}
 use Rattle.label_spec.specs.Names.{norm}
 use Rattle.label_spec.specs.declared.Record.{Record}
+use Rattle.file_write_spec.specs.File.{writeFile}
+use Rattle.file_write_spec.specs.declared.GivenDecimal.{GivenDecimal}
+use Rattle.file_write_spec.specs.declared.Scales.{Scales}
 use Rattle.file_spec.specs.File.{FileAnswer, refuse-file, accept-file, readFile, storedFile}
 
 -- refused (0: accepted) is the first number of each answer
@@ -77,6 +80,17 @@ pub record FileTold (file : List ℕ) (out out' : List ℤ) (answer : List ℕ) 
   pub numbers : answer ≡ fileAnswer file (readFile file (length out))
   pub returned : r ≡ refusedOf (fileAnswer file (readFile file (length out)))
   pub leaves : out' ≡ storedFile out (readFile file (length out))
+
+-- ten numbers as they come are five decimals, each a mantissa and an exponent, in the header's order
+abbrev pub given : List ℤ → ℕ → GivenDecimal
+given ks i = record { mantissa = getD ks i (pos 0); exponent = getD ks (i + 1) (pos 0) }
+
+abbrev pub scalesOf : List ℤ → Scales
+scalesOf ks = record { xfactor = given ks 0; yfactor = given ks 2; firstx = given ks 4; lastx = given ks 6; firsty = given ks 8 }
+
+-- a file written: refused, length
+abbrev pub FileTextTold : List ℕ → ℕ → List ℤ → List ℤ → List ℕ → List ℕ → List ℕ → ℕ → Type 0
+FileTextTold title n ks es text text' answer r = OutcomeTold (writeFile title n (scalesOf ks) es (length text)) text text' answer r
 
 -- the number for a record that is absent, -1 in 64 bits: no refusal has it (Numbers.refused-number)
 abbrev pub absent : ℕ

@@ -2,8 +2,11 @@
 // Every argument is answered, every number is set, and what is not given is 0.
 ghost use mathlib.Core.Path.{_≡_};
 ghost use Rattle.table_spec.specs.declared.Style.the-variants.{Difdup};
-ghost use Rattle.host.specs.Answers.{bits, TableTold, TextTold, FormTold, FileTold, RecordTold};
+ghost use Rattle.host.specs.Answers.{bits, TableTold, TextTold, FormTold, FileTold, scalesOf, FileTextTold, RecordTold};
 use file_spec::FileRead;
+use file_write_spec::FileWritten;
+use file_write_spec::GivenDecimal;
+use file_write_spec::Scales;
 use label_spec::Record;
 use table_spec::Style;
 use terms::TableRead;
@@ -138,6 +141,50 @@ pub extern "C" fn lastarunc_read_file(file: &[u8], out: &mut [i32], answer: &mut
                 0,
             ];
             r.number
+        }
+    }
+}
+
+// The decimal of two numbers as they come: mantissa, exponent.
+fn decimal(mantissa: i64, exponent: i64) -> GivenDecimal
+    ensures { λ r. ⌜ r ≡ record { mantissa = mantissa; exponent = exponent } ⌝ }
+{
+    GivenDecimal { mantissa, exponent }
+}
+
+// The five decimals of a file, each a mantissa and an exponent: XFACTOR, YFACTOR, FIRSTX, LASTX, FIRSTY.
+fn scales_of(scales: &[i64; 10]) -> Scales
+    ensures { λ r. ⌜ r ≡ scalesOf (now (scales .entry)) ⌝ }
+{
+    Scales {
+        xfactor: decimal(scales[0], scales[1]),
+        yfactor: decimal(scales[2], scales[3]),
+        firstx: decimal(scales[4], scales[5]),
+        lastx: decimal(scales[6], scales[7]),
+        firsty: decimal(scales[8], scales[9]),
+    }
+}
+
+// Writes a file (02, T-04): refused, length.
+#[no_mangle]
+pub extern "C" fn lastarunc_write_file(
+    title: &[u8],
+    points: usize,
+    scales: &[i64; 10],
+    ordinates: &[i32],
+    text: &mut [u8],
+    answer: &mut [u64; 2],
+) -> u64
+    ensures { λ r. ⌜ FileTextTold (now (title .entry)) points (now (scales .entry)) (now (ordinates .entry)) (now (text .entry)) (now (text .exit)) (now (answer .exit)) r ⌝ }
+{
+    match file_write::write_file(title, points, scales_of(scales), ordinates, text) {
+        FileWritten::Length(n) => {
+            *answer = [0, n.length as u64];
+            0
+        }
+        FileWritten::Refused(f) => {
+            *answer = [f.number, 0];
+            f.number
         }
     }
 }

@@ -3,6 +3,9 @@
 // answers. Lent memory is filled first; a line `touched` tells that an entry past the answer was altered.
 use file_spec::FileRead;
 use file_spec::FileTable;
+use file_write_spec::FileWritten;
+use file_write_spec::GivenDecimal;
+use file_write_spec::Scales;
 use table_spec::Style;
 use terms::Fault;
 use terms::Refusal;
@@ -15,6 +18,9 @@ const READ: usize = 4096;
 
 // Room for the ordinates of a table that is written.
 const WRITTEN: usize = 20000;
+
+// Room for the title of a file that is written.
+const TITLE: usize = 256;
 
 // What ordinates are filled with first; no case has it.
 const FILL: i32 = -1234567891;
@@ -149,6 +155,28 @@ fn reads_back(a: Asked, ys: &[i32], text: &[u8]) -> bool {
 fn show_text(a: Asked, ys: &[i32], text: &[u8], n: usize) {
     if n <= text.len() {
         if reads_back(a, ys, &text[0..n]) {
+            io::write_all(1, b" same\n");
+        } else {
+            io::write_all(1, b" differs\n");
+        }
+        io::write_all(1, &text[0..n]);
+    }
+    report::end_line();
+}
+
+// Does reading the written file give back N and the ordinates?
+fn file_reads_back(a: Asked, ys: &[i32], text: &[u8]) -> bool {
+    let mut back = [FILL; WRITTEN];
+    match file::read_file(text, &mut back) {
+        FileRead::Accepted(t) => t.points == a.points && same(ys, &back, t.points),
+        FileRead::Refused(_) => false,
+    }
+}
+
+// The written file in the first n bytes: whether it reads back, and from the next line on itself.
+fn show_file_text(a: Asked, ys: &[i32], text: &[u8], n: usize) {
+    if n <= text.len() {
+        if file_reads_back(a, ys, &text[0..n]) {
             io::write_all(1, b" same\n");
         } else {
             io::write_all(1, b" differs\n");
@@ -323,7 +351,83 @@ fn file_case(a: Asked) {
     show_file(answer, &out);
 }
 
-// The next case, and that there was one: 1 is a body, 3 a file; 2 is a table to write as DIFDUP, 4 as AFFN, 5 as PAC, 6 as SQZ.
+// The next decimal of the input: a mantissa and an exponent.
+fn next_decimal() -> GivenDecimal {
+    let mantissa = next_abscissa();
+    let exponent = next_abscissa();
+    GivenDecimal { mantissa, exponent }
+}
+
+// The next five decimals of the input, in the order of the records.
+fn next_scales() -> Scales {
+    let xfactor = next_decimal();
+    let yfactor = next_decimal();
+    let firstx = next_decimal();
+    let lastx = next_decimal();
+    let firsty = next_decimal();
+    Scales {
+        xfactor,
+        yfactor,
+        firstx,
+        lastx,
+        firsty,
+    }
+}
+
+// Writes the file, or refusal 0 if this program has too little room.
+fn write_file(title: &[u8], a: Asked, c: Scales, ys: &[i32], text: &mut [u8]) -> FileWritten {
+    let count = a.count;
+    let room = a.room;
+    if count <= ys.len() {
+        if room <= text.len() {
+            return file_write::write_file(
+                title,
+                a.points,
+                c,
+                &ys[0..count],
+                &mut text[0..room],
+            );
+        }
+    }
+    FileWritten::Refused(Fault::new(0, 0))
+}
+
+// The answer to a file to write.
+fn show_file_written(a: Asked, answer: FileWritten, ys: &[i32], text: &[u8]) {
+    match answer {
+        FileWritten::Length(f) => {
+            let n = f.length;
+            io::write_all(1, b"ok ");
+            io::print_decimal(1, n as u64);
+            show_file_text(a, ys, text, n);
+            show_touched_text(text, n);
+        }
+        FileWritten::Refused(f) => {
+            report::print_refused(f.number, f.place);
+            report::end_line();
+            show_touched_text(text, 0);
+        }
+    }
+}
+
+// A file to write: its title, its five decimals and its ordinates follow.
+fn file_write_case(a: Asked) {
+    let mut title = [0u8; TITLE];
+    let n = next_number();
+    if n > TITLE as u64 {
+        return;
+    }
+    let length = n as usize;
+    take_bytes(&mut title, length);
+    let c = next_scales();
+    let mut ys = [0i32; WRITTEN];
+    take_ordinates(&mut ys, a.count);
+    let mut text = [b'~'; 65536];
+    let answer = write_file(&title[0..length], a, c, &ys, &mut text);
+    show_file_written(a, answer, &ys, &text);
+}
+
+// The next case, and that there was one: 1 is a body, 3 a file; 2 is a table to write as DIFDUP, 4 as AFFN, 5 as PAC, 6 as SQZ; 7 is a file to write.
 fn next_case() -> bool {
     let kind = next_number();
     if kind == 0 {
@@ -336,6 +440,7 @@ fn next_case() -> bool {
         4 => write_case(Style::Affn, a),
         5 => write_case(Style::Pac, a),
         6 => write_case(Style::Sqz, a),
+        7 => file_write_case(a),
         _ => file_case(a),
     }
     true
