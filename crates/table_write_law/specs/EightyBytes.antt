@@ -1,4 +1,4 @@
--- "Lines hold at most 80 bytes, then CR LF" (01, "The written text"): the written text is such lines in each of the four forms (02, T-02), and no CR or LF stands within them. Assumes nothing.
+-- "Lines hold at most 80 bytes, then CR LF" (01, "The written text"): the written text is such lines in each of the four forms (02, T-02), and no CR, LF or `#` stands within them. Assumes nothing.
 use mathlib.Core.Path.{_≡_, refl}
 use mathlib.Core.Bool.{Bool, true, false}
 use mathlib.Core.List.{List, [], _∷_, _++_}
@@ -23,35 +23,62 @@ use Rattle.table_spec.specs.Groups.{form, sqzText, plainText, pacText, affnText
 use Rattle.table_write_law.specs.Tokens.{more-le}
 use Rattle.table_write_law.specs.Lengths.{group-slim, check-most, head-most}
 
--- a text after c bytes of its first line: lines of at most 80 bytes, none of them CR or LF, and after each of them CR LF
-pub data Lined : ℕ → List ℕ → Type 0 where
-  over : Lined 0 []
-  ends : {c : ℕ} {s : List ℕ} → c ≤ longest-line → Lined 0 s → Lined c (13 ∷ 10 ∷ s)
-  byte : {c b : ℕ} {s : List ℕ} → (b ≡ 13 → ⊥) → (b ≡ 10 → ⊥) → Lined (suc c) s → Lined c (b ∷ s)
+-- a text after c bytes of its first line: lines of at most 80 bytes, each of them such a byte, and after each line CR LF
+pub data LinedOf (P : ℕ → Type 0) : ℕ → List ℕ → Type 0 where
+  over : LinedOf P 0 []
+  ends : {c : ℕ} {s : List ℕ} → c ≤ longest-line → LinedOf P 0 s → LinedOf P c (13 ∷ 10 ∷ s)
+  byte : {c b : ℕ} {s : List ℕ} → P b → LinedOf P (suc c) s → LinedOf P c (b ∷ s)
+
+-- lines of bytes that are neither CR nor LF
+abbrev pub Ordinary : ℕ → Type 0
+Ordinary b = (b ≡ 13 → ⊥) × (b ≡ 10 → ⊥)
+
+abbrev pub Lined : ℕ → List ℕ → Type 0
+Lined c s = LinedOf Ordinary c s
+
+-- lines of bytes above CR of which none is `#`, so that no label begins there
+abbrev pub Inner : ℕ → Type 0
+Inner b = (13 < b) × (b ≡ 35 → ⊥)
+
+pub inner-lined : {c : ℕ} {s : List ℕ} → LinedOf Inner c s → Lined c s
+inner-lined over = over
+inner-lined (ends l x) = ends l (inner-lined x)
+inner-lined (byte {b = b} h x) = let k = h .0 in let o : Ordinary b = (λ e. omega arith, λ e. omega arith) in byte o (inner-lined x)
 
 -- ---- the bytes of tokens and heads
 
--- each is above CR
-abbrev Above : List ℕ → Type 0
-Above [] = Unit {0}
-Above (b ∷ s) = (13 < b) × Above s
+-- a space is such a byte, and so is every byte above `#`
+space : Inner 32
+space = (omega arith, λ e. omega arith)
 
-joined : (a b : List ℕ) → Above a → Above b → Above (a ++ b)
+pub high : (b : ℕ) → 35 < b → Inner b
+high b h = (omega arith, λ e. omega arith)
+
+-- each byte of a text is such a byte
+abbrev pub Each : (ℕ → Type 0) → List ℕ → Type 0
+Each P [] = Unit {0}
+Each P (b ∷ s) = P b × Each P s
+
+abbrev pub Above : List ℕ → Type 0
+Above s = Each Inner s
+
+pub joined : (a b : List ℕ) → Above a → Above b → Above (a ++ b)
 joined [] b h k = k
 joined (x ∷ a) b h k = (h .0, joined a b (h .1) k)
 
-low-above : (f v : ℕ) (acc : List ℕ) → Above acc → Above (low f v acc)
+pub low-above : (f v : ℕ) (acc : List ℕ) → Above acc → Above (low f v acc)
 unfolding low
 low-above zero v acc h = h
 low-above (suc f) v acc h =
-    by-case (λ q. Above (pick q acc (low f (v / 10) ((48 + v % 10) ∷ acc)))) (ltb v 10) (λ _. h) (λ _. low-above f (v / 10) ((48 + v % 10) ∷ acc) (omega arith, h))
+    by-case (λ q. Above (pick q acc (low f (v / 10) ((48 + v % 10) ∷ acc)))) (ltb v 10) (λ _. h)
+    (λ _. low-above f (v / 10) ((48 + v % 10) ∷ acc) (high (48 + v % 10) (omega arith), h))
 
-lead-above : (k : Lead) (d : ℕ) → 13 < leadByte k d
-lead-above (sqz false) d = omega arith
-lead-above (sqz true) d = omega arith
-lead-above (dif false) d = by-case (λ q. 13 < pick q 37 (73 + d)) (eqb d 0) (λ _. omega arith) (λ _. omega arith)
-lead-above (dif true) d = omega arith
-lead-above dup d = by-case (λ q. 13 < pick q 115 (82 + d)) (eqb d 9) (λ _. omega arith) (λ _. omega arith)
+lead-above : (k : Lead) (d : ℕ) → Inner (leadByte k d)
+lead-above (sqz false) d = high (64 + d) (omega arith)
+lead-above (sqz true) d = high (96 + d) (omega arith)
+lead-above (dif false) d = by-case (λ q. Inner (pick q 37 (73 + d))) (eqb d 0) (λ _. high 37 (omega arith)) (λ _. high (73 + d) (omega arith))
+lead-above (dif true) d = high (105 + d) (omega arith)
+lead-above dup d = by-case (λ q. Inner (pick q 115 (82 + d))) (eqb d 9) (λ _. high 115 (omega arith)) (λ _. high (82 + d) (omega arith))
 
 numeral-above : (k : Lead) (v : ℕ) → Above (numeral k v)
 unfolding numeral
@@ -63,21 +90,21 @@ sqz-above u =
     by-case (λ t. Above (pick t (numeral (sqz false) (u - zero-ordinate)) (numeral (sqz true) (zero-ordinate - u)))) (leb zero-ordinate u)
     (λ _. numeral-above (sqz false) (u - zero-ordinate)) (λ _. numeral-above (sqz true) (zero-ordinate - u))
 
-plain-above : (v : ℕ) → Above (plainText v)
+pub plain-above : (v : ℕ) → Above (plainText v)
 unfolding plainText
-plain-above v = (omega arith, low-above 9 v [] tt)
+plain-above v = (high (48 + top 9 v) (omega arith), low-above 9 v [] tt)
 
 affn-above : (u : ℕ) → Above (affnText u)
 unfolding affnText
 affn-above u =
     by-case (λ t. Above (pick t (32 ∷ plainText (u - zero-ordinate)) (32 ∷ 45 ∷ plainText (zero-ordinate - u)))) (leb zero-ordinate u)
-    (λ _. (omega arith, plain-above (u - zero-ordinate))) (λ _. (omega arith, (omega arith, plain-above (zero-ordinate - u))))
+    (λ _. (space, plain-above (u - zero-ordinate))) (λ _. (space, (high 45 (omega arith), plain-above (zero-ordinate - u))))
 
 pac-above : (u : ℕ) → Above (pacText u)
 unfolding pacText
 pac-above u =
     by-case (λ t. Above (pick t (32 ∷ plainText (u - zero-ordinate)) (45 ∷ plainText (zero-ordinate - u)))) (leb zero-ordinate u)
-    (λ _. (omega arith, plain-above (u - zero-ordinate))) (λ _. (omega arith, plain-above (zero-ordinate - u)))
+    (λ _. (space, plain-above (u - zero-ordinate))) (λ _. (high 45 (omega arith), plain-above (zero-ordinate - u)))
 
 own-above : (st : Style) (u : ℕ) → Above (ownText st u)
 own-above Affn u = affn-above u
@@ -86,10 +113,10 @@ own-above Sqz u = sqz-above u
 own-above Difdup u = sqz-above u
 
 gap-above : (st : Style) → Above (gapText st)
-gap-above Affn = (omega arith, (omega arith, tt))
-gap-above Pac = (omega arith, tt)
-gap-above Sqz = (omega arith, tt)
-gap-above Difdup = (omega arith, tt)
+gap-above Affn = (space, (high 63 (omega arith), tt))
+gap-above Pac = (high 63 (omega arith), tt)
+gap-above Sqz = (high 63 (omega arith), tt)
+gap-above Difdup = (high 63 (omega arith), tt)
 
 token-above : (st : Style) (r : Form) (y : ℕ) → Above (tokenText st r y)
 unfolding tokenText
@@ -114,57 +141,57 @@ fraction-above f =
     let third = pick (eqb (f % 10) 0) [] ((48 + f % 10) ∷ []) in
     by-case (λ q. Above (pick q [] (46 ∷ (48 + f / 100) ∷ pick (eqb (f % 100) 0) [] ((48 + f / 10 % 10) ∷ third)))) (eqb f 0) (λ _. tt)
     (λ _. (
-      omega arith,
+      high 46 (omega arith),
       (
-        omega arith,
+        high (48 + f / 100) (omega arith),
         by-case (λ q. Above (pick q [] ((48 + f / 10 % 10) ∷ third))) (eqb (f % 100) 0) (λ _. tt)
-            (λ _. (omega arith, by-case (λ q. Above (pick q [] ((48 + f % 10) ∷ []))) (eqb (f % 10) 0) (λ _. tt) (λ _. (omega arith, tt)))),
+            (λ _. (
+              high (48 + f / 10 % 10) (omega arith),
+              by-case (λ q. Above (pick q [] ((48 + f % 10) ∷ []))) (eqb (f % 10) 0) (λ _. tt) (λ _. (high (48 + f % 10) (omega arith), tt)),
+            )),
       ),
     ))
 
 magnitude-above : (g : ℕ) → Above (magnitude g)
 unfolding magnitude
-magnitude-above g = (omega arith, joined (low 9 (g / 1000) []) (fraction (g % 1000)) (low-above 9 (g / 1000) [] tt) (fraction-above (g % 1000)))
+magnitude-above g = (high (48 + top 9 (g / 1000)) (omega arith), joined (low 9 (g / 1000) []) (fraction (g % 1000)) (low-above 9 (g / 1000) [] tt) (fraction-above (g % 1000)))
 
 head-above : (h : ℕ) → Above (headText h)
 unfolding headText
 head-above h =
     by-case (λ q. Above (pick q (magnitude (h - zero-abscissa)) (45 ∷ magnitude (zero-abscissa - h)))) (leb zero-abscissa h)
-    (λ _. magnitude-above (h - zero-abscissa)) (λ _. (omega arith, magnitude-above (zero-abscissa - h)))
+    (λ _. magnitude-above (h - zero-abscissa)) (λ _. (high 45 (omega arith), magnitude-above (zero-abscissa - h)))
 
 -- ---- lines
 
 -- such bytes go on with a line
-onward : {s : List ℕ} (c : ℕ) (g : List ℕ) → Above g → Lined (c + length g) s → Lined c (g ++ s)
+pub onward : {P : ℕ → Type 0} {s : List ℕ} (c : ℕ) (g : List ℕ) → Each P g → LinedOf P (c + length g) s → LinedOf P c (g ++ s)
 onward c [] h l = rw add-zero at l
 onward c (b ∷ g) h l =
-    let k = h .0 in
-    let cr : b ≡ 13 → ⊥ = λ e. omega arith in
-    let lf : b ≡ 10 → ⊥ = λ e. omega arith in
-    byte cr lf (onward (suc c) g (h .1) (rw (add-suc c (length g), ← suc-add c (length g)) at l))
+    byte (h .0) (onward (suc c) g (h .1) (rw (add-suc c (length g), ← suc-add c (length g)) at l))
 
 module _ (st : Style) (N : ℕ) (few : N ≤ 65536) (hd : ℕ → List ℕ) (short : (i : ℕ) → i < N → length (hd i) ≤ 12) (above : (i : ℕ) → Above (hd i)) where
   abbrev Rows : List ℕ → Type 0
-  Rows zs = (n i p : ℕ) (d : Bool) (col : ℕ) → n ≤ length zs → 0 < i → i + length zs ≡ N → col ≤ 80 → Lined col (text st hd zs n i p d col)
+  Rows zs = (n i p : ℕ) (d : Bool) (col : ℕ) → n ≤ length zs → 0 < i → i + length zs ≡ N → col ≤ 80 → LinedOf Inner col (text st hd zs n i p d col)
 
   check-above : (i p : ℕ) → Above (check st hd i p)
   unfolding check
   check-above i p = joined (hd (i - 1)) (sqzText p) (above (i - 1)) (sqz-above p)
 
-  close-lined : (d : Bool) (i p : ℕ) → 0 < i → i ≤ N → Lined 0 (close st hd d i p)
+  close-lined : (d : Bool) (i p : ℕ) → 0 < i → i ≤ N → LinedOf Inner 0 (close st hd d i p)
   unfolding close
   close-lined true i p g l = let k = check-most N few hd short st i p g l in onward 0 (check st hd i p) (check-above i p) (ends (omega arith) over)
   close-lined false i p g l = over
 
   module _ (y : ℕ) (ys : List ℕ) (ih : Rows ys) where
-    put-lined : (i p col : ℕ) → i + length (y ∷ ys) ≡ N → col + length (group st p y ys) ≤ 80 → Lined col (put st hd (text st hd ys) col i p y ys)
+    put-lined : (i p col : ℕ) → i + length (y ∷ ys) ≡ N → col + length (group st p y ys) ≤ 80 → LinedOf Inner col (put st hd (text st hd ys) col i p y ys)
     unfolding put
     put-lined i p col b l =
         let r = form (seen-after st p) y in
         onward col (group st p y ys) (group-above st p y ys)
         (ih (more-of st r y ys) (suc i) y (isDif r) (col + length (group st p y ys)) (more-le st r y ys) (omega arith) (omega arith) l)
 
-    opens-lined : (d : Bool) (i p : ℕ) → (d ≡ true → 0 < i) → i + length (y ∷ ys) ≡ N → Lined 0 (open-line st hd (text st hd ys) d i p y ys)
+    opens-lined : (d : Bool) (i p : ℕ) → (d ≡ true → 0 < i) → i + length (y ∷ ys) ≡ N → LinedOf Inner 0 (open-line st hd (text st hd ys) d i p y ys)
     unfolding open-line
     opens-lined true i p g b =
         let k = check-most N few hd short st i p (g refl) (omega arith) in
@@ -175,10 +202,10 @@ module _ (st : Style) (N : ℕ) (few : N ≤ 65536) (hd : ℕ → List ℕ) (sho
         let w = group-slim st 0 y ys (omega arith) in
         onward 0 (hd i) (above i) (rw zero-add (put-lined i 0 (length (hd i)) b (omega (arith, w))))
 
-    goes-lined : (d : Bool) (i p col : ℕ) → 0 < i → i + length (y ∷ ys) ≡ N → col ≤ 80 → Lined col (go-on st hd (text st hd ys) d col i p y ys)
+    goes-lined : (d : Bool) (i p col : ℕ) → 0 < i → i + length (y ∷ ys) ≡ N → col ≤ 80 → LinedOf Inner col (go-on st hd (text st hd ys) d col i p y ys)
     unfolding go-on
     goes-lined d i p col g b l =
-        by-case (λ t. Lined col (pick t (put st hd (text st hd ys) col i p y ys) (13 ∷ 10 ∷ open-line st hd (text st hd ys) d i p y ys))) (leb (col + length (group st p y ys)) 80)
+        by-case (λ t. LinedOf Inner col (pick t (put st hd (text st hd ys) col i p y ys) (13 ∷ 10 ∷ open-line st hd (text st hd ys) d i p y ys))) (leb (col + length (group st p y ys)) 80)
         (λ e. put-lined i p col b (leb-true (col + length (group st p y ys)) 80 e))
         (λ _. ends l (opens-lined d i p (λ _. g) b))
 
@@ -189,13 +216,13 @@ module _ (st : Style) (N : ℕ) (few : N ≤ 65536) (hd : ℕ → List ℕ) (sho
   text-lined (y ∷ ys) zero i p d col l g b c = goes-lined y ys (text-lined ys) d i p col g b c
   text-lined (y ∷ ys) (suc n) i p d col l g b c = text-lined ys n (suc i) y d col (le-of-suc-le-suc l) (omega arith) (omega arith) c
 
-  lines-lined : (ys : List ℕ) → length ys ≡ N → Lined 0 (lines-of st hd ys)
+  lines-lined : (ys : List ℕ) → length ys ≡ N → LinedOf Inner 0 (lines-of st hd ys)
   unfolding lines-of
   lines-lined [] b = over
   lines-lined (y ∷ ys) b = opens-lined y ys (text-lined ys) false 0 0 (λ e. no-way e) (omega arith)
 
 -- the text of a frame that the writer takes
-pub written-lined : (st : Style) (first last n : ℕ) (ys : List ℕ) → Takes first last n → length ys ≡ n → Lined 0 (written st first last n ys)
+pub written-lined : (st : Style) (first last n : ℕ) (ys : List ℕ) → Takes first last n → length ys ≡ n → LinedOf Inner 0 (written st first last n ys)
 unfolding written
 written-lined st first last n ys t e =
     lines-lined st n (t .few) (λ i. headText (nearest first last n i)) (head-most first last n t) (λ i. head-above (nearest first last n i)) ys e

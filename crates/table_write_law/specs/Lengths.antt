@@ -45,7 +45,7 @@ sqz-most u =
     by-case (λ t. length (pick t (numeral (sqz false) (u - zero-ordinate)) (numeral (sqz true) (zero-ordinate - u))) ≤ 10) (leb zero-ordinate u)
     (λ _. numeral-most (sqz false) (u - zero-ordinate)) (λ _. numeral-most (sqz true) (zero-ordinate - u))
 
-plain-most : (v : ℕ) → length (plainText v) ≤ 10
+pub plain-most : (v : ℕ) → length (plainText v) ≤ 10
 unfolding plainText
 plain-most v = omega (arith, low-most 9 v [])
 

@@ -22,7 +22,7 @@ use Rattle.table_law.specs.Complete.{complete}
 use Rattle.table_law.specs.Outcome.{spells-accepted, accepted-stored}
 use Rattle.table_write_law.specs.Written.{Takes, written-spells}
 use Rattle.table_write_law.specs.Lengths.{written-is-a-body, written-ceiling}
-use Rattle.table_write_law.specs.EightyBytes.{Lined, written-lined}
+use Rattle.table_write_law.specs.EightyBytes.{LinedOf, Inner, Lined, inner-lined, written-lined}
 use Rattle.terms.specs.Logic.{pick, by-case}
 use Rattle.table_spec.specs.declared.Style.{Style}
 use Rattle.table_write_law.specs.Lengths.{written-most, written-is-a-body, written-ceiling}
@@ -109,9 +109,12 @@ module _ (st : Style) (f l : ℤ) (n : ℕ) (es : List ℤ) (space : ℕ) (t : L
       let k = taken e in
       rw (k .is) at (written-spells st (abscissa f) (abscissa l) n (map ordinate-of (take n es)) (takes k) (entries-small (take n es) (entries-take n es h)) (counted k))
 
-  -- in lines of at most 80 bytes,
+  -- in lines of at most 80 bytes, with no `#` in them,
+  pub wrote-inner : writeTable st f l n es space ≡ wrote t → LinedOf Inner 0 t
+  wrote-inner e = let k = taken e in rw (k .is) at (written-lined st (abscissa f) (abscissa l) n (map ordinate-of (take n es)) (takes k) (counted k))
+
   pub wrote-lined : writeTable st f l n es space ≡ wrote t → Lined 0 t
-  wrote-lined e = let k = taken e in rw (k .is) at (written-lined st (abscissa f) (abscissa l) n (map ordinate-of (take n es)) (takes k) (counted k))
+  wrote-lined e = inner-lined (wrote-inner e)
 
   -- and no longer than a body may be
   pub wrote-body : writeTable st f l n es space ≡ wrote t → length t ≤ longest-body

@@ -1,0 +1,1 @@
+// No code: theorems about the written file (02, T-04), in specs/.
