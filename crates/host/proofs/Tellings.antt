@@ -22,6 +22,10 @@ use Rattle.file_spec.specs.File.{FileAnswer, refuse-file, accept-file, readFile
 use Rattle.file_spec.specs.declared.FileTable.{FileTable}
 use Rattle.file_spec.specs.declared.FileRead.the-variants as files
 use Rattle.file.specs.Answers.{FileSays}
+use Rattle.file_write_spec.specs.declared.FileLength.{FileLength}
+use Rattle.file_write_spec.specs.declared.FileWritten.{FileWritten}
+use Rattle.file_write.specs.Answers.{FileTells}
+use Rattle.file_write.specs.Answers as file-writing
 use Rattle.host.specs.Answers.{refusedOf, tableAnswer, TableTold, textAnswer, OutcomeTold, no-form, writeForm, bits, fileAnswer, FileTold, recordAnswer, RecordTold}
 
 -- ---- a table read
@@ -67,6 +71,22 @@ pub no-such-form : (k : ℕ) (f l : ℤ) (n : ℕ) (ys : List ℤ) (text : List 
     → OutcomeTold (writeForm k f l n ys (length text)) text text (no-form ∷ 0 ∷ []) no-form
 unfolding laid
 no-such-form k f l n ys text a b c d = rw (ne-eqb k 0 a, ne-eqb k 1 b, ne-eqb k 2 c, ne-eqb k 3 d) (record { numbers = refl; returned = refl; leaves = refl })
+
+-- ---- a file written
+
+file-wrote : (x : Outcome) {m : FileLength} → FileWritten.Length m ≡ file-writing.told-file x → 0 ∷ m .length ∷ [] ≡ textAnswer x
+file-wrote (declined c) e = zero-one cc
+file-wrote (wrote t) {m} e = let z : m ≡ record { length = length t } = cc in rw z refl
+
+file-declined : (x : Outcome) {r : Fault} → FileWritten.Refused r ≡ file-writing.told-file x → r .number ∷ 0 ∷ [] ≡ textAnswer x
+file-declined (declined c) {r} e = let z : r ≡ fault-at c 0 = cc in rw z refl
+file-declined (wrote t) e = zero-one cc
+
+pub told-file-wrote : (x : Outcome) {text text' : List ℕ} {m : FileLength} → FileTells x text text' (FileWritten.Length m) → OutcomeTold x text text' (0 ∷ m .length ∷ []) 0
+told-file-wrote x g = let z = file-wrote x (g .answer) in record { numbers = z; returned = ap refusedOf z; leaves = g .bytes }
+
+pub told-file-declined : (x : Outcome) {text text' : List ℕ} {r : Fault} → FileTells x text text' (FileWritten.Refused r) → OutcomeTold x text text' (r .number ∷ 0 ∷ []) (r .number)
+told-file-declined x g = let z = file-declined x (g .answer) in record { numbers = z; returned = ap refusedOf z; leaves = g .bytes }
 
 -- ---- a file read
 

@@ -145,23 +145,31 @@ pub extern "C" fn lastarunc_read_file(file: &[u8], out: &mut [i32], answer: &mut
     }
 }
 
-// The decimal of two numbers as they come: mantissa, exponent.
-fn decimal(mantissa: i64, exponent: i64) -> GivenDecimal
-    ensures { λ r. ⌜ r ≡ record { mantissa = mantissa; exponent = exponent } ⌝ }
-{
-    GivenDecimal { mantissa, exponent }
-}
-
 // The five decimals of a file, each a mantissa and an exponent: XFACTOR, YFACTOR, FIRSTX, LASTX, FIRSTY.
 fn scales_of(scales: &[i64; 10]) -> Scales
     ensures { λ r. ⌜ r ≡ scalesOf (now (scales .entry)) ⌝ }
 {
     Scales {
-        xfactor: decimal(scales[0], scales[1]),
-        yfactor: decimal(scales[2], scales[3]),
-        firstx: decimal(scales[4], scales[5]),
-        lastx: decimal(scales[6], scales[7]),
-        firsty: decimal(scales[8], scales[9]),
+        xfactor: GivenDecimal {
+            mantissa: scales[0],
+            exponent: scales[1],
+        },
+        yfactor: GivenDecimal {
+            mantissa: scales[2],
+            exponent: scales[3],
+        },
+        firstx: GivenDecimal {
+            mantissa: scales[4],
+            exponent: scales[5],
+        },
+        lastx: GivenDecimal {
+            mantissa: scales[6],
+            exponent: scales[7],
+        },
+        firsty: GivenDecimal {
+            mantissa: scales[8],
+            exponent: scales[9],
+        },
     }
 }
 

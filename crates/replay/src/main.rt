@@ -380,13 +380,7 @@ fn write_file(title: &[u8], a: Asked, c: Scales, ys: &[i32], text: &mut [u8]) ->
     let room = a.room;
     if count <= ys.len() {
         if room <= text.len() {
-            return file_write::write_file(
-                title,
-                a.points,
-                c,
-                &ys[0..count],
-                &mut text[0..room],
-            );
+            return file_write::write_file(title, a.points, c, &ys[0..count], &mut text[0..room]);
         }
     }
     FileWritten::Refused(Fault::new(0, 0))

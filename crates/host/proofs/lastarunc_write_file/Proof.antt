@@ -1,0 +1,48 @@
+-- `host::lastarunc_write_file` meets its contract: the answer has the numbers of what `write_file` says.
+use Rattle.host.proofs.Tellings.{told-file-wrote, told-file-declined}
+use borrow.Author.Needs.{needs}
+use Rattle.host.proofs.lastarunc_write_file.Statement.{statement}
+use Rattle.host.proofs.lastarunc_write_file.Tie as tie
+
+scales-of-requires : tie.Need-scales-of-requires
+scales-of-requires c κs = search needs
+
+write-file-requires : tie.Need-write-file-requires
+write-file-requires c κs = search needs
+
+enum-known-n : tie.Need-enum-known-n
+enum-known-n c = search needs
+
+enum-known-f : tie.Need-enum-known-f
+enum-known-f c = search needs
+
+same-length : tie.Need-same-length
+same-length c = search needs
+
+returns : tie.Need-returns
+returns c =
+    let k = c .before .before in
+    let w = k .before .before .before .before in
+    told-file-wrote _ (rw (w .before .before .scales-of .ensures, k .n .given .1) at (w .write-file .ensures))
+
+same-length-2 : tie.Need-same-length-2
+same-length-2 c = search needs
+
+returns-2 : tie.Need-returns-2
+returns-2 c =
+    let k = c .before .before in
+    let w = k .before .before .before .before in
+    told-file-declined _ (rw (w .before .before .scales-of .ensures, k .f .given .1) at (w .write-file .ensures))
+
+pub lastarunc-write-file-spec : {M : Type 1} → statement M
+lastarunc-write-file-spec =
+    tie.close
+    (tie.spec
+    scales-of-requires
+    write-file-requires
+    enum-known-n
+    enum-known-f
+    same-length
+    returns
+    same-length-2
+    returns-2)
