@@ -190,9 +190,9 @@ pub extern "C" fn lastarunc_write_file(
             *answer = [0, n.length as u64];
             0
         }
-        FileWritten::Refused(f) => {
-            *answer = [f.number, 0];
-            f.number
+        FileWritten::Refused(refusal) => {
+            *answer = [refusal.number, 0];
+            refusal.number
         }
     }
 }

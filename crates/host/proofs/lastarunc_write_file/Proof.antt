@@ -13,8 +13,8 @@ write-file-requires c κs = search needs
 enum-known-n : tie.Need-enum-known-n
 enum-known-n c = search needs
 
-enum-known-f : tie.Need-enum-known-f
-enum-known-f c = search needs
+enum-known-refusal : tie.Need-enum-known-refusal
+enum-known-refusal c = search needs
 
 same-length : tie.Need-same-length
 same-length c = search needs
@@ -32,7 +32,7 @@ returns-2 : tie.Need-returns-2
 returns-2 c =
     let k = c .before .before in
     let w = k .before .before .before .before in
-    told-file-declined _ (rw (w .before .before .scales-of .ensures, k .f .given .1) at (w .write-file .ensures))
+    told-file-declined _ (rw (w .before .before .scales-of .ensures, k .refusal .given .1) at (w .write-file .ensures))
 
 pub lastarunc-write-file-spec : {M : Type 1} → statement M
 lastarunc-write-file-spec =
@@ -41,7 +41,7 @@ lastarunc-write-file-spec =
     scales-of-requires
     write-file-requires
     enum-known-n
-    enum-known-f
+    enum-known-refusal
     same-length
     returns
     same-length-2
