@@ -21,17 +21,18 @@ use Rattle.table_text.specs.Answers.{told, Tells}
 use Rattle.table_text.specs.Pieces.{Put}
 use Rattle.file_spec.specs.declared.Numbers.{Numbers}
 use Rattle.file_write_spec.specs.declared.FileWritten.{FileWritten}
-use Rattle.file_write_spec.specs.Records.{Entry, entryText, entriesText, line}
+use Rattle.file_write_spec.specs.Records.{Entry, entryText, entriesText}
+use Rattle.file_write_spec.specs.File.{end-line}
+use Rattle.file_lines.specs.Lines.{headingOf}
 use Rattle.file_write.specs.Answers.{told-file, FileTells}
+use Rattle.file_write.specs.Stages.{laidOut, bodyOf, Framed}
 use Rattle.file_write.proofs.Laying.{parts-laid}
-use Rattle.file_write.specs.Lines.{headingOf, laidOut}
-use Rattle.file_write.specs.Stages.{bodyOf, Taken}
 
 -- the part of the bytes that the table is lent
 mid-length : (t : List ℕ) (h : ℕ) → h + 8 ≤ length t → length (midOf h (length t - 8 - h) t) ≡ length t - 8 - h
 mid-length t h l = length-take-le (length t - 8 - h) (drop h t) (omega (arith, length-drop h t))
 
-module _ (f l : ℤ) (n : ℕ) (es : List ℤ) (T : Taken f l n es) where
+module _ (f l : ℤ) (n : ℕ) (es : List ℤ) (T : Framed f l n es) where
   abbrev B : List ℕ
   B = bodyOf f l n es
 
@@ -43,23 +44,23 @@ module _ (f l : ℤ) (n : ℕ) (es : List ℤ) (T : Taken f l n es) where
   body-bound = wrote-body Difdup f l n es (length B) B (table-is (length B) ∙ rw (le-ltb (length B) (length B) (omega arith)) refl)
 
   -- what the table's writer says of the part o
-  pub table-refused : {o o' : List ℕ} {x : TableWritten} {r : Fault} → Tells (writeTable Difdup f l n es (length o)) o o' x → x ≡ Refused r → (length o < length B) × (o' ≡ o)
+  pub table-refused : (o o' : List ℕ) {x : TableWritten} {r : Fault} → x ≡ Refused r → Tells (writeTable Difdup f l n es (length o)) o o' x → (length o < length B) × (o' ≡ o)
   unfolding laid
-  table-refused {o} {o'} {x} {r} t e =
-      by-case
-      (λ q. ltb (length o) (length B) ≡ q → Refused r ≡ told (pick q (declined 15) (wrote B)) → o' ≡ laid o (pick q (declined 15) (wrote B)) → (length o < length B) × (o' ≡ o))
-      (ltb (length o) (length B)) (λ _ q a b. (ltb-true (length o) (length B) q, b)) (λ _ q a b. zero-one cc) refl
-      (rw (table-is (length o)) at (sym e ∙ t .answer)) (rw (table-is (length o)) at (t .bytes))
+  table-refused o o' {x} {r} e t =
+      by-case (λ q. ltb (length o) (length B) ≡ q → Refused r ≡ told (pick q (declined 15) (wrote B)) → o' ≡ laid o (pick q (declined 15) (wrote B)) → (length o < length B) × (o' ≡ o))
+      (ltb (length o) (length B))
+      (λ _ q a b. (ltb-true (length o) (length B) q, b)) (λ _ q a b. zero-one cc) refl
+      (sym e ∙ t .answer ∙ ap told (table-is (length o))) (t .bytes ∙ ap (laid o) (table-is (length o)))
 
-  pub table-wrote : {o o' : List ℕ} {x : TableWritten} {m : ℕ} → Tells (writeTable Difdup f l n es (length o)) o o' x → x ≡ Length m
+  pub table-wrote : (o o' : List ℕ) {x : TableWritten} {m : ℕ} → x ≡ Length m → Tells (writeTable Difdup f l n es (length o)) o o' x
       → (length B ≤ length o) × (m ≡ length B) × (o' ≡ sets o 0 B)
   unfolding laid
-  table-wrote {o} {o'} {x} {m} t e =
-      by-case
-      (λ q. ltb (length o) (length B) ≡ q → Length m ≡ told (pick q (declined 15) (wrote B)) → o' ≡ laid o (pick q (declined 15) (wrote B))
+  table-wrote o o' {x} {m} e t =
+      by-case (λ q. ltb (length o) (length B) ≡ q → Length m ≡ told (pick q (declined 15) (wrote B)) → o' ≡ laid o (pick q (declined 15) (wrote B))
       → (length B ≤ length o) × (m ≡ length B) × (o' ≡ sets o 0 B))
-      (ltb (length o) (length B)) (λ _ q a b. zero-one cc) (λ _ q a b. (ltb-false (length o) (length B) q, cc, b)) refl
-      (rw (table-is (length o)) at (sym e ∙ t .answer)) (rw (table-is (length o)) at (t .bytes))
+      (ltb (length o) (length B))
+      (λ _ q a b. zero-one cc) (λ _ q a b. (ltb-false (length o) (length B) q, cc, b)) refl
+      (sym e ∙ t .answer ∙ ap told (table-is (length o))) (t .bytes ∙ ap (laid o) (table-is (length o)))
 
 -- ---- the file
 
@@ -72,7 +73,7 @@ module _ (title : List ℕ) (m : Numbers) (body t : List ℕ) where
   H = entriesText (headingOf title m)
 
   abbrev G : List ℕ
-  G = entriesText (line END [] ∷ [])
+  G = entriesText (end-line ∷ [])
 
   ending-length : length G ≡ 8
   unfolding entriesText entryText END
@@ -95,22 +96,22 @@ module _ (title : List ℕ) (m : Numbers) (body t : List ℕ) where
       let w : length t < length (laidOut title m body) = omega (arith, whole-length, mid-length t h l) in
       subst (λ (u : List ℕ). FileTells (fitted (length t) (laidOut title m body)) t u r) (sym (ap (putMid h k t) q ∙ put-same h k t)) (tells-15 w x)
 
-  laid-whole : (k h j : ℕ) (o u v : List ℕ) → h ≡ length H → length H + k ≤ length t → length body ≤ k → j ≡ length body
-      → o ≡ sets (midOf h k t) 0 body → u ≡ sets (putMid h k t o) 0 H → v ≡ sets u (h + j) G
+  laid-whole : (k h j : ℕ) (o u v : List ℕ) → h ≡ length H → length H + k ≤ length t → length body ≤ k → j ≡ length body → o ≡ sets (midOf h k t) 0 body
+      → u ≡ sets (putMid h k t o) 0 H → v ≡ sets u (h + j) G
       → v ≡ sets t 0 (laidOut title m body)
   laid-whole k h j o u v e a b q s x y =
       y
       ∙ rw (x, s, q, e, drop-drop k (length H) t, ← append-assoc (take (length H) t) (sets (take k (drop (length H) t)) 0 body) (drop (length H + k) t)) (parts-laid H body G t k a b)
 
   pub fitting : {o u v : List ℕ} {h' r : ℕ} (h j : ℕ) → h ≡ length H → h + 8 ≤ length t → length body ≤ length (midOf h (length t - 8 - h) t) → j ≡ length body
-      → o ≡ sets (midOf h (length t - 8 - h) t) 0 body → Put (putMid h (length t - 8 - h) t o) 0 u h' H → Put u (h + j) v r (entryText (line END []))
+      → o ≡ sets (midOf h (length t - 8 - h) t) 0 body → Put (putMid h (length t - 8 - h) t o) 0 u h' H → Put u (h + j) v r (entryText end-line)
       → FileTells (fitted (length t) (laidOut title m body)) t v (FileWritten.Length (record { length = r }))
   unfolding laid
   fitting {o} {u} {v} {h'} {r} h j e l b q s x y =
       let k = length t - 8 - h in
       let z : length (laidOut title m body) ≤ length t = omega (arith, whole-length, mid-length t h l) in
       let c = le-ltb (length t) (length (laidOut title m body)) z in
-      let g : entryText (line END []) ≡ G = sym (last-entry (line END [])) in
+      let g : entryText end-line ≡ G = sym (last-entry end-line) in
       let n : r ≡ length (laidOut title m body) = omega (arith, y .next, whole-length, ending-length, ap length g) in
       let p : v ≡ sets t 0 (laidOut title m body) = laid-whole k h j o u v e (omega arith) (omega (arith, mid-length t h l)) q s (x .stored) (y .stored ∙ ap (λ (w : List ℕ). sets u (h + j) w) g) in
       record { answer = rw (c, n) refl; bytes = rw c p }

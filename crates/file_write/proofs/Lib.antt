@@ -1,6 +1,3 @@
-pub mod LineSteps
-pub mod TitleSteps
-pub mod GivenSteps
 pub mod Laying
 pub mod LaySteps
 pub mod Joined

@@ -1,5 +1,2 @@
-pub mod Lines
-pub mod Given
-pub mod Stages
 pub mod Answers
-pub mod Unique
+pub mod Stages

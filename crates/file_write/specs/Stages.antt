@@ -1,8 +1,8 @@
--- What is left of writing a file (02, T-04) once its title and its decimals are taken, said of the file's numbers. Assumes nothing.
+-- The stages of writing a file, said of its numbers (02, T-04). Assumes nothing.
 use mathlib.Core.Path.{_≡_}
 use mathlib.Core.Bool.{true}
-use mathlib.Core.List.{List}
-use Prim.Native.Nat.{ℕ, _≤_}
+use mathlib.Core.List.{List, [], _∷_, _++_}
+use Prim.Native.Nat.{ℕ, _<_, _≤_}
 use lib.Dec.{ltb}
 use lib.IntN.{ℤ}
 use lib.ListN.{length, getD}
@@ -10,32 +10,53 @@ use Rattle.terms.specs.Logic.{pick}
 use Rattle.table_spec.specs.Frame.{frame-legal, abscissa}
 use Rattle.table_spec.specs.Writing.{Outcome, declined, fitted, written}
 use Rattle.table_spec.specs.declared.Style.the-variants.{Difdup}
+use Rattle.decimal_spec.specs.declared.Rounded.{Rounded}
 use Rattle.file_spec.specs.declared.Numbers.{Numbers}
 use Rattle.file_spec.specs.Figures.{ratio, abscissa-of, agrees}
-use Rattle.file_write_spec.specs.File.{limited, within-limit, ordinates}
-use Rattle.file_write.specs.Lines.{laidOut}
+use Rattle.file_write_spec.specs.Records.{entriesText}
+use Rattle.file_write_spec.specs.File.{end-line, within-limit, ordinates, limited}
+use Rattle.file_lines.specs.Lines.{Writable, headingOf}
 
--- the body of F, L, N and the lent ordinates
+-- heading, body and END's record
+abbrev pub laidOut : List ℕ → Numbers → List ℕ → List ℕ
+laidOut title n body = entriesText (headingOf title n) ++ (body ++ entriesText (end-line ∷ []))
+
+-- the body, in F and L
 abbrev pub bodyOf : ℤ → ℤ → ℕ → List ℤ → List ℕ
 bodyOf f l n es = written Difdup (abscissa f) (abscissa l) n (ordinates n es)
 
 -- a table that can be written
-pub record Taken (f l : ℤ) (n : ℕ) (es : List ℤ) : Type 0 where
+pub record Framed (f l : ℤ) (n : ℕ) (es : List ℤ) : Type 0 where
   pub legal : frame-legal f l n ≡ true
   pub enough : n ≤ length es
 
+-- decimals that are taken, whatever N is
+pub record Scaled (n : Numbers) : Type 0 where
+  pub xfactor : Writable (n .xfactor)
+  pub yfactor : Writable (n .yfactor)
+  pub firstx : Writable (n .firstx)
+  pub lastx : Writable (n .lastx)
+  pub firsty : Writable (n .firsty)
+  pub some-x : 0 < n .xfactor .mantissa
+  pub some-y : 0 < n .yfactor .mantissa
+
 -- 1, 2, 29, 15, in F and L
-unfoldable pub inFrame : List ℕ → Numbers → List ℤ → ℤ → ℤ → ℕ → Outcome
-inFrame title n es f l space =
+unfoldable pub inFrame : List ℕ → Numbers → List ℤ → ℕ → ℤ → ℤ → Outcome
+inFrame title n es space f l =
     pick (frame-legal f l (n .npoints))
     (pick (ltb (length es) (n .npoints)) (declined 2)
     (pick (agrees (getD (ordinates (n .npoints) es) 0 0) (ratio 0 (n .firsty) (n .yfactor) .rounded))
-    (fitted space (laidOut title n (bodyOf f l (n .npoints) es)))
-    (declined 29)))
+    (fitted space (laidOut title n (bodyOf f l (n .npoints) es))) (declined 29)))
     (declined 1)
+
+-- F and L, as they are rounded
+abbrev pub first-from : Numbers → Rounded
+first-from n = abscissa-of (n .firstx) (n .xfactor) .rounded
+
+abbrev pub last-from : Numbers → Rounded
+last-from n = abscissa-of (n .lastx) (n .xfactor) .rounded
 
 -- 28, then the rest
 unfoldable pub fromNumbers : List ℕ → Numbers → List ℤ → ℕ → Outcome
 fromNumbers title n es space =
-    limited (abscissa-of (n .firstx) (n .xfactor) .rounded) (limited (abscissa-of (n .lastx) (n .xfactor) .rounded)
-    (inFrame title n es (within-limit (abscissa-of (n .firstx) (n .xfactor) .rounded)) (within-limit (abscissa-of (n .lastx) (n .xfactor) .rounded)) space))
+    limited (first-from n) (limited (last-from n) (inFrame title n es space (within-limit (first-from n)) (within-limit (last-from n))))

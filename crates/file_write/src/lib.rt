@@ -1,34 +1,29 @@
-// Writing a whole file (02, T-04): its title, numbers and table into the lent bytes. A refusal leaves every byte as it was.
+// Writing a file (02, T-04): title, N, five decimals and ordinates into the lent bytes; or a refusal, which leaves them as they were.
 ghost use mathlib.Core.Path.{_≡_};
-ghost use Prim.Native.Nat.{_≤_, _<_};
+ghost use Prim.Native.Nat.{_≤_};
 ghost use lib.ListN.{length};
 ghost use Rattle.table_spec.specs.Writing.{declined, fitted};
-ghost use Rattle.file_write.specs.Lines.{AllWritable, laidOut};
-ghost use Rattle.file_write.specs.Stages.{Taken, bodyOf, inFrame, fromNumbers};
-ghost use Rattle.file_write.specs.Answers.{told-file, FileTells, FileAnswered};
-use crate::given::figures_of;
-use crate::given::title_fair;
-use crate::lines::put_heading;
-use crate::lines::put_line;
+ghost use Rattle.file_write_spec.specs.File.{writeFile};
+ghost use Rattle.file_lines.specs.Lines.{AllWritable};
+ghost use Rattle.file_write.specs.Answers.{told-file, FileTells};
+ghost use Rattle.file_write.specs.Stages.{laidOut, bodyOf, Framed, Scaled, inFrame, fromNumbers};
 use decimal_spec::Rounded;
 use figure::agree;
 use figure::ratio_of;
 use figure::whole_of;
+use file_given::figures_of;
+use file_given::title_fair;
+use file_lines::put_heading;
+use file_lines::put_line;
 use file_spec::Figures;
 use file_spec::Numbers;
 use file_write_spec::FileLength;
 use file_write_spec::FileWritten;
 use file_write_spec::Scales;
 use frame::Frame;
-use frame::Framed;
+use table_write::write_table;
 use terms::Fault;
 use terms::TableWritten;
-
-mod given;
-mod lines;
-
-// How many bytes END's record has: `##END=` and its line end.
-const END_LINE: usize = 8;
 
 // A refusal of the writer: its place is 0.
 fn refused(number: u64) -> FileWritten
@@ -46,18 +41,18 @@ fn lay(
     ordinates: &[i32],
     text: &mut [u8],
 ) -> FileWritten
-    requires { ⌜ (length (now title) ≤ 72) × AllWritable n × (n .npoints < 1000000000) × Taken first last (n .npoints) (now ordinates) ⌝ }
+    requires { ⌜ (length (now title) ≤ 72) × AllWritable n × Framed first last (n .npoints) (now ordinates) ⌝ }
     ensures { λ r. ⌜ FileTells (fitted (length (now (text .entry))) (laidOut (now (title .entry)) n (bodyOf first last (n .npoints) (now (ordinates .entry))))) (now (text .entry)) (now (text .exit)) r ⌝ }
 {
     let mut none = [0u8; 1];
     let head = put_heading(&mut none[..0], title, n);
     let len = text.len();
-    if len < head + END_LINE {
+    if len < head + 8 {
         return refused(15);
     }
-    let stop = len - END_LINE;
+    let stop = len - 8;
     let points = n.npoints as usize;
-    match table_write::write_table(first, last, points, ordinates, &mut text[head..stop]) {
+    match write_table(first, last, points, ordinates, &mut text[head..stop]) {
         TableWritten::Refused(_) => refused(15),
         TableWritten::Length(k) => {
             put_heading(text, title, n);
@@ -77,14 +72,13 @@ fn write_in(
     ordinates: &[i32],
     text: &mut [u8],
 ) -> FileWritten
-    requires { ⌜ (length (now title) ≤ 72) × AllWritable n ⌝ }
-    ensures { λ r. ⌜ FileTells (inFrame (now (title .entry)) n (now (ordinates .entry)) first last (length (now (text .entry)))) (now (text .entry)) (now (text .exit)) r ⌝ }
+    requires { ⌜ (length (now title) ≤ 72) × Scaled n ⌝ }
+    ensures { λ r. ⌜ FileTells (inFrame (now (title .entry)) n (now (ordinates .entry)) (length (now (text .entry))) first last) (now (text .entry)) (now (text .exit)) r ⌝ }
 {
     let points = n.npoints as usize;
-    let framed = Frame::new(first, last, points);
-    match framed {
-        Framed::Outside => refused(1),
-        Framed::Legal(_) => {
+    match Frame::new(first, last, points) {
+        frame::Framed::Outside => refused(1),
+        frame::Framed::Legal(_) => {
             if ordinates.len() < points {
                 return refused(2);
             }
@@ -102,7 +96,7 @@ fn write_in(
 
 // F and L within their limits (28), then the rest.
 fn write_numbers(title: &[u8], n: Numbers, ordinates: &[i32], text: &mut [u8]) -> FileWritten
-    requires { ⌜ (length (now title) ≤ 72) × AllWritable n ⌝ }
+    requires { ⌜ (length (now title) ≤ 72) × Scaled n ⌝ }
     ensures { λ r. ⌜ FileTells (fromNumbers (now (title .entry)) n (now (ordinates .entry)) (length (now (text .entry)))) (now (text .entry)) (now (text .exit)) r ⌝ }
 {
     let firstx = n.firstx;
@@ -127,7 +121,7 @@ fn write_numbers(title: &[u8], n: Numbers, ordinates: &[i32], text: &mut [u8]) -
     }
 }
 
-// Writes a file: any title, N, decimals and ordinates, any slice. Its length, and the first bytes are the file; or a refusal, 37, 26 and those above in their order, and every byte is what it was.
+// Writes a file: any title, N, decimals and slices. Written: its length, and the file stands from the first of the lent bytes on. Refused, at place 0: every lent byte is what it was.
 pub fn write_file(
     title: &[u8],
     points: usize,
@@ -135,7 +129,7 @@ pub fn write_file(
     ordinates: &[i32],
     text: &mut [u8],
 ) -> FileWritten
-    ensures { λ r. ⌜ FileAnswered (now (title .entry)) points scales (now (ordinates .entry)) (now (text .entry)) (now (text .exit)) r ⌝ }
+    ensures { λ r. ⌜ FileTells (writeFile (now (title .entry)) points scales (now (ordinates .entry)) (length (now (text .entry)))) (now (text .entry)) (now (text .exit)) r ⌝ }
 {
     if !title_fair(title) {
         return refused(37);

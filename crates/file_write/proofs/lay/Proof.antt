@@ -1,39 +1,31 @@
--- `file_write::lay` meets its contract: 15 with every byte as it was, or the body, then the heading and END's record.
+-- `file_write::lay` meets its contract: where the body fits behind the heading, the three parts are the file; where it does not, nothing is altered.
 use mathlib.Core.List.{List}
-use Prim.Native.Nat.{ℕ, _+_, _≤_}
+use Prim.Native.Nat.{ℕ}
 use native.Mathlib.Omega.{arith}
 use mir.Facts.{toZ-ofZ}
-use borrow.Author.Needs.{needs}
 use Rattle.label_spec.specs.Names.{END}
 use Rattle.file_write.specs.Stages.{bodyOf}
 use Rattle.file_write.proofs.LaySteps.{body-bound, table-refused, table-wrote, too-short, not-fitting, fitting}
+use borrow.Author.Needs.{needs}
 use Rattle.file_write.proofs.lay.Statement.{statement}
 use Rattle.file_write.proofs.lay.Tie as tie
 
--- where the heading is measured, and the body
+-- where the heading is measured, and where the table is written
 abbrev start : tie.After-put-heading → tie.Start
 start c = c .before .before .before .before
 
 abbrev body : tie.After-put-heading → List ℕ
-body c = let a = start c .args in bodyOf (a .first) (a .last) (a .n .npoints) (a .ordinates .now)
+body c = bodyOf (start c .args .first) (start c .args .last) (start c .args .n .npoints) (start c .args .ordinates .now)
 
--- where there is room for heading and END's record, and where the body is written behind the heading's room
-abbrev measured : tie.Else1 → tie.After-put-heading
-measured c = c .before .before
+abbrev measured : tie.After-write-table → tie.After-put-heading
+measured c = c .before .before .before .before
 
-abbrev roomy : tie.After-write-table → tie.Else1
-roomy c = c .before .before
+abbrev room : tie.After-write-table → tie.Else1
+room c = c .before .before
 
--- where the body's length is known
-abbrev written : tie.After-k → tie.After-write-table
-written c = c .before .before .before .before
-
-far : (c : tie.After-k) → measured (roomy (written c)) .put-heading .result + c .k .given .0 .0 ≤ 1049536
-far c =
-    let w = written c in let m = measured (roomy w) in let s = start m in let a = s .args in
-    let x = table-wrote (a .first) (a .last) (a .n .npoints) (a .ordinates .now) (s .pre .3)
-    (rw (toZ-ofZ (s .fits .first), toZ-ofZ (s .fits .last)) at (w .write-table .ensures)) (c .k .given .1) in
-    omega (arith, m .put-heading .ensures .1, x .1, body-bound (a .first) (a .last) (a .n .npoints) (a .ordinates .now) (s .pre .3))
+-- where the table's length is known
+abbrev table : tie.After-k → tie.After-write-table
+table c = c .before .before .before .before
 
 array-borrow-prefix-none : tie.Need-array-borrow-prefix-none
 array-borrow-prefix-none c = search needs
@@ -52,8 +44,8 @@ refused-requires c κs = search needs
 
 returns : tie.Need-returns
 returns c =
-    let t = c .before in let m = t .before .before in let a = start m .args in let n = m .put-heading .ensures .0 .next in
-    too-short (a .title .now) (a .n) (body m) (a .text .now) _ (omega arith) (t .if1 .taken) (c .refused .ensures)
+    let h = c .before .before .before in let a = start h .args in let n = h .put-heading .ensures .0 .next in
+    too-short (a .title .now) (a .n) (body h) (a .text .now) _ (omega arith) (c .before .if1 .taken) (c .refused .ensures)
 
 sub-stop : tie.Need-sub-stop
 sub-stop c = search needs
@@ -71,19 +63,25 @@ write-table-requires : tie.Need-write-table-requires
 write-table-requires c κs = search needs
 
 enum-told : tie.Need-enum-told
-enum-told c = c .match .keys1
+enum-told c = search needs
 
 refused-requires-2 : tie.Need-refused-requires-2
 refused-requires-2 c κs = search needs
 
 enum-known-k : tie.Need-enum-known-k
-enum-known-k c = c .match .keys2
+enum-known-k c = search needs
 
 put-heading-requires-2 : tie.Need-put-heading-requires-2
 put-heading-requires-2 c κs = search needs
 
 add-at : tie.Need-add-at
-add-at c = omega (arith, far (c .before .before .before .before .before))
+add-at c =
+    let told = c .before .before .before .before .before in
+    let t = table told in let h = measured t in let z = start h in let a = z .args in
+    let w = table-wrote (a .first) (a .last) (a .n .npoints) (a .ordinates .now) (z .pre .2) _ _ (told .k .given .1)
+    (rw (toZ-ofZ (z .fits .first), toZ-ofZ (z .fits .last)) at (t .write-table .ensures)) in
+    let most = body-bound (a .first) (a .last) (a .n .npoints) (a .ordinates .now) (z .pre .2) in
+    omega (arith, h .put-heading .ensures .1, w .1)
 
 slice-aggregate-put-line : tie.Need-slice-aggregate-put-line
 slice-aggregate-put-line c = search needs
@@ -92,18 +90,23 @@ slice-aggregate-put-line-2 : tie.Need-slice-aggregate-put-line-2
 slice-aggregate-put-line-2 c = search needs
 
 put-line-requires : tie.Need-put-line-requires
-put-line-requires c κs = (omega arith, omega arith, omega (arith, far (c .before .before .before .before .before .before .before .before)))
+put-line-requires c κs =
+    let told = c .before .before .before .before .before .before .before .before in
+    let t = table told in let h = measured t in let z = start h in let a = z .args in
+    let w = table-wrote (a .first) (a .last) (a .n .npoints) (a .ordinates .now) (z .pre .2) _ _ (told .k .given .1)
+    (rw (toZ-ofZ (z .fits .first), toZ-ofZ (z .fits .last)) at (t .write-table .ensures)) in
+    let most = body-bound (a .first) (a .last) (a .n .npoints) (a .ordinates .now) (z .pre .2) in
+    (omega arith, omega arith, omega (arith, h .put-heading .ensures .1, w .1))
 
 same-length : tie.Need-same-length
 same-length c = search needs
 
 returns-2 : tie.Need-returns-2
 returns-2 c =
-    let told = c .before in let w = told .before .before .before .before in let r = roomy w in let m = measured r in let s = start m in let a = s .args in
-    let n = m .put-heading .ensures .0 .next in
-    let x = table-refused (a .first) (a .last) (a .n .npoints) (a .ordinates .now) (s .pre .3)
-    (rw (toZ-ofZ (s .fits .first), toZ-ofZ (s .fits .last)) at (w .write-table .ensures)) (told .enum-told .given .1) in
-    not-fitting (a .title .now) (a .n) (body m) (a .text .now) _ (omega arith) (r .if1 .left) (x .0) (x .1) (c .refused2 .ensures)
+    let t = c .before .before .before .before .before in let h = measured t in let z = start h in let a = z .args in let n = h .put-heading .ensures .0 .next in
+    let w = table-refused (a .first) (a .last) (a .n .npoints) (a .ordinates .now) (z .pre .2) _ _ (c .before .enum-told .given .1)
+    (rw (toZ-ofZ (z .fits .first), toZ-ofZ (z .fits .last)) at (t .write-table .ensures)) in
+    not-fitting (a .title .now) (a .n) (body h) (a .text .now) _ (omega arith) (room t .if1 .left) (w .0) (w .1) (c .refused2 .ensures)
 
 same-length-2 : tie.Need-same-length-2
 same-length-2 c = search needs
@@ -111,12 +114,13 @@ same-length-2 c = search needs
 returns-3 : tie.Need-returns-3
 unfolding END
 returns-3 c =
-    let end = c .before .before in let headed = end .before .before .before .before .before .before in let known = headed .before .before .before in
-    let w = written known in let r = roomy w in let m = measured r in let s = start m in let a = s .args in
-    let n = m .put-heading .ensures .0 .next in
-    let x = table-wrote (a .first) (a .last) (a .n .npoints) (a .ordinates .now) (s .pre .3)
-    (rw (toZ-ofZ (s .fits .first), toZ-ofZ (s .fits .last)) at (w .write-table .ensures)) (known .k .given .1) in
-    fitting (a .title .now) (a .n) (body m) (a .text .now) _ _ (omega arith) (r .if1 .left) (x .0) (x .1) (x .2) (headed .put-heading2 .ensures .0) (end .put-line .ensures .0)
+    let ended = c .before .before in let headed = ended .before .before .before .before .before .before in let told = headed .before .before .before in
+    let t = table told in let h = measured t in let z = start h in let a = z .args in
+    let w = table-wrote (a .first) (a .last) (a .n .npoints) (a .ordinates .now) (z .pre .2) _ _ (told .k .given .1)
+    (rw (toZ-ofZ (z .fits .first), toZ-ofZ (z .fits .last)) at (t .write-table .ensures)) in
+    let n = h .put-heading .ensures .0 .next in
+    fitting (a .title .now) (a .n) (body h) (a .text .now) _ _ (omega arith) (room t .if1 .left) (w .0) (w .1) (w .2)
+    (headed .put-heading2 .ensures .0) (ended .put-line .ensures .0)
 
 pub lay-spec : {M : Type 1} → statement M
 lay-spec =

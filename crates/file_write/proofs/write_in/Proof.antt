@@ -1,72 +1,76 @@
--- `file_write::write_in` meets its contract: 1, 2, 29, then the file.
-use mathlib.Core.List.{List}
+-- `file_write::write_in` meets its contract: 1, 2 and 29, and only then the file is laid.
 use mathlib.Core.Path.{_≡_, sym, _∙_}
+use mathlib.Core.Bool.{true}
+use Prim.Native.Nat.{_≤_}
 use native.Mathlib.Omega.{arith}
-use lib.IntN.{ℤ, pos}
-use lib.ListN.{getD}
+use lib.IntN.{pos}
+use lib.ListN.{length, getD}
 use mir.Syntax.{w32}
 use mir.Facts.{toZ-ofZ}
-use borrow.Author.Needs.{sfits-of, needs}
+use borrow.Author.Needs.{sfits-of}
 use borrow.Author.Tests.{not-true, not-false}
-use Rattle.frame.specs.Legal.{framed}
-use Rattle.file_write.proofs.StageSteps.{agreed, agreed-as, some-points, table-taken, outside, too-few, unequal, equal}
+use Rattle.table_spec.specs.Frame.{frame-legal, ordinate-of}
+use Rattle.frame.specs.FrameLaws.{framed-legal, framed-outside}
+use Rattle.file_spec.specs.Figures.{ratio, agrees}
+use Rattle.file_write.specs.Stages.{Framed}
+use Rattle.file_write.proofs.StageSteps.{tells-refused, tells-same, all-writable, framing-points, outside, too-few, unequal, equal}
+use borrow.Author.Needs.{needs}
 use Rattle.file_write.proofs.write_in.Statement.{statement}
 use Rattle.file_write.proofs.write_in.Tie as tie
 
--- where the frame is found, and the ordinates
+-- where the frame is made, and the start from there
 abbrev start : tie.After-new → tie.Start
 start c = c .before .before .before
 
-abbrev entries : tie.After-new → List ℤ
-entries c = start c .args .ordinates .now
+-- it is legal, and has some points
+legal-at : (c : tie.After-enum-told2) → frame-legal (start (c .before .before) .args .first) (start (c .before .before) .args .last) (start (c .before .before) .args .n .npoints) ≡ true
+legal-at c =
+    let t = c .before .before in let z = t .before .before .before in
+    framed-legal _ _ _ (sym (rw (toZ-ofZ (z .fits .first), toZ-ofZ (z .fits .last)) at (t .new .ensures)) ∙ c .enum-told2 .given .1) .legal
 
-frame-is : (c : tie.After-new) → c .new .result ≡ framed (start c .args .first) (start c .args .last) (start c .args .n .npoints)
-frame-is c = rw (toZ-ofZ (start c .fits .first), toZ-ofZ (start c .fits .last)) at (c .new .ensures)
+points-at : (c : tie.After-enum-told2) → (1 ≤ start (c .before .before) .args .n .npoints) × (start (c .before .before) .args .n .npoints ≤ 65536)
+points-at c =
+    let t = c .before .before in let z = t .before .before .before in
+    framing-points (framed-legal _ _ _ (sym (rw (toZ-ofZ (z .fits .first), toZ-ofZ (z .fits .last)) at (t .new .ensures)) ∙ c .enum-told2 .given .1))
 
--- where there are enough ordinates, and where the first is compared
-abbrev found : tie.Else1 → tie.After-new
-found c = c .before .before .before
+-- where there are enough ordinates, from where the first is compared
+abbrev enough : tie.After-agree → tie.Else1
+enough c = c .before .before .before .before .before
 
-abbrev enough : tie.After-ratio-of → tie.Else1
-enough c = c .before .before .before
+abbrev begin : tie.After-agree → tie.Start
+begin c = start (enough c .before .before .before)
 
-abbrev quotient : tie.After-agree → tie.After-ratio-of
-quotient c = c .before .before
-
-compared : (c : tie.After-agree) → c .agree .result ≡ agreed (start (found (enough (quotient c))) .args .n) (entries (found (enough (quotient c))))
+compared : (c : tie.After-agree) → c .agree .result
+    ≡ agrees (ordinate-of (getD (begin c .args .ordinates .now) 0 (pos 0))) (ratio 0 (begin c .args .n .firsty) (begin c .args .n .yfactor) .rounded)
 compared c =
-    let es = entries (found (enough (quotient c))) in
-    agreed-as (c .agree .ensures) (toZ-ofZ (sfits-of {w = w32} {z = getD es 0 (pos 0)} (c .before .agree-arg .given))) (quotient c .ratio-of .ensures .0)
+    let first = getD (c .before .before .before .before .before .before .before .before .before .before .before .args .ordinates .now) 0 (pos 0) in
+    rw (toZ-ofZ (sfits-of {w = w32} {z = first} (c .before .agree-arg .given)), c .before .before .ratio-of .ensures .0) at (c .agree .ensures)
 
 new-requires : tie.Need-new-requires
 new-requires c κs = search needs
 
 enum-told : tie.Need-enum-told
-enum-told c = c .match .keys1
+enum-told c = search needs
 
 refused-requires : tie.Need-refused-requires
 refused-requires c κs = search needs
 
 enum-told-2 : tie.Need-enum-told-2
-enum-told-2 c = c .match .keys2
+enum-told-2 c = search needs
 
 refused-requires-2 : tie.Need-refused-requires-2
 refused-requires-2 c κs = search needs
 
 returns : tie.Need-returns
 returns c =
-    let t = c .before in let told = t .before in let w = told .before .before in let a = start w .args in
-    too-few (a .title .now) (a .n) (entries w) (a .first) (a .last) (sym (frame-is w) ∙ told .enum-told2 .given .1) (t .if1 .taken) (c .refused2 .ensures)
+    let test = c .before in let k = test .before in let a = start (k .before .before) .args in
+    tells-refused (too-few (a .title .now) (a .n) (a .ordinates .now) (length (a .text .now)) (a .first) (a .last) (legal-at k) (test .if1 .taken)) (c .refused2 .ensures)
 
 ratio-of-requires : tie.Need-ratio-of-requires
-ratio-of-requires c κs =
-    let p = start (found (c .before .before)) .pre .1 in (omega arith, p .firsty .small, record { small = p .yfactor .small; some = p .yfactor-some })
+ratio-of-requires c κs = search needs
 
 shared-slice-copy-out-agree : tie.Need-shared-slice-copy-out-agree
-shared-slice-copy-out-agree c =
-    let e = enough c in let w = found e in let a = start w .args in
-    let some = some-points (a .first) (a .last) (a .n .npoints) (sym (frame-is w) ∙ e .before .enum-told2 .given .1) .0 in
-    omega (arith, some, e .if1 .left)
+shared-slice-copy-out-agree c = let test = c .before .before .before in let p = points-at (test .before) in omega (arith, p .0, test .if1 .left)
 
 agree-requires : tie.Need-agree-requires
 agree-requires c κs = search needs
@@ -76,33 +80,32 @@ refused-requires-3 c κs = search needs
 
 returns-2 : tie.Need-returns-2
 returns-2 c =
-    let t = c .before in let g = t .before in let e = enough (quotient g) in let w = found e in let a = start w .args in
-    unequal (a .title .now) (a .n) (entries w) (a .first) (a .last) (sym (frame-is w) ∙ e .before .enum-told2 .given .1) (e .if1 .left)
-    (sym (compared g) ∙ not-true (g .agree .result) (t .if2 .taken)) (c .refused3 .ensures)
+    let test = c .before in let g = test .before in let e = enough g in let k = e .before in let a = start (k .before .before) .args in
+    let no = sym (compared g) ∙ not-true (g .agree .result) (test .if2 .taken) in
+    tells-refused (unequal (a .title .now) (a .n) (a .ordinates .now) (length (a .text .now)) (a .first) (a .last) (legal-at k) (e .if1 .left) (points-at k .0) no)
+    (c .refused3 .ensures)
 
 lay-requires : tie.Need-lay-requires
 lay-requires c κs =
-    let e = enough (quotient (c .before .before)) in let w = found e in let s = start w in let a = s .args in
-    let legal = sym (frame-is w) ∙ e .before .enum-told2 .given .1 in
-    let few = some-points (a .first) (a .last) (a .n .npoints) legal .1 in
-    rw (toZ-ofZ (s .fits .first), toZ-ofZ (s .fits .last))
-    (s .pre .0, s .pre .1, omega (arith, few), table-taken (a .first) (a .last) (a .n .npoints) (entries w) legal (e .if1 .left))
+    let g = c .before .before in let e = enough g in let k = e .before in let z = start (k .before .before) in let a = z .args in
+    let framed : Framed (a .first) (a .last) (a .n .npoints) (a .ordinates .now) = record { legal = legal-at k; enough = e .if1 .left } in
+    (z .pre .0, all-writable (z .pre .1) (points-at k .1), rw (toZ-ofZ (z .fits .first), toZ-ofZ (z .fits .last)) framed)
 
 returns-3 : tie.Need-returns-3
 returns-3 c =
-    let told = c .before in let w = told .before .before in let a = start w .args in
-    outside (a .title .now) (a .n) (entries w) (a .first) (a .last) (sym (frame-is w) ∙ told .enum-told .given .1) (c .refused .ensures)
+    let told = c .before in let t = told .before .before in let z = start t in let a = z .args in
+    let out = framed-outside _ _ _ (sym (rw (toZ-ofZ (z .fits .first), toZ-ofZ (z .fits .last)) at (t .new .ensures)) ∙ told .enum-told .given .1) in
+    tells-refused (outside (a .title .now) (a .n) (a .ordinates .now) (length (a .text .now)) (a .first) (a .last) out) (c .refused .ensures)
 
 same-length : tie.Need-same-length
 same-length c = search needs
 
 returns-4 : tie.Need-returns-4
 returns-4 c =
-    let laid = c .before .before in let no = laid .before .before in let g = no .before in
-    let e = enough (quotient g) in let w = found e in let s = start w in let a = s .args in
-    equal (a .title .now) (a .n) (entries w) (a .first) (a .last) (sym (frame-is w) ∙ e .before .enum-told2 .given .1) (e .if1 .left)
-    (sym (compared g) ∙ not-false (g .agree .result) (no .if2 .left))
-    (rw (toZ-ofZ (s .fits .first), toZ-ofZ (s .fits .last)) at (laid .lay .ensures))
+    let laid = c .before .before in let test = laid .before .before in let g = test .before in let e = enough g in let k = e .before in let z = start (k .before .before) in let a = z .args in
+    let yes = sym (compared g) ∙ not-false (g .agree .result) (test .if2 .left) in
+    tells-same (equal (a .title .now) (a .n) (a .ordinates .now) (length (a .text .now)) (a .first) (a .last) (legal-at k) (e .if1 .left) (points-at k .0) yes)
+    (rw (toZ-ofZ (z .fits .first), toZ-ofZ (z .fits .last)) at (laid .lay .ensures))
 
 pub write-in-spec : {M : Type 1} → statement M
 write-in-spec =

@@ -1,16 +1,17 @@
--- `file_write::write_numbers` meets its contract: 28 for F, then for L, then the rest.
+-- `file_write::write_numbers` meets its contract: 28 for F, then for L, then what the frame says.
 use mathlib.Core.Path.{_≡_, sym, ap, _∙_}
-use native.Mathlib.Omega.{arith}
+use lib.ListN.{length}
 use mir.Syntax.{w64}
 use mir.Facts.{toZ-ofZ}
-use borrow.Author.Needs.{sfits-of, needs}
+use borrow.Author.Needs.{sfits-of}
 use Rattle.decimal_spec.specs.declared.Rounded.{Rounded}
 use Rattle.decimal_spec.specs.declared.Quotient.{Quotient}
-use Rattle.file_write.proofs.StageSteps.{first-beyond, last-beyond, both-whole}
+use Rattle.file_write.proofs.StageSteps.{tells-refused, tells-same, first-beyond, last-beyond, both-whole}
+use borrow.Author.Needs.{needs}
 use Rattle.file_write.proofs.write_numbers.Statement.{statement}
 use Rattle.file_write.proofs.write_numbers.Tie as tie
 
--- where FIRSTX is divided by XFACTOR
+-- where FIRSTX is divided by XFACTOR, and the start from there
 abbrev start : tie.After-ratio-of → tie.Start
 start c = c .before .before .before .before .before .before
 
@@ -18,48 +19,35 @@ start c = c .before .before .before .before .before .before
 rounded-is : {q r : Quotient} {x : Rounded} → q ≡ r → q .rounded ≡ x → r .rounded ≡ x
 rounded-is e h = ap (λ (q : Quotient). q .rounded) (sym e) ∙ h
 
--- where F is known, from where LASTX is divided
-abbrev whole : tie.After-ratio-of2 → tie.After-first-rounded
-whole c = c .before .before
-
-abbrev first : tie.After-first-rounded → tie.After-ratio-of
-first c = c .before .before
-
--- where LASTX is divided, from where L is known
-abbrev last : tie.After-last-rounded → tie.After-ratio-of2
-last c = c .before .before
-
 ratio-of-requires : tie.Need-ratio-of-requires
-ratio-of-requires c κs =
-    let p = c .before .before .before .before .before .pre .1 in (omega arith, p .firstx .small, record { small = p .xfactor .small; some = p .xfactor-some })
+ratio-of-requires c κs = search needs
 
 enum-told : tie.Need-enum-told
-enum-told c = c .match .keys1
+enum-told c = search needs
 
 refused-requires : tie.Need-refused-requires
 refused-requires c κs = search needs
 
 enum-known-first-rounded : tie.Need-enum-known-first-rounded
-enum-known-first-rounded c = c .match .keys2
+enum-known-first-rounded c = search needs
 
 ratio-of-requires-2 : tie.Need-ratio-of-requires-2
-ratio-of-requires-2 c κs =
-    let p = start (first (c .before)) .pre .1 in (omega arith, p .lastx .small, record { small = p .xfactor .small; some = p .xfactor-some })
+ratio-of-requires-2 c κs = search needs
 
 enum-told-2 : tie.Need-enum-told-2
-enum-told-2 c = c .match2 .keys1
+enum-told-2 c = search needs
 
 refused-requires-2 : tie.Need-refused-requires-2
 refused-requires-2 c κs = search needs
 
 enum-known-last-rounded : tie.Need-enum-known-last-rounded
-enum-known-last-rounded c = c .match2 .keys2
+enum-known-last-rounded c = search needs
 
 whole-of-requires : tie.Need-whole-of-requires
-whole-of-requires c κs = let m = whole (last (c .before)) in rw (m .first-rounded .given .1) at (first m .ratio-of .ensures .1)
+whole-of-requires c κs = rw (c .before .before .before .before .before .first-rounded .given .1) at (c .before .before .before .before .before .before .before .ratio-of .ensures .1)
 
 whole-of-requires-2 : tie.Need-whole-of-requires-2
-whole-of-requires-2 c κs = let k = c .before .before in rw (k .last-rounded .given .1) at (last k .ratio-of2 .ensures .1)
+whole-of-requires-2 c κs = rw (c .before .before .last-rounded .given .1) at (c .before .before .before .before .ratio-of2 .ensures .1)
 
 write-in-requires : tie.Need-write-in-requires
 write-in-requires c κs = search needs
@@ -67,25 +55,28 @@ write-in-requires c κs = search needs
 returns : tie.Need-returns
 returns c =
     let told = c .before in let f = told .before .before in let a = start f .args in
-    first-beyond (a .title .now) (a .n) (a .ordinates .now) (rounded-is (f .ratio-of .ensures .0) (told .enum-told .given .1)) (c .refused .ensures)
+    tells-refused (first-beyond (a .title .now) (a .n) (a .ordinates .now) (length (a .text .now)) (rounded-is (f .ratio-of .ensures .0) (told .enum-told .given .1))) (c .refused .ensures)
 
 returns-2 : tie.Need-returns-2
 returns-2 c =
-    let told = c .before in let l = told .before .before in let m = whole l in let f = first m in let a = start f .args in
-    last-beyond (a .title .now) (a .n) (a .ordinates .now) (rounded-is (f .ratio-of .ensures .0) (m .first-rounded .given .1))
-    (rounded-is (l .ratio-of2 .ensures .0) (told .enum-told2 .given .1)) (c .refused2 .ensures)
+    let told = c .before in let l = told .before .before in let m = l .before .before in let f = m .before .before in let a = start f .args in
+    let is = rounded-is (f .ratio-of .ensures .0) (m .first-rounded .given .1) in
+    let beyond = rounded-is (l .ratio-of2 .ensures .0) (told .enum-told2 .given .1) in
+    tells-refused (last-beyond (a .title .now) (a .n) (a .ordinates .now) (length (a .text .now)) is beyond) (c .refused2 .ensures)
 
 same-length : tie.Need-same-length
 same-length c = search needs
 
 returns-3 : tie.Need-returns-3
 returns-3 c =
-    let done = c .before .before in let two = done .before .before in let one = two .before in let k = one .before .before in
-    let l = last k in let m = whole l in let f = first m in let a = start f .args in
-    both-whole (a .title .now) (a .n) (a .ordinates .now) (rounded-is (f .ratio-of .ensures .0) (m .first-rounded .given .1))
-    (rounded-is (l .ratio-of2 .ensures .0) (k .last-rounded .given .1))
+    let read = c .before .before in let two = read .before .before in let one = two .before in let k = one .before .before in let l = k .before .before in
+    let m = l .before .before in let f = m .before .before in
+    let a = start f .args in
+    let is-first = rounded-is (f .ratio-of .ensures .0) (m .first-rounded .given .1) in
+    let is-last = rounded-is (l .ratio-of2 .ensures .0) (k .last-rounded .given .1) in
+    tells-same (both-whole (a .title .now) (a .n) (a .ordinates .now) (length (a .text .now)) is-first is-last)
     (rw (toZ-ofZ (sfits-of {w = w64} (one .whole-of .ok)), toZ-ofZ (sfits-of {w = w64} (two .whole-of2 .ok)), one .whole-of .ensures, two .whole-of2 .ensures)
-    at (done .write-in .ensures))
+    at (read .write-in .ensures))
 
 pub write-numbers-spec : {M : Type 1} → statement M
 write-numbers-spec =
