@@ -1,7 +1,7 @@
 //! The stream of cases with their answers: writing it, and counting what is in it. README.md gives the format.
 
 use crate::body::read_body;
-use crate::file::{read_file, record_text, RecordText};
+use crate::file::{read_file, record_text, FileTable, RecordText};
 use crate::file_text::{write_file, Given, Scales, WrittenFile};
 use crate::file_tried;
 use crate::frame::{Frame, Refusal};
@@ -64,6 +64,20 @@ impl WrittenFileCase {
     /// The answer.
     pub fn answer(&self) -> Result<WrittenFile, Refusal> {
         self.answer_in(self.room as usize)
+    }
+
+    /// What reading the written file must give: N, F, L and the ordinates (02, T-04).
+    pub fn table(&self, written: &WrittenFile) -> FileTable {
+        let Frame { first, last, points } = written.frame;
+        FileTable { points, first, last, ordinates: self.ordinates[..points as usize].to_vec() }
+    }
+
+    /// Fails if this reader does not read the written file back as that.
+    fn read_back(&self, written: &WrittenFile) -> io::Result<()> {
+        match read_file(&written.text, self.points as usize) {
+            Ok(table) if table == self.table(written) => Ok(()),
+            _ => Err(io::Error::other("a written file is not read back")),
+        }
     }
 }
 
@@ -190,7 +204,10 @@ pub fn put_written_file_case(out: &mut impl Write, case: &WrittenFileCase) -> io
     put_ordinates(out, &case.ordinates)?;
     put_u32(out, case.room)?;
     let (number, place, frame, text) = match case.answer() {
-        Ok(WrittenFile { frame, text }) => (0, 0, frame, text),
+        Ok(written) => {
+            case.read_back(&written)?;
+            (0, 0, written.frame, written.text)
+        }
         Err(fault) => (fault.number, fault.place, Frame { first: 0, last: 0, points: 0 }, Vec::new()),
     };
     put_u32(out, number)?;

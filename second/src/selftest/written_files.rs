@@ -2,7 +2,7 @@
 
 use super::{plain, Report, X};
 use crate::cases::written_files::written_file_case;
-use crate::file::{read_file, FileTable};
+use crate::file::read_file;
 use crate::file_text::{Given, Scales};
 use crate::file_tried::{tried, TRIED};
 use crate::random::Random;
@@ -60,10 +60,7 @@ fn lines_with(changes: &[(usize, &str)]) -> String {
 fn compare(report: &mut Report, what: &str, case: &WrittenFileCase, expected: Result<String, u32>) {
     let answer = case.answer();
     if let Ok(written) = &answer {
-        let (points, frame) = (case.points, written.frame);
-        let ordinates = case.ordinates[..points as usize].to_vec();
-        let table = FileTable { points, first: frame.first, last: frame.last, ordinates };
-        report.compare(what, plain(read_file(&written.text, points as usize)), Ok(table));
+        report.compare(what, plain(read_file(&written.text, case.points as usize)), Ok(case.table(written)));
         let long = written.text.split(|byte| *byte == b'\n').any(|line| line.len() > LONGEST_LINE + 1);
         report.compare(what, long, false);
     }
