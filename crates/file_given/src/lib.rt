@@ -15,6 +15,27 @@ use file_write_spec::GivenDecimal;
 use file_write_spec::Scales;
 use text::byte_at;
 
+// The most bytes of a title.
+const LONGEST_TITLE: usize = 72;
+
+// Where zero stands among numbers that `frame::lift` has lifted, as those below are.
+const ZERO: u64 = 10000000000;
+
+// Below the mantissas of at most nine digits.
+const BELOW_MANTISSAS: u64 = 9000000000;
+
+// Above them.
+const ABOVE_MANTISSAS: u64 = 11000000000;
+
+// Below the exponents of at most 99 in magnitude.
+const BELOW_EXPONENTS: u64 = 9999999900;
+
+// Above them.
+const ABOVE_EXPONENTS: u64 = 10000000100;
+
+// -200, from which the power of ten of a decimal is counted.
+const ORIGIN: u64 = 9999999800;
+
 // May the byte b, with c after it, stand in a title?
 fn fair(b: u8, c: u8) -> bool
     ensures { λ r. ⌜ r ≡ fairByte b c ⌝ }
@@ -35,7 +56,7 @@ fn fair(b: u8, c: u8) -> bool
 pub fn title_fair(title: &[u8]) -> bool
     ensures { λ r. ⌜ r ≡ title-legal (now (title .entry)) ⌝ }
 {
-    if title.len() > 72 {
+    if title.len() > LONGEST_TITLE {
         return false;
     }
     let mut i = 0;
@@ -57,28 +78,28 @@ fn decimal_of(d: GivenDecimal) -> Given
     let e = d.exponent;
     let u = frame::lift(m);
     let v = frame::lift(e);
-    if u <= 9000000000 {
+    if u <= BELOW_MANTISSAS {
         return Given::Misspelled;
     }
-    if u >= 11000000000 {
+    if u >= ABOVE_MANTISSAS {
         return Given::Misspelled;
     }
-    if v <= 9999999900 {
+    if v <= BELOW_EXPONENTS {
         return Given::Misspelled;
     }
-    if v >= 10000000100 {
+    if v >= ABOVE_EXPONENTS {
         return Given::Misspelled;
     }
-    let power = v - 9999999800;
-    if u < 10000000000 {
-        let below = 10000000000 - u;
+    let power = v - ORIGIN;
+    if u < ZERO {
+        let below = ZERO - u;
         return Given::Is(Decimal {
             minus: true,
             mantissa: below,
             power,
         });
     }
-    let above = u - 10000000000;
+    let above = u - ZERO;
     Given::Is(Decimal {
         minus: false,
         mantissa: above,

@@ -16,6 +16,9 @@ use table_text::digits::put;
 use table_text::digits::put_end;
 use table_text::digits::put_number;
 
+// Where the power of ten 0 stands: powers are counted from -200 on.
+const ORIGIN: u64 = 200;
+
 // Some bytes. The place after them.
 fn put_bytes(out: &mut [u8], at: usize, s: &[u8]) -> usize
     requires { ⌜ (length (now s) ≤ 100) × (at < 2 ^ 59) ⌝ }
@@ -50,10 +53,10 @@ fn put_power(out: &mut [u8], at: usize, p: u64) -> usize
 {
     put(out, at, b'E');
     let next = at + 1;
-    if p >= 200 {
-        return put_two(out, next, b'+', p - 200);
+    if p >= ORIGIN {
+        return put_two(out, next, b'+', p - ORIGIN);
     }
-    put_two(out, next, b'-', 200 - p)
+    put_two(out, next, b'-', ORIGIN - p)
 }
 
 // A number of at most nine digits. The place after it.

@@ -25,6 +25,9 @@ use table_write::write_table;
 use terms::Fault;
 use terms::TableWritten;
 
+// How many bytes END's record has, with its line end.
+const END_LINE: usize = 8;
+
 // A refusal of the writer: its place is 0.
 fn refused(number: u64) -> FileWritten
     ensures { λ r. ⌜ r ≡ told-file (declined number) ⌝ }
@@ -47,10 +50,10 @@ fn lay(
     let mut none = [0u8; 1];
     let head = put_heading(&mut none[..0], title, n);
     let len = text.len();
-    if len < head + 8 {
+    if len < head + END_LINE {
         return refused(15);
     }
-    let stop = len - 8;
+    let stop = len - END_LINE;
     let points = n.npoints as usize;
     match write_table(first, last, points, ordinates, &mut text[head..stop]) {
         TableWritten::Refused(_) => refused(15),
