@@ -1,2 +1,3 @@
+pub mod Ranged
 pub mod Ran
 pub mod Unique

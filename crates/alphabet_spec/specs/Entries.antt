@@ -1,6 +1,6 @@
--- The byte table that code reads (01, "a constant table of 256 entries gives each byte its kind and its digit"): an entry is 16 times the kind, and the digit. Assumes nothing.
+-- The entries that code works with: 16 times a byte's kind, and its digit (02, T-05: "a match with ranges over the byte gives kind and digit"). Assumes nothing.
 use mathlib.Core.Bool.{true, false}
-use mathlib.Core.List.{List, [], _∷_}
+use mathlib.Core.List.{List}
 use Prim.Native.Nat.{ℕ, _+_, _-_}
 use lib.Dec.{eqb, ltb}
 use lib.ListN.{length, getD}
@@ -43,22 +43,3 @@ kindOf e =
     pick (ltb e 16) (digit e) (pick (ltb e 32) (lead dup (e - 16)) (pick (ltb e 48) (lead (dif false) (e - 32)) (pick (ltb e 64) (lead (dif true) (e - 48))
     (pick (ltb e 80) (lead (sqz false) (e - 64)) (pick (ltb e 96) (lead (sqz true) (e - 80)) (pick (ltb e 112) quest (pick (ltb e 128) blank
     (pick (ltb e 144) (sign false) (pick (ltb e 160) (sign true) (pick (eqb e 160) point (pick (eqb e 176) lf (pick (eqb e 192) cr (pick (eqb e 208) dollar other)))))))))))))
-
-unfoldable pub table : List ℕ
-table =
-    240 ∷ 240 ∷ 240 ∷ 240 ∷ 240 ∷ 240 ∷ 240 ∷ 240 ∷ 240 ∷ 112 ∷ 176 ∷ 240 ∷ 240 ∷ 192 ∷ 240 ∷ 240 ∷
-    240 ∷ 240 ∷ 240 ∷ 240 ∷ 240 ∷ 240 ∷ 240 ∷ 240 ∷ 240 ∷ 240 ∷ 240 ∷ 240 ∷ 240 ∷ 240 ∷ 240 ∷ 240 ∷
-    112 ∷ 240 ∷ 240 ∷ 240 ∷ 208 ∷ 32 ∷ 240 ∷ 240 ∷ 240 ∷ 240 ∷ 240 ∷ 128 ∷ 240 ∷ 144 ∷ 160 ∷ 240 ∷
-    0 ∷ 1 ∷ 2 ∷ 3 ∷ 4 ∷ 5 ∷ 6 ∷ 7 ∷ 8 ∷ 9 ∷ 240 ∷ 240 ∷ 240 ∷ 240 ∷ 240 ∷ 96 ∷
-    64 ∷ 65 ∷ 66 ∷ 67 ∷ 68 ∷ 69 ∷ 70 ∷ 71 ∷ 72 ∷ 73 ∷ 33 ∷ 34 ∷ 35 ∷ 36 ∷ 37 ∷ 38 ∷
-    39 ∷ 40 ∷ 41 ∷ 17 ∷ 18 ∷ 19 ∷ 20 ∷ 21 ∷ 22 ∷ 23 ∷ 24 ∷ 240 ∷ 240 ∷ 240 ∷ 240 ∷ 240 ∷
-    240 ∷ 81 ∷ 82 ∷ 83 ∷ 84 ∷ 85 ∷ 86 ∷ 87 ∷ 88 ∷ 89 ∷ 49 ∷ 50 ∷ 51 ∷ 52 ∷ 53 ∷ 54 ∷
-    55 ∷ 56 ∷ 57 ∷ 25 ∷ 240 ∷ 240 ∷ 240 ∷ 240 ∷ 240 ∷ 240 ∷ 240 ∷ 240 ∷ 240 ∷ 240 ∷ 240 ∷ 240 ∷
-    240 ∷ 240 ∷ 240 ∷ 240 ∷ 240 ∷ 240 ∷ 240 ∷ 240 ∷ 240 ∷ 240 ∷ 240 ∷ 240 ∷ 240 ∷ 240 ∷ 240 ∷ 240 ∷
-    240 ∷ 240 ∷ 240 ∷ 240 ∷ 240 ∷ 240 ∷ 240 ∷ 240 ∷ 240 ∷ 240 ∷ 240 ∷ 240 ∷ 240 ∷ 240 ∷ 240 ∷ 240 ∷
-    240 ∷ 240 ∷ 240 ∷ 240 ∷ 240 ∷ 240 ∷ 240 ∷ 240 ∷ 240 ∷ 240 ∷ 240 ∷ 240 ∷ 240 ∷ 240 ∷ 240 ∷ 240 ∷
-    240 ∷ 240 ∷ 240 ∷ 240 ∷ 240 ∷ 240 ∷ 240 ∷ 240 ∷ 240 ∷ 240 ∷ 240 ∷ 240 ∷ 240 ∷ 240 ∷ 240 ∷ 240 ∷
-    240 ∷ 240 ∷ 240 ∷ 240 ∷ 240 ∷ 240 ∷ 240 ∷ 240 ∷ 240 ∷ 240 ∷ 240 ∷ 240 ∷ 240 ∷ 240 ∷ 240 ∷ 240 ∷
-    240 ∷ 240 ∷ 240 ∷ 240 ∷ 240 ∷ 240 ∷ 240 ∷ 240 ∷ 240 ∷ 240 ∷ 240 ∷ 240 ∷ 240 ∷ 240 ∷ 240 ∷ 240 ∷
-    240 ∷ 240 ∷ 240 ∷ 240 ∷ 240 ∷ 240 ∷ 240 ∷ 240 ∷ 240 ∷ 240 ∷ 240 ∷ 240 ∷ 240 ∷ 240 ∷ 240 ∷ 240 ∷
-    240 ∷ 240 ∷ 240 ∷ 240 ∷ 240 ∷ 240 ∷ 240 ∷ 240 ∷ 240 ∷ 240 ∷ 240 ∷ 240 ∷ 240 ∷ 240 ∷ 240 ∷ 240 ∷ []

@@ -1,26 +1,17 @@
--- The rule of the byte table, tested over all its entries once (`is-entry`) and carried to the byte at a place by one law (`at-kind`). Assumes nothing.
+-- From the entry of a byte back to its kind, and from there to the byte at a place (`at-kind`). Assumes nothing.
 use mathlib.Core.Path.{_≡_, refl, sym, ap, _∙_}
 use mathlib.Core.Bool.{Bool, true, false}
 use mathlib.Core.List.{List}
 use Prim.Native.Nat.{ℕ, _+_, _-_, _≤_, _<_}
 use native.Mathlib.Omega.{arith}
-use lib.Dec.{eqb, ltb, eqb→eq}
+use lib.Dec.{ltb}
 use lib.ListN.{length, getD}
 use borrow.Author.Tests.{lt-ltb, le-ltb, ltb-true, ltb-false}
 use Rattle.terms.specs.Logic.{by-case, ten}
 use Rattle.alphabet_spec.specs.Kinds.{Lead, sqz, dif, dup, Pseudo, sqz-up, sqz-down, dif-zero, dif-up, dif-down, dup-low, dup-nine, tabs-too}
 use Rattle.alphabet_spec.specs.Bytes.{Byte, digit, lead, sign, quest, blank, point, lf, cr, dollar, other, kind}
 use Rattle.alphabet_spec.specs.KindLaws.{Back, kind-back}
-use Rattle.alphabet_spec.specs.EveryLaws.{at}
-use Rattle.alphabet_spec.specs.Entries.{leadCode, code, entry, entryAt, kindOf, table}
-
-right : ℕ → ℕ → Bool
-right k x = eqb x (entry k)
-
--- the rule, tested over the whole table
-pub is-entry : (k : ℕ) → k < 256 → getD table k 0 ≡ entry k
-unfolding table right entry kind
-is-entry k h = eqb→eq (getD table k 0) (entry k) (at right table tt k h)
+use Rattle.alphabet_spec.specs.Entries.{leadCode, code, entry, entryAt, kindOf}
 
 -- ---- from an entry to the kind
 

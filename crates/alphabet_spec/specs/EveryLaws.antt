@@ -1,12 +1,14 @@
--- A rule of a table, proved at all of its entries by one test that is computed, one entry after the other. Assumes nothing.
-use mathlib.Core.Path.{_∙_, subst, sym}
+-- A rule of a table, or of all numbers below one, proved by one test that is computed, one entry or number after the other. Assumes nothing.
+use mathlib.Core.Path.{_≡_, refl, _∙_, subst, sym}
 use mathlib.Core.Bool.{Bool, true, false}
 use mathlib.Core.List.{List, [], _∷_}
 use Prim.Native.Nat.{ℕ, zero, suc, _+_, _<_}
+use native.Mathlib.Omega.{arith}
 use native.Mathlib.Nat.{add-zero, zero-add, add-suc, suc-add, le-of-suc-le-suc, not-suc-le-zero}
-use lib.Dec.{T}
+use lib.Dec.{T, ltb}
 use lib.ListN.{length, getD}
-use Rattle.terms.specs.Logic.{both}
+use borrow.Author.Tests.{ltb-true, ltb-false}
+use Rattle.terms.specs.Logic.{both, by-case}
 
 both-left : (a b : Bool) → T (both a b) → T a
 both-left true b t = tt
@@ -30,3 +32,14 @@ from f (x ∷ xs) i t (suc k) h =
 
 pub at : (f : ℕ → ℕ → Bool) (xs : List ℕ) → T (every f 0 xs) → (k : ℕ) → k < length xs → T (f k (getD xs k 0))
 at f xs t k h = subst (λ (m : ℕ). T (f m (getD xs k 0))) (zero-add k) (from f xs 0 t k h)
+
+-- the test f passes at each number below n
+abbrev pub everyBelow : (ℕ → Bool) → ℕ → Bool
+everyBelow f zero = true
+everyBelow f (suc n) = both (f n) (everyBelow f n)
+
+pub below : (f : ℕ → Bool) (n : ℕ) → T (everyBelow f n) → (k : ℕ) → k < n → T (f k)
+below f zero t k h = absurd (not-suc-le-zero h)
+below f (suc n) t k h =
+    by-case (λ x. ltb k n ≡ x → T (f k)) (ltb k n) (λ _ e. below f n (both-right (f n) (everyBelow f n) t) k (ltb-true k n e))
+    (λ _ e. let l = ltb-false k n e in let z : n ≡ k = omega arith in subst (λ (m : ℕ). T (f m)) z (both-left (f n) (everyBelow f n) t)) refl

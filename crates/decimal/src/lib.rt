@@ -2,7 +2,6 @@
 ghost use mathlib.Core.Path.{_≡_};
 ghost use Prim.Native.Nat.{_+_, _-_, _<_, _≤_};
 ghost use lib.ListN.{length};
-ghost use Rattle.alphabet_spec.specs.Entries.{table};
 ghost use Rattle.decimal_spec.specs.Number.{mantissaOf};
 ghost use Rattle.decimal.specs.Found.{MantissaFound, ExponentFound, PowerFound, UnsignedFound, NumberFound, CountFound};
 use alphabet::PAST_DIGITS;
@@ -39,11 +38,11 @@ fn mantissa_of(v: u64, n: usize, f: usize, end: usize) -> Mantissa
 }
 
 // The digits at a place, with at most one point.
-fn mantissa(t: &[u8; 256], s: &[u8], at: usize) -> Mantissa
-    requires { ⌜ (now t ≡ table) × (at ≤ length (now s)) ⌝ }
+fn mantissa(s: &[u8], at: usize) -> Mantissa
+    requires { ⌜ at ≤ length (now s) ⌝ }
     ensures { λ r. ⌜ MantissaFound (now (s .entry)) at r ⌝ }
 {
-    let whole = alphabet::digits(t, s, at, 0, MOST_DIGITS);
+    let whole = alphabet::digits(s, at, 0, MOST_DIGITS);
     let v = whole.v;
     let point = whole.at;
     let after = whole.e;
@@ -56,7 +55,7 @@ fn mantissa(t: &[u8; 256], s: &[u8], at: usize) -> Mantissa
     }
     let first = point + 1;
     let left = MOST_DIGITS - n;
-    let all = alphabet::digits(t, s, first, v, left);
+    let all = alphabet::digits(s, first, v, left);
     let w = all.v;
     let end = all.at;
     let beyond = all.e;
@@ -69,11 +68,11 @@ fn mantissa(t: &[u8; 256], s: &[u8], at: usize) -> Mantissa
 }
 
 // The digits of an exponent, after its sign.
-fn power_digits(t: &[u8; 256], s: &[u8], at: usize, minus: bool) -> Exponent
-    requires { ⌜ (now t ≡ table) × (at ≤ length (now s)) ⌝ }
+fn power_digits(s: &[u8], at: usize, minus: bool) -> Exponent
+    requires { ⌜ at ≤ length (now s) ⌝ }
     ensures { λ r. ⌜ PowerFound (now (s .entry)) at minus r ⌝ }
 {
-    let all = alphabet::digits(t, s, at, 0, 3);
+    let all = alphabet::digits(s, at, 0, 3);
     let x = all.v;
     let end = all.at;
     let after = all.e;
@@ -96,8 +95,8 @@ fn power_digits(t: &[u8; 256], s: &[u8], at: usize, minus: bool) -> Exponent
 }
 
 // The exponent at a place, or that there is none.
-fn exponent(t: &[u8; 256], s: &[u8], at: usize) -> Exponent
-    requires { ⌜ (now t ≡ table) × (at ≤ length (now s)) ⌝ }
+fn exponent(s: &[u8], at: usize) -> Exponent
+    requires { ⌜ at ≤ length (now s) ⌝ }
     ensures { λ r. ⌜ ExponentFound (now (s .entry)) at r ⌝ }
 {
     if byte_at(s, at) != b'E' {
@@ -110,23 +109,23 @@ fn exponent(t: &[u8; 256], s: &[u8], at: usize) -> Exponent
     let sign = byte_at(s, next);
     if sign == b'+' {
         let first = at + 2;
-        return power_digits(t, s, first, false);
+        return power_digits(s, first, false);
     }
     if sign == b'-' {
         let first = at + 2;
-        return power_digits(t, s, first, true);
+        return power_digits(s, first, true);
     }
     Exponent::Misspelled
 }
 
 // A number after its sign.
-fn unsigned(t: &[u8; 256], s: &[u8], at: usize, minus: bool) -> Number
-    requires { ⌜ (now t ≡ table) × (at ≤ length (now s)) ⌝ }
+fn unsigned(s: &[u8], at: usize, minus: bool) -> Number
+    requires { ⌜ at ≤ length (now s) ⌝ }
     ensures { λ r. ⌜ UnsignedFound (now (s .entry)) at minus r ⌝ }
 {
-    match mantissa(t, s, at) {
+    match mantissa(s, at) {
         Mantissa::Misspelled => Number::Misspelled,
-        Mantissa::Digits { value, behind, end } => match exponent(t, s, end) {
+        Mantissa::Digits { value, behind, end } => match exponent(s, end) {
             Exponent::Misspelled => Number::Misspelled,
             Exponent::Power { power, end: past } => {
                 let lowered = power - behind;
@@ -143,28 +142,28 @@ fn unsigned(t: &[u8; 256], s: &[u8], at: usize, minus: bool) -> Number
 
 // The number at a place of a text. An inner function: it is lent the byte table, and the place is one of the text or its end.
 // What stands after the number is the caller's to judge.
-pub fn number(t: &[u8; 256], s: &[u8], at: usize) -> Number
-    requires { ⌜ (now t ≡ table) × (at ≤ length (now s)) ⌝ }
+pub fn number(s: &[u8], at: usize) -> Number
+    requires { ⌜ at ≤ length (now s) ⌝ }
     ensures { λ r. ⌜ NumberFound (now (s .entry)) at r ⌝ }
 {
     let sign = byte_at(s, at);
     if sign == b'+' {
         let first = at + 1;
-        return unsigned(t, s, first, false);
+        return unsigned(s, first, false);
     }
     if sign == b'-' {
         let first = at + 1;
-        return unsigned(t, s, first, true);
+        return unsigned(s, first, true);
     }
-    unsigned(t, s, at, false)
+    unsigned(s, at, false)
 }
 
 // The number of digits only at a place of a text, as NPOINTS has it. An inner function, as `number` is.
-pub fn count(t: &[u8; 256], s: &[u8], at: usize) -> Count
-    requires { ⌜ (now t ≡ table) × (at ≤ length (now s)) ⌝ }
+pub fn count(s: &[u8], at: usize) -> Count
+    requires { ⌜ at ≤ length (now s) ⌝ }
     ensures { λ r. ⌜ CountFound (now (s .entry)) at r ⌝ }
 {
-    let all = alphabet::digits(t, s, at, 0, MOST_DIGITS);
+    let all = alphabet::digits(s, at, 0, MOST_DIGITS);
     let v = all.v;
     let end = all.at;
     let after = all.e;

@@ -2,14 +2,12 @@
 ghost use mathlib.Core.Path.{_≡_};
 ghost use Prim.Native.Nat.{_≤_, _<_};
 ghost use lib.ListN.{length};
-ghost use Rattle.alphabet_spec.specs.Entries.{table};
 ghost use Rattle.file_spec.specs.Texts.{text-of, gatheredFrom};
 ghost use Rattle.label.specs.Answers.{foundIn};
 ghost use Rattle.file_spec.specs.Figures.{figuresOf};
 ghost use Rattle.figure.specs.Bounds.{Small};
 ghost use Rattle.file_records.specs.Order.{nameAt, neededOf, fromFirstx, fromNpoints};
 ghost use Rattle.file_records.specs.Bounds.{AllWithin, gatheredIn, FactorsRead, figuresIn};
-use alphabet::TABLE;
 use decimal_spec::Count;
 use file_spec::Decimal;
 use file_spec::Figures;
@@ -71,56 +69,45 @@ pub fn gather(file: &[u8], start: usize, stop: usize) -> Gathered
     Gathered::All(needed(texts))
 }
 
-// The numbers of the six records before the table, or the place of the first that is wrong (26). The table of entries is made once and lent.
+// The numbers of the six records before the table, or the place of the first that is wrong (26): XFACTOR and YFACTOR, and then the rest.
 pub fn figures(file: &[u8], x: Needed) -> Figures
     requires { ⌜ AllWithin (length (now file)) x ⌝ }
     ensures { λ r. ⌜ (r ≡ figuresOf (now (file .entry)) x) × figuresIn r ⌝ }
 {
-    let t = TABLE;
-    figures_from_xfactor(&t, file, x)
-}
-
-// XFACTOR and YFACTOR, and then the rest.
-fn figures_from_xfactor(t: &[u8; 256], file: &[u8], x: Needed) -> Figures
-    requires { ⌜ (now t ≡ table) × AllWithin (length (now file)) x ⌝ }
-    ensures { λ r. ⌜ (r ≡ figuresOf (now (file .entry)) x) × figuresIn r ⌝ }
-{
     let one = x.xfactor;
-    let Given::Is(xfactor) = factor_in(t, file, one) else {
+    let Given::Is(xfactor) = factor_in(file, one) else {
         return Figures::Wrong(mark_in(file, one));
     };
     let two = x.yfactor;
-    let Given::Is(yfactor) = factor_in(t, file, two) else {
+    let Given::Is(yfactor) = factor_in(file, two) else {
         return Figures::Wrong(mark_in(file, two));
     };
-    figures_from_firstx(t, file, x, xfactor, yfactor)
+    figures_from_firstx(file, x, xfactor, yfactor)
 }
 
 // FIRSTX and LASTX, after the factors, and then the rest.
 fn figures_from_firstx(
-    t: &[u8; 256],
     file: &[u8],
     x: Needed,
     xfactor: Decimal,
     yfactor: Decimal,
 ) -> Figures
-    requires { ⌜ FactorsRead (now t) (length (now file)) x xfactor yfactor ⌝ }
+    requires { ⌜ FactorsRead (length (now file)) x xfactor yfactor ⌝ }
     ensures { λ r. ⌜ (r ≡ fromFirstx (now (file .entry)) x xfactor yfactor) × figuresIn r ⌝ }
 {
     let one = x.firstx;
-    let Given::Is(firstx) = decimal_in(t, file, one) else {
+    let Given::Is(firstx) = decimal_in(file, one) else {
         return Figures::Wrong(mark_in(file, one));
     };
     let two = x.lastx;
-    let Given::Is(lastx) = decimal_in(t, file, two) else {
+    let Given::Is(lastx) = decimal_in(file, two) else {
         return Figures::Wrong(mark_in(file, two));
     };
-    figures_from_npoints(t, file, x, xfactor, yfactor, firstx, lastx)
+    figures_from_npoints(file, x, xfactor, yfactor, firstx, lastx)
 }
 
 // NPOINTS and FIRSTY, after the factors and the abscissas.
 fn figures_from_npoints(
-    t: &[u8; 256],
     file: &[u8],
     x: Needed,
     xfactor: Decimal,
@@ -128,19 +115,19 @@ fn figures_from_npoints(
     firstx: Decimal,
     lastx: Decimal,
 ) -> Figures
-    requires { ⌜ FactorsRead (now t) (length (now file)) x xfactor yfactor × Small firstx × Small lastx ⌝ }
+    requires { ⌜ FactorsRead (length (now file)) x xfactor yfactor × Small firstx × Small lastx ⌝ }
     ensures { λ r. ⌜ (r ≡ fromNpoints (now (file .entry)) x xfactor yfactor firstx lastx) × figuresIn r ⌝ }
 {
     let one = x.npoints;
     let Count::Counted {
         value: npoints,
         end: _,
-    } = count_in(t, file, one)
+    } = count_in(file, one)
     else {
         return Figures::Wrong(mark_in(file, one));
     };
     let two = x.firsty;
-    let Given::Is(firsty) = decimal_in(t, file, two) else {
+    let Given::Is(firsty) = decimal_in(file, two) else {
         return Figures::Wrong(mark_in(file, two));
     };
     Figures::All(Numbers {

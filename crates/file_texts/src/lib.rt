@@ -2,7 +2,6 @@
 ghost use mathlib.Core.Path.{_≡_};
 ghost use Prim.Native.Nat.{_-_, _≤_};
 ghost use lib.ListN.{length, drop};
-ghost use Rattle.alphabet_spec.specs.Entries.{table};
 ghost use Rattle.file_spec.specs.Texts.{«spacing», textIn, markIn, markOf, LIST, ended, listedIn};
 ghost use Rattle.file_spec.specs.Figures.{decimalIn, exceeding, countIn};
 ghost use Rattle.file_texts.specs.Spans.{Within, countSmall, listedWithin, listStep};
@@ -122,22 +121,21 @@ pub fn list_in(file: &[u8], t: Span) -> Listed
 }
 
 // The decimal that the text of a record is, with blanks, line ends and comments around it.
-pub fn decimal_in(t: &[u8; 256], file: &[u8], x: Span) -> Given
-    requires { ⌜ (now t ≡ table) × Within (length (now file)) x ⌝ }
+pub fn decimal_in(file: &[u8], x: Span) -> Given
+    requires { ⌜ Within (length (now file)) x ⌝ }
     ensures { λ r. ⌜ (r ≡ decimalIn (textIn (now (file .entry)) x)) × givenIn r ⌝ }
 {
     let from = x.from;
     let to = x.to;
-    decimal_alone(t, &file[from..to])
+    decimal_alone(&file[from..to])
 }
 
 // The decimal that a text is.
-fn decimal_alone(t: &[u8; 256], part: &[u8]) -> Given
-    requires { ⌜ now t ≡ table ⌝ }
+fn decimal_alone(part: &[u8]) -> Given
     ensures { λ r. ⌜ (r ≡ decimalIn (now (part .entry))) × givenIn r ⌝ }
 {
     let at = past_space(part, 0);
-    match decimal::number(t, part, at) {
+    match decimal::number(part, at) {
         Number::Misspelled => Given::Misspelled,
         Number::Decimal {
             minus,
@@ -158,20 +156,19 @@ fn decimal_alone(t: &[u8; 256], part: &[u8]) -> Given
 }
 
 // The factor that the text of a record is.
-pub fn factor_in(t: &[u8; 256], file: &[u8], x: Span) -> Given
-    requires { ⌜ (now t ≡ table) × Within (length (now file)) x ⌝ }
+pub fn factor_in(file: &[u8], x: Span) -> Given
+    requires { ⌜ Within (length (now file)) x ⌝ }
     ensures { λ r. ⌜ (r ≡ exceeding (decimalIn (textIn (now (file .entry)) x))) × factorIn r ⌝ }
 {
-    exceed(decimal_in(t, file, x))
+    exceed(decimal_in(file, x))
 }
 
 // The count that a text is (NPOINTS).
-fn count_alone(t: &[u8; 256], part: &[u8]) -> Count
-    requires { ⌜ now t ≡ table ⌝ }
+fn count_alone(part: &[u8]) -> Count
     ensures { λ r. ⌜ (r ≡ countIn (now (part .entry))) × countSmall r ⌝ }
 {
     let at = past_space(part, 0);
-    match decimal::count(t, part, at) {
+    match decimal::count(part, at) {
         Count::Misspelled => Count::Misspelled,
         Count::Counted { value, end } => {
             if past_space(part, end) != part.len() {
@@ -183,11 +180,11 @@ fn count_alone(t: &[u8; 256], part: &[u8]) -> Count
 }
 
 // The count that the text of a record is.
-pub fn count_in(t: &[u8; 256], file: &[u8], x: Span) -> Count
-    requires { ⌜ (now t ≡ table) × Within (length (now file)) x ⌝ }
+pub fn count_in(file: &[u8], x: Span) -> Count
+    requires { ⌜ Within (length (now file)) x ⌝ }
     ensures { λ r. ⌜ (r ≡ countIn (textIn (now (file .entry)) x)) × countSmall r ⌝ }
 {
     let from = x.from;
     let to = x.to;
-    count_alone(t, &file[from..to])
+    count_alone(&file[from..to])
 }

@@ -2,7 +2,7 @@
 ghost use mathlib.Core.Path.{_≡_};
 ghost use Prim.Native.Nat.{_<_, _≤_};
 ghost use lib.ListN.{length};
-ghost use Rattle.alphabet_spec.specs.Entries.{entryAt, table};
+ghost use Rattle.alphabet_spec.specs.Entries.{entryAt};
 ghost use Rattle.table_spec.specs.Values.{headed-at};
 ghost use Rattle.table_spec.specs.Reading.{bare, unit};
 ghost use Rattle.table_lines.specs.declared.HeadRead.{HeadRead};
@@ -42,12 +42,12 @@ pub enum HeadRead {
 }
 
 // The first place from here on where no blank stands.
-pub fn blanks(t: &[u8; 256], s: &[u8], from: usize) -> usize
-    requires { ⌜ (now t ≡ table) × (from ≤ length (now s)) ⌝ }
+pub fn blanks(s: &[u8], from: usize) -> usize
+    requires { ⌜ from ≤ length (now s) ⌝ }
     ensures { λ r. ⌜ Blanked (now (s .entry)) from r ⌝ }
 {
     let mut i = from;
-    while entry_at(t, s, i) == BLANK {
+    while entry_at(s, i) == BLANK {
         i += 1;
     }
     i
@@ -70,8 +70,8 @@ fn comment(s: &[u8], from: usize) -> usize
 }
 
 // What stands at a place whose entry e is a point's or above: a line's end, a comment counted in, or a byte that cannot stand there.
-pub fn line_end(t: &[u8; 256], s: &[u8], at: usize, e: u64) -> Ending
-    requires { ⌜ (now t ≡ table) × (at ≤ length (now s)) × (e ≡ entryAt (now s) at) × (160 ≤ e) ⌝ }
+pub fn line_end(s: &[u8], at: usize, e: u64) -> Ending
+    requires { ⌜ (at ≤ length (now s)) × (e ≡ entryAt (now s) at) × (160 ≤ e) ⌝ }
     ensures { λ r. ⌜ Ended (now (s .entry)) at r ⌝ }
 {
     if e == END {
@@ -82,13 +82,13 @@ pub fn line_end(t: &[u8; 256], s: &[u8], at: usize, e: u64) -> Ending
         return Ending::Next(next);
     }
     if e == CR {
-        if entry_at(t, s, next) == LF {
+        if entry_at(s, next) == LF {
             return Ending::Next(next + 1);
         }
         return Ending::Bad;
     }
     if e == DOLLAR {
-        if entry_at(t, s, next) == DOLLAR {
+        if entry_at(s, next) == DOLLAR {
             return Ending::Next(comment(s, next + 1));
         }
         return Ending::Bad;
@@ -97,21 +97,21 @@ pub fn line_end(t: &[u8; 256], s: &[u8], at: usize, e: u64) -> Ending
 }
 
 // The start of the next line that is not passed over.
-pub fn row_start(t: &[u8; 256], s: &[u8], from: usize) -> Start
-    requires { ⌜ (now t ≡ table) × (from ≤ length (now s)) ⌝ }
+pub fn row_start(s: &[u8], from: usize) -> Start
+    requires { ⌜ from ≤ length (now s) ⌝ }
     ensures { λ r. ⌜ Started (now (s .entry)) from r ⌝ }
 {
     let mut at = from;
     loop {
-        at = blanks(t, s, at);
-        let e = entry_at(t, s, at);
+        at = blanks(s, at);
+        let e = entry_at(s, at);
         if e < POINT {
             return Start::Head(at, e);
         }
         if e == END {
             return Start::End;
         }
-        match line_end(t, s, at, e) {
+        match line_end(s, at, e) {
             Ending::Next(j) => {
                 at = j;
             }
@@ -123,16 +123,16 @@ pub fn row_start(t: &[u8; 256], s: &[u8], from: usize) -> Start
 }
 
 // Only blanks or a comment between a head and its line's end? (refusal 7)
-pub fn bare_line(t: &[u8; 256], s: &[u8], at: usize) -> bool
-    requires { ⌜ (now t ≡ table) × (at ≤ length (now s)) ⌝ }
+pub fn bare_line(s: &[u8], at: usize) -> bool
+    requires { ⌜ at ≤ length (now s) ⌝ }
     ensures { λ r. ⌜ r ≡ bare (here (now (s .entry)) at) ⌝ }
 {
-    let b = blanks(t, s, at);
-    let e = entry_at(t, s, b);
+    let b = blanks(s, at);
+    let e = entry_at(s, b);
     if e < POINT {
         return false;
     }
-    match line_end(t, s, b, e) {
+    match line_end(s, b, e) {
         Ending::Next(_) => true,
         Ending::Bad => false,
     }
@@ -163,8 +163,8 @@ fn abscissa(minus: bool, size: u64, unit: u64, at: usize, e: u64) -> HeadRead
 }
 
 // After the whole number of a head, which was read as w: perhaps a point and at most three digits.
-fn fraction(t: &[u8; 256], s: &[u8], w: Run, minus: bool) -> HeadRead
-    requires { ⌜ (now t ≡ table) × (w .at ≤ length (now s)) × (w .e ≡ entryAt (now s) (w .at)) × (w .v < 10000000) × (16 ≤ w .e) ⌝ }
+fn fraction(s: &[u8], w: Run, minus: bool) -> HeadRead
+    requires { ⌜ (w .at ≤ length (now s)) × (w .e ≡ entryAt (now s) (w .at)) × (w .v < 10000000) × (16 ≤ w .e) ⌝ }
     ensures { λ r. ⌜ Pointed (now (s .entry)) (w .at) (w .v) minus r ⌝ }
 {
     let at = w.at;
@@ -173,7 +173,7 @@ fn fraction(t: &[u8; 256], s: &[u8], w: Run, minus: bool) -> HeadRead
         return abscissa(minus, v * 1000, 1000, at, w.e);
     }
     let next = at + 1;
-    let f = digits(t, s, next, v, 3);
+    let f = digits(s, next, v, 3);
     if f.e < PAST_DIGITS {
         return HeadRead::NoHead;
     }
@@ -184,27 +184,27 @@ fn fraction(t: &[u8; 256], s: &[u8], w: Run, minus: bool) -> HeadRead
 }
 
 // The head at a place whose entry is e.
-pub fn head(t: &[u8; 256], s: &[u8], at: usize, e: u64) -> HeadRead
-    requires { ⌜ (now t ≡ table) × LineOpens (now s) at e ⌝ }
+pub fn head(s: &[u8], at: usize, e: u64) -> HeadRead
+    requires { ⌜ LineOpens (now s) at e ⌝ }
     ensures { λ r. ⌜ Headed (now (s .entry)) at r ⌝ }
 {
     let next = at + 1;
     if e < PAST_DIGITS {
-        let w = digits(t, s, next, e, 6);
+        let w = digits(s, next, e, 6);
         if w.e < PAST_DIGITS {
             return HeadRead::NoHead;
         }
-        return fraction(t, s, w, false);
+        return fraction(s, w, false);
     }
     if e < PLUS {
         return HeadRead::NoHead;
     }
-    let w = digits(t, s, next, 0, 7);
+    let w = digits(s, next, 0, 7);
     if w.at == next {
         return HeadRead::NoHead;
     }
     if w.e < PAST_DIGITS {
         return HeadRead::NoHead;
     }
-    fraction(t, s, w, e >= MINUS)
+    fraction(s, w, e >= MINUS)
 }

@@ -2,7 +2,7 @@
 ghost use mathlib.Core.Path.{_≡_};
 ghost use mathlib.Core.Logic.{_⊎_};
 ghost use Prim.Native.Nat.{_%_, _<_, _≤_};
-ghost use Rattle.alphabet_spec.specs.Entries.{entryAt, table};
+ghost use Rattle.alphabet_spec.specs.Entries.{entryAt};
 ghost use Rattle.table_spec.specs.Values.{room};
 ghost use Rattle.table_numbers.specs.Numbers.{leadOf, Numbered};
 use alphabet::BLANK;
@@ -34,12 +34,12 @@ fn further(e: u64) -> usize
 }
 
 // A pseudo-digit and its digits, at a place whose entry is e.
-pub fn packed(t: &[u8; 256], s: &[u8], at: usize, e: u64) -> NumberRead
-    requires { ⌜ (now t ≡ table) × (e ≡ entryAt (now s) at) × (16 ≤ e) × (e < 96) ⌝ }
+pub fn packed(s: &[u8], at: usize, e: u64) -> NumberRead
+    requires { ⌜ (e ≡ entryAt (now s) at) × (16 ≤ e) × (e < 96) ⌝ }
     ensures { λ r. ⌜ Numbered (now (s .entry)) at e r ⌝ }
 {
     let next = at + 1;
-    let r = digits(t, s, next, e % KIND, further(e));
+    let r = digits(s, next, e % KIND, further(e));
     if r.e < PAST_DIGITS {
         return NumberRead::Misspelled;
     }
@@ -47,12 +47,12 @@ pub fn packed(t: &[u8; 256], s: &[u8], at: usize, e: u64) -> NumberRead
 }
 
 // A sign and digits, at a place whose entry is e.
-fn signed_number(t: &[u8; 256], s: &[u8], at: usize, e: u64) -> NumberRead
-    requires { ⌜ (now t ≡ table) × (e ≡ entryAt (now s) at) × (128 ≤ e) × (e < 160) ⌝ }
+fn signed_number(s: &[u8], at: usize, e: u64) -> NumberRead
+    requires { ⌜ (e ≡ entryAt (now s) at) × (128 ≤ e) × (e < 160) ⌝ }
     ensures { λ r. ⌜ Numbered (now (s .entry)) at e r ⌝ }
 {
     let next = at + 1;
-    let r = digits(t, s, next, 0, 10);
+    let r = digits(s, next, 0, 10);
     if r.at == next {
         return NumberRead::Misspelled;
     }
@@ -63,15 +63,15 @@ fn signed_number(t: &[u8; 256], s: &[u8], at: usize, e: u64) -> NumberRead
 }
 
 // Digits directly after a blank, at a place whose entry is the digit e.
-fn plain_number(t: &[u8; 256], s: &[u8], at: usize, e: u64) -> NumberRead
-    requires { ⌜ (now t ≡ table) × (e ≡ entryAt (now s) at) × (e < 16) × (0 < at) ⌝ }
+fn plain_number(s: &[u8], at: usize, e: u64) -> NumberRead
+    requires { ⌜ (e ≡ entryAt (now s) at) × (e < 16) × (0 < at) ⌝ }
     ensures { λ r. ⌜ Numbered (now (s .entry)) at e r ⌝ }
 {
-    if entry_at(t, s, at - 1) != BLANK {
+    if entry_at(s, at - 1) != BLANK {
         return NumberRead::Misspelled;
     }
     let next = at + 1;
-    let r = digits(t, s, next, e, 9);
+    let r = digits(s, next, e, 9);
     if r.e < PAST_DIGITS {
         return NumberRead::Misspelled;
     }
@@ -79,15 +79,15 @@ fn plain_number(t: &[u8; 256], s: &[u8], at: usize, e: u64) -> NumberRead
 }
 
 // The number of the value at a place whose entry is e, below a point's, and neither `?` nor a blank.
-pub fn number(t: &[u8; 256], s: &[u8], at: usize, e: u64) -> NumberRead
-    requires { ⌜ (now t ≡ table) × (e ≡ entryAt (now s) at) × (e < 160) × (0 < at) × (e < 96 ⊎ 128 ≤ e) ⌝ }
+pub fn number(s: &[u8], at: usize, e: u64) -> NumberRead
+    requires { ⌜ (e ≡ entryAt (now s) at) × (e < 160) × (0 < at) × (e < 96 ⊎ 128 ≤ e) ⌝ }
     ensures { λ r. ⌜ Numbered (now (s .entry)) at e r ⌝ }
 {
     if e < PAST_DIGITS {
-        return plain_number(t, s, at, e);
+        return plain_number(s, at, e);
     }
     if e >= PLUS {
-        return signed_number(t, s, at, e);
+        return signed_number(s, at, e);
     }
-    packed(t, s, at, e)
+    packed(s, at, e)
 }

@@ -3,7 +3,6 @@
 ghost use mathlib.Core.Path.{_≡_};
 ghost use Prim.Native.Nat.{_<_};
 ghost use lib.ListN.{length};
-ghost use Rattle.alphabet_spec.specs.Entries.{table};
 ghost use Rattle.frame.specs.Legal.{Sound};
 ghost use Rattle.table_lines.specs.Ends.{LineOpens};
 ghost use Rattle.terms.specs.Logic.{pick};
@@ -11,7 +10,6 @@ ghost use Rattle.table_spec.specs.Values.{index};
 ghost use Rattle.table_spec.specs.Reading.{read, readTable, stored};
 ghost use Rattle.table_read.specs.Rows.{frame-rules, Rests, LineSays, finished, PassSays};
 ghost use Rattle.table_read.specs.Answers.{toldFirst, Accepts, TableSays};
-use alphabet::TABLE;
 use frame::Frame;
 use frame::Framed;
 use table_lines::HeadRead;
@@ -63,7 +61,6 @@ fn wanted(dif: bool, q: u64) -> u64
 
 // A line whose head stands at a place with the entry e: 4, 6, 7, then its values.
 fn read_line(
-    t: &[u8; 256],
     s: &[u8],
     fr: Frame,
     out: &mut [i32],
@@ -71,24 +68,24 @@ fn read_line(
     at: usize,
     e: u64,
 ) -> LineRead
-    requires { ⌜ (now t ≡ table) × Sound fr × Rests (fr .points) (now s) r × LineOpens (now s) at e ⌝ }
+    requires { ⌜ Sound fr × Rests (fr .points) (now s) r × LineOpens (now s) at e ⌝ }
     ensures { λ v. ⌜ LineSays (frame-rules fr) (now (s .entry)) r at (now (out .entry)) (now (out .exit)) v ⌝ }
 {
     let dif = r.dif;
     let k = r.k;
     let q = r.q;
-    match head(t, s, at, e) {
+    match head(s, at, e) {
         HeadRead::NoHead => LineRead::Refused(4, at),
         HeadRead::Abscissa(h, unit, j, f) => {
             if !fr.passes(h, unit, index_of(dif, k)) {
                 return LineRead::Refused(6, at);
             }
-            if bare_line(t, s, j) {
+            if bare_line(s, j) {
                 return LineRead::Refused(7, at);
             }
             let want = wanted(dif, q);
             let n = fr.points;
-            values(t, s, n, out, j, f, k, want)
+            values(s, n, out, j, f, k, want)
         }
     }
 }
@@ -107,8 +104,8 @@ fn finish(points: usize, len: usize, k: usize, dif: bool) -> Passed
 }
 
 // One pass over a body: answers, and stores each ordinate that there is room for.
-fn pass(t: &[u8; 256], s: &[u8], fr: Frame, out: &mut [i32]) -> Passed
-    requires { ⌜ (now t ≡ table) × Sound fr ⌝ }
+fn pass(s: &[u8], fr: Frame, out: &mut [i32]) -> Passed
+    requires { ⌜ Sound fr ⌝ }
     ensures { λ v. ⌜ PassSays (frame-rules fr) (now (s .entry)) (now (out .entry)) (now (out .exit)) v ⌝ }
 {
     let mut r = Row {
@@ -119,14 +116,14 @@ fn pass(t: &[u8; 256], s: &[u8], fr: Frame, out: &mut [i32]) -> Passed
     };
     loop {
         let at = r.at;
-        match row_start(t, s, at) {
+        match row_start(s, at) {
             Start::End => {
                 return finish(fr.points, s.len(), r.k, r.dif);
             }
             Start::Bad(j) => {
                 return Passed::Refused(3, j);
             }
-            Start::Head(j, e) => match read_line(t, s, fr, out, r, j, e) {
+            Start::Head(j, e) => match read_line(s, fr, out, r, j, e) {
                 LineRead::Refused(n, p) => {
                     return Passed::Refused(n, p);
                 }
@@ -143,9 +140,8 @@ fn check_body(body: &[u8], fr: Frame) -> Checked
     requires { ⌜ Sound fr ⌝ }
     ensures { λ r. ⌜ r ≡ toldFirst (read (frame-rules fr) (now (body .entry))) ⌝ }
 {
-    let t = TABLE;
     let mut one = [0i32; 1];
-    match pass(&t, body, fr, &mut one) {
+    match pass(body, fr, &mut one) {
         Passed::Refused(n, p) => Checked::Refused(Fault::new(n, p)),
         Passed::All => Checked::First(one[0]),
     }
@@ -156,8 +152,7 @@ fn store_body(body: &[u8], fr: Frame, out: &mut [i32])
     requires { ⌜ Sound fr × Accepts (read (frame-rules fr) (now body)) ⌝ }
     ensures { λ _. ⌜ now (out .exit) ≡ stored (now (out .entry)) (read (frame-rules fr) (now (body .entry))) ⌝ }
 {
-    let t = TABLE;
-    pass(&t, body, fr, out);
+    pass(body, fr, out);
 }
 
 // What a body says in a frame, with room for so many ordinates: its first ordinate, or a refusal (01, "Refusal numbers" 1 to 13). Nothing lent is written to.

@@ -2,7 +2,6 @@
 ghost use mathlib.Core.Path.{_≡_};
 ghost use Prim.Native.Nat.{_<_, _≤_};
 ghost use lib.Dec.{leb};
-ghost use Rattle.alphabet_spec.specs.Entries.{table};
 ghost use Rattle.table_spec.specs.Values.{own, by, times};
 ghost use Rattle.table_numbers.specs.Numbers.{Token};
 ghost use Rattle.table_values.specs.States.{difForm, rowAfter, Sits, Valued, Again, Went, Stepped, FirstValue, Lined};
@@ -61,8 +60,8 @@ pub enum LineRead {
 // ---- one value
 
 // THE HOT LOOP. As many differences as stand here one after the other and are right. It stops before anything else.
-fn differences(t: &[u8; 256], s: &[u8], points: usize, out: &mut [i32], c: Cur) -> Cur
-    requires { ⌜ (now t ≡ table) × Sits points (now s) c ⌝ }
+fn differences(s: &[u8], points: usize, out: &mut [i32], c: Cur) -> Cur
+    requires { ⌜ Sits points (now s) c ⌝ }
     ensures { λ r. ⌜ Went points (now (s .entry)) c r (now (out .entry)) (now (out .exit)) ⌝ }
 {
     let mut at = c.at;
@@ -78,7 +77,7 @@ fn differences(t: &[u8; 256], s: &[u8], points: usize, out: &mut [i32], c: Cur) 
         if points <= k {
             break;
         }
-        match packed(t, s, at, e) {
+        match packed(s, at, e) {
             NumberRead::Misspelled => {
                 break;
             }
@@ -109,8 +108,8 @@ fn differences(t: &[u8; 256], s: &[u8], points: usize, out: &mut [i32], c: Cur) 
 }
 
 // A missing ordinate.
-fn missing(t: &[u8; 256], s: &[u8], points: usize, out: &mut [i32], c: Cur) -> Step
-    requires { ⌜ (now t ≡ table) × Sits points (now s) c × (c .e ≡ 96) ⌝ }
+fn missing(s: &[u8], points: usize, out: &mut [i32], c: Cur) -> Step
+    requires { ⌜ Sits points (now s) c × (c .e ≡ 96) ⌝ }
     ensures { λ r. ⌜ Stepped points (now (s .entry)) c (now (out .entry)) (now (out .exit)) r ⌝ }
 {
     let at = c.at;
@@ -124,7 +123,7 @@ fn missing(t: &[u8; 256], s: &[u8], points: usize, out: &mut [i32], c: Cur) -> S
         return Step::Refused(11);
     }
     put(out, k, 0);
-    let f = entry_at(t, s, next);
+    let f = entry_at(s, next);
     Step::Go(Cur {
         at: next,
         e: f,
@@ -305,21 +304,21 @@ fn value(s: &[u8], points: usize, out: &mut [i32], c: Cur, v: u64, j: usize, f: 
 }
 
 // Whatever stands next on a line.
-fn token(t: &[u8; 256], s: &[u8], points: usize, out: &mut [i32], c: Cur) -> Step
-    requires { ⌜ (now t ≡ table) × (points ≤ 65536) × Sits points (now s) c ⌝ }
+fn token(s: &[u8], points: usize, out: &mut [i32], c: Cur) -> Step
+    requires { ⌜ (points ≤ 65536) × Sits points (now s) c ⌝ }
     ensures { λ r. ⌜ Stepped points (now (s .entry)) c (now (out .entry)) (now (out .exit)) r ⌝ }
 {
     let at = c.at;
     let e = c.e;
     if e >= POINT {
-        return match line_end(t, s, at, e) {
+        return match line_end(s, at, e) {
             Ending::Next(j) => Step::Line(j),
             Ending::Bad => Step::Refused(3),
         };
     }
     if e == BLANK {
-        let j = blanks(t, s, at);
-        let f = entry_at(t, s, j);
+        let j = blanks(s, at);
+        let f = entry_at(s, j);
         return Step::Go(Cur {
             at: j,
             e: f,
@@ -331,9 +330,9 @@ fn token(t: &[u8; 256], s: &[u8], points: usize, out: &mut [i32], c: Cur) -> Ste
         });
     }
     if e == MISSING {
-        return missing(t, s, points, out, c);
+        return missing(s, points, out, c);
     }
-    match number(t, s, at, e) {
+    match number(s, at, e) {
         NumberRead::Misspelled => Step::Refused(5),
         NumberRead::Read(v, j, f) => value(s, points, out, c, v, j, f),
     }
@@ -364,7 +363,6 @@ fn row_after(c: Cur, at: usize) -> Row
 
 // The values of a line, from a place with the entry e on, with k points given; the first must equal `want`, if that is not 0.
 pub fn values(
-    t: &[u8; 256],
     s: &[u8],
     points: usize,
     out: &mut [i32],
@@ -373,7 +371,7 @@ pub fn values(
     k: usize,
     want: u64,
 ) -> LineRead
-    requires { ⌜ FirstValue points (now t) (now s) at e k ⌝ }
+    requires { ⌜ FirstValue points (now s) at e k ⌝ }
     ensures { λ r. ⌜ Lined points (now (s .entry)) at k want (now (out .entry)) (now (out .exit)) r ⌝ }
 {
     let mut c = Cur {
@@ -386,8 +384,8 @@ pub fn values(
         form: 0,
     };
     loop {
-        let b = differences(t, s, points, out, c);
-        match token(t, s, points, out, b) {
+        let b = differences(s, points, out, c);
+        match token(s, points, out, b) {
             Step::Go(d) => {
                 c = d;
             }

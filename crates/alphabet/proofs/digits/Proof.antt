@@ -11,16 +11,16 @@ use Rattle.alphabet.proofs.digits.Statement.{statement}
 use Rattle.alphabet.proofs.digits.Tie as tie
 
 abbrev Inv-loop : tie.InvT-loop
-Inv-loop t s from v most w₀ i₀ e₀ w i e = Running s from v most w i × (e ≡ entryAt s i)
+Inv-loop s from v most w₀ i₀ e₀ w i e = Running s from v most w i × (e ≡ entryAt s i)
 
 abbrev μ-loop : tie.MeasureT-loop
-μ-loop t s from v most w₀ i₀ e₀ w i e = length s - i
+μ-loop s from v most w₀ i₀ e₀ w i e = length s - i
 
 entry-at-requires : tie.Need-entry-at-requires Inv-loop μ-loop
 entry-at-requires c κs = search needs
 
 loop-holds : tie.Need-loop-holds Inv-loop μ-loop
-loop-holds c = (start _ _ _ _ (c .before .before .pre .1), c .entry-at .ensures)
+loop-holds c = (start _ _ _ _ (c .before .before .pre .0), c .entry-at .ensures)
 
 sub-if1 : tie.Need-sub-if1 Inv-loop μ-loop
 sub-if1 c = let l = c .before .loop .inv .0 .low in omega arith
@@ -29,10 +29,10 @@ returns : tie.Need-returns Inv-loop μ-loop
 returns c = let l = c .before .before .loop .inv in let x = l .0 .low in let y = l .0 .few in stop (l .0) (l .1) (λ _. omega arith)
 
 mul-w : tie.Need-mul-w Inv-loop μ-loop
-mul-w c = let l = c .before .before .loop .inv in let x = fits (l .0) (omega arith) (c .before .before .before .before .before .pre .2) in omega arith
+mul-w c = let l = c .before .before .loop .inv in let x = fits (l .0) (omega arith) (c .before .before .before .before .before .pre .1) in omega arith
 
 add-w : tie.Need-add-w Inv-loop μ-loop
-add-w c = let l = c .before .before .loop .inv in let x = fits (l .0) (omega arith) (c .before .before .before .before .before .pre .2) in omega arith
+add-w c = let l = c .before .before .loop .inv in let x = fits (l .0) (omega arith) (c .before .before .before .before .before .pre .1) in omega arith
 
 add-i : tie.Need-add-i Inv-loop μ-loop
 add-i c = let l = c .before .before .loop .inv in let h = digit-at (c .before .before .before .before .before .args .s .now) (c .before .before .loop .i) (omega (arith, l .1)) in omega (arith, h .0)
