@@ -2,7 +2,6 @@
 use mathlib.Core.Path.{_≡_}
 use mathlib.Core.List.{List}
 use Prim.Native.Nat.{ℕ, _<_}
-use Rattle.alphabet_spec.specs.Entries.{table}
 use Rattle.decimal_spec.specs.Number.{bound}
 use Rattle.figure.specs.Bounds.{Small, Factor}
 use Rattle.file_texts.specs.Spans.{Within}
@@ -29,9 +28,8 @@ abbrev pub gatheredIn : ℕ → Gathered → Type 0
 gatheredIn len (gathered.All t) = AllWithin len t
 gatheredIn len gathered.Lacking = Unit
 
--- the numbers after the factors can be read: the byte table t is lent, each text lies in the file, and the factors are as they can be spelled
-pub record FactorsRead (t : List ℕ) (len : ℕ) (x : Needed) (xf yf : Decimal) : Type 0 where
-  pub lent : t ≡ table
+-- the numbers after the factors can be read: each text lies in the file, and the factors are as they can be spelled
+pub record FactorsRead (len : ℕ) (x : Needed) (xf yf : Decimal) : Type 0 where
   pub within : AllWithin len x
   pub xfactor : Factor xf
   pub yfactor : Factor yf

@@ -1,4 +1,4 @@
-// Lines of a body (01, "Spelling of a body"): blanks, comments, ends of lines, the start of the next line, and heads. Inner functions: the byte table is lent to them.
+// Lines of a body (01, "Spelling of a body"): blanks, comments, ends of lines, the start of the next line, and heads.
 ghost use mathlib.Core.Path.{_≡_};
 ghost use Prim.Native.Nat.{_<_, _≤_};
 ghost use lib.ListN.{length};

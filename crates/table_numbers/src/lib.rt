@@ -1,4 +1,4 @@
-// The numbers of values (01, "Values"): a pseudo-digit, a sign, or a digit directly after a blank, and the digits that follow. Inner functions: the byte table is lent to them.
+// The numbers of values (01, "Values"): a pseudo-digit, a sign, or a digit directly after a blank, and the digits that follow.
 ghost use mathlib.Core.Path.{_≡_};
 ghost use mathlib.Core.Logic.{_⊎_};
 ghost use Prim.Native.Nat.{_%_, _<_, _≤_};

@@ -9,7 +9,7 @@ use lib.IntN.{ℤ}
 use lib.ListN.{length}
 use lib.Seq.{sets}
 use Rattle.terms.specs.Logic.{pick}
-use Rattle.alphabet_spec.specs.Entries.{entryAt, table}
+use Rattle.alphabet_spec.specs.Entries.{entryAt}
 use Rattle.table_spec.specs.Frame.{entry-for}
 use Rattle.table_spec.specs.Values.{times, Form, Own, Gap, By, Dup, Spot, first, after}
 use Rattle.table_spec.specs.Reading.{line, fresh, difBefore}
@@ -109,9 +109,8 @@ Stepped N s c out out' (step.Refused n) = (out' ≡ out) × Reads c (λ p w. lin
 
 -- ---- a line
 
--- a line's values may be read from the place `at` on, with the entry e there and k points given, within a table of at most 65,536 points; the byte table t is lent
-pub record FirstValue (N : ℕ) (t s : List ℕ) (at e k : ℕ) : Type 0 where
-  pub lent : t ≡ table
+-- a line's values may be read from the place `at` on, with the entry e there and k points given, within a table of at most 65,536 points
+pub record FirstValue (N : ℕ) (s : List ℕ) (at e k : ℕ) : Type 0 where
   pub most : N ≤ 65536
   pub some : 0 < at
   pub high : at ≤ length s

@@ -1,4 +1,4 @@
-// The values of a line (01, "Values", "Meaning"). The byte table is lent to each function, and the state goes in and comes back by value.
+// The values of a line (01, "Values", "Meaning"). The state goes in and comes back by value.
 ghost use mathlib.Core.Path.{_≡_};
 ghost use Prim.Native.Nat.{_<_, _≤_};
 ghost use lib.Dec.{leb};

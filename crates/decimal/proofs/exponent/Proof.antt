@@ -13,7 +13,7 @@ byte-at-requires : tie.Need-byte-at-requires
 byte-at-requires c κs = search needs
 
 returns : tie.Need-returns
-returns c = no-exponent _ _ (λ e. c .if1 .taken (c .before .byte-at .ensures ∙ e)) (c .before .before .before .pre .1)
+returns c = no-exponent _ _ (λ e. c .if1 .taken (c .before .byte-at .ensures ∙ e)) (c .before .before .before .pre)
 
 add-next : tie.Need-add-next
 add-next c = search needs
@@ -28,7 +28,7 @@ power-digits-requires : tie.Need-power-digits-requires
 power-digits-requires c κs =
     let z = c .before .before .before .before .before in
     let plus = sym (c .before .byte-at2 .ensures) ∙ c .if2 .taken in
-    (z .pre .0, omega (arith, inside (z .args .s .now) (z .args .at + 1) 43 plus (lit< tt)))
+    omega (arith, inside (z .args .s .now) (z .args .at + 1) 43 plus (lit< tt))
 
 returns-2 : tie.Need-returns-2
 returns-2 c =
@@ -43,7 +43,7 @@ power-digits-requires-2 : tie.Need-power-digits-requires-2
 power-digits-requires-2 c κs =
     let z = c .before .before .before .before .before .before in
     let minus = sym (c .before .before .byte-at2 .ensures) ∙ c .if3 .taken in
-    (z .pre .0, omega (arith, inside (z .args .s .now) (z .args .at + 1) 45 minus (lit< tt)))
+    omega (arith, inside (z .args .s .now) (z .args .at + 1) 45 minus (lit< tt))
 
 returns-3 : tie.Need-returns-3
 returns-3 c =

@@ -38,7 +38,7 @@ digits-requires-2 : tie.Need-digits-requires-2
 digits-requires-2 c κs =
     let z = c .before .before .before .before .before in
     let point = sym (c .before .byte-at .ensures) ∙ c .if2 .left in
-    (z .pre .0, omega (arith, inside (z .args .s .now) _ 46 point (lit< tt)), room _ _ _ _ _ (c .before .before .before .digits .ensures))
+    (omega (arith, inside (z .args .s .now) _ 46 point (lit< tt)), room _ _ _ _ _ (c .before .before .before .digits .ensures))
 
 returns-3 : tie.Need-returns-3
 returns-3 c =

@@ -18,7 +18,7 @@ unsigned-requires : tie.Need-unsigned-requires
 unsigned-requires c κs =
     let z = c .before .before .before in
     let plus = sym (c .before .byte-at .ensures) ∙ c .if1 .taken in
-    (z .pre .0, omega (arith, inside (z .args .s .now) (z .args .at) 43 plus (lit< tt)))
+    omega (arith, inside (z .args .s .now) (z .args .at) 43 plus (lit< tt))
 
 returns : tie.Need-returns
 returns c = number-plus _ _ _ (sym (c .before .before .byte-at .ensures) ∙ c .before .if1 .taken) (c .unsigned .ensures)
@@ -30,7 +30,7 @@ unsigned-requires-2 : tie.Need-unsigned-requires-2
 unsigned-requires-2 c κs =
     let z = c .before .before .before .before in
     let minus = sym (c .before .before .byte-at .ensures) ∙ c .if2 .taken in
-    (z .pre .0, omega (arith, inside (z .args .s .now) (z .args .at) 45 minus (lit< tt)))
+    omega (arith, inside (z .args .s .now) (z .args .at) 45 minus (lit< tt))
 
 returns-2 : tie.Need-returns-2
 returns-2 c =

@@ -15,7 +15,7 @@ enum-known-value : tie.Need-enum-known-value
 enum-known-value c = search needs
 
 exponent-requires : tie.Need-exponent-requires
-exponent-requires c κs = let x = rw (c .before .value .given .1) at (c .before .before .before .mantissa .ensures) in (c .before .before .before .before .before .pre .0, x .good .2)
+exponent-requires c κs = let x = rw (c .before .value .given .1) at (c .before .before .before .mantissa .ensures) in x .good .2
 
 enum-told-2 : tie.Need-enum-told-2
 enum-told-2 c = search needs

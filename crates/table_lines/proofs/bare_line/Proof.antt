@@ -15,7 +15,7 @@ returns : tie.Need-returns
 returns c = let e = c .before .entry-at .ensures in bare-value _ _ _ (c .before .before .blanks .ensures) (rw e at (c .if1 .taken))
 
 line-end-requires : tie.Need-line-end-requires
-line-end-requires c κs = (search needs, c .before .before .blanks .ensures .high, c .before .entry-at .ensures, c .if1 .left)
+line-end-requires c κs = (c .before .before .blanks .ensures .high, c .before .entry-at .ensures, c .if1 .left)
 
 enum-told : tie.Need-enum-told
 enum-told c = search needs

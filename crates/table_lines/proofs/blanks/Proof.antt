@@ -12,12 +12,12 @@ use Rattle.table_lines.proofs.blanks.Statement.{statement}
 use Rattle.table_lines.proofs.blanks.Tie as tie
 
 abbrev Inv-loop : tie.InvT-loop
-Inv-loop t s from i₀ i =
+Inv-loop s from i₀ i =
     (from ≤ i) × (i ≤ length s) × (seen s from fresh ≡ seen s i fresh) × (seen s from (inner (behind s from)) ≡ seen s i (inner (behind s i)))
     × ((k : ℕ) → from ≤ k → k < i → entryAt s k ≡ 112)
 
 abbrev μ-loop : tie.MeasureT-loop
-μ-loop t s from i₀ i = length s - i
+μ-loop s from i₀ i = length s - i
 
 loop-holds : tie.Need-loop-holds Inv-loop μ-loop
 loop-holds c = (search needs, search needs, refl, refl, λ k a b. absurd (omega arith))

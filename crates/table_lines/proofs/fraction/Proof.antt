@@ -15,17 +15,17 @@ abscissa-requires : tie.Need-abscissa-requires
 abscissa-requires c κs = search needs
 
 returns : tie.Need-returns
-returns c = let p = c .before .before .before .before .pre in rw (c .abscissa .ensures) (whole-only _ (p .1) (p .2) (p .3) (c .before .if1 .taken))
+returns c = let p = c .before .before .before .before .pre in rw (c .abscissa .ensures) (whole-only _ (p .0) (p .1) (p .2) (c .before .if1 .taken))
 
 add-next : tie.Need-add-next
 add-next c = search needs
 
 digits-requires : tie.Need-digits-requires
-digits-requires c κs = let p = c .before .before .before .pre in let l = inside-text _ _ _ (sym (p .2) ∙ c .if1 .left) (omega arith) in (p .0, omega arith, omega arith)
+digits-requires c κs = let p = c .before .before .before .pre in let l = inside-text _ _ _ (sym (p .1) ∙ c .if1 .left) (omega arith) in (omega arith, omega arith)
 
 returns-2 : tie.Need-returns-2
 returns-2 c =
-    let p = c .before .before .before .before .before .before .pre in fraction-long _ (sym (p .2) ∙ c .before .before .before .if1 .left) (c .before .before .digits .ensures) true (c .if2 .taken)
+    let p = c .before .before .before .before .before .before .pre in fraction-long _ (sym (p .1) ∙ c .before .before .before .if1 .left) (c .before .before .digits .ensures) true (c .if2 .taken)
 
 sub-worth : tie.Need-sub-worth
 sub-worth c = search needs
@@ -36,19 +36,19 @@ worth-requires c κs = search needs
 mul-size : tie.Need-mul-size
 mul-size c =
     let p = c .before .before .before .before .before .before .before .before .pre in
-    let z = fraction-small _ (sym (p .2) ∙ c .before .before .before .before .before .if1 .left) (c .before .before .before .before .digits .ensures) (p .3) in
+    let z = fraction-small _ (sym (p .1) ∙ c .before .before .before .before .before .if1 .left) (c .before .before .before .before .digits .ensures) (p .2) in
     rw (c .before .worth .ensures) (omega arith)
 
 abscissa-requires-2 : tie.Need-abscissa-requires-2
 abscissa-requires-2 c κs =
     let p = c .before .before .before .before .before .before .before .before .pre in
-    rw (c .before .worth .ensures) (fraction-small _ (sym (p .2) ∙ c .before .before .before .before .before .if1 .left) (c .before .before .before .before .digits .ensures) (p .3))
+    rw (c .before .worth .ensures) (fraction-small _ (sym (p .1) ∙ c .before .before .before .before .before .if1 .left) (c .before .before .before .before .digits .ensures) (p .2))
 
 returns-3 : tie.Need-returns-3
 returns-3 c =
     let p = c .before .before .before .before .before .before .before .before .before .pre in
     rw (c .abscissa2 .ensures, c .before .before .worth .ensures)
-    (fraction-read _ (sym (p .2) ∙ c .before .before .before .before .before .before .if1 .left) (c .before .before .before .before .before .digits .ensures) _ (p .3)
+    (fraction-read _ (sym (p .1) ∙ c .before .before .before .before .before .before .if1 .left) (c .before .before .before .before .before .digits .ensures) _ (p .2)
     (c .before .before .before .if2 .left))
 
 pub fraction-spec : {M : Type 1} → statement M

@@ -9,47 +9,47 @@ add-next : tie.Need-add-next
 add-next c = search needs
 
 digits-requires : tie.Need-digits-requires
-digits-requires c κs = let p = c .before .before .pre in (p .0, omega arith, omega arith)
+digits-requires c κs = let p = c .before .before .pre in (omega arith, omega arith)
 
 returns : tie.Need-returns
-returns c = let p = c .before .before .before .before .before .pre in digit-long _ _ _ (p .1) (c .before .before .before .if1 .taken) (c .before .before .digits .ensures) (c .if2 .taken)
+returns c = let p = c .before .before .before .before .before .pre in digit-long _ _ _ p (c .before .before .before .if1 .taken) (c .before .before .digits .ensures) (c .if2 .taken)
 
 fraction-requires : tie.Need-fraction-requires
 fraction-requires c κs =
     let p = c .before .before .before .before .before .pre in let r = c .before .before .digits .ensures in
-    (p .0, r .high, r .stands, digit-small _ _ _ (p .1) (c .before .before .before .if1 .taken) r, c .if2 .left)
+    (r .high, r .stands, digit-small _ _ _ p (c .before .before .before .if1 .taken) r, c .if2 .left)
 
 returns-2 : tie.Need-returns-2
 returns-2 c =
     let p = c .before .before .before .before .before .before .pre in
-    digit-headed _ _ _ (p .1) (c .before .before .before .before .if1 .taken) (c .before .before .before .digits .ensures) (c .before .if2 .left) (c .fraction .result)
+    digit-headed _ _ _ p (c .before .before .before .before .if1 .taken) (c .before .before .before .digits .ensures) (c .before .if2 .left) (c .fraction .result)
     (c .fraction .ensures)
 
 returns-3 : tie.Need-returns-3
-returns-3 c = let p = c .before .before .before .pre in value-first _ _ _ (p .1) (c .before .if1 .left) (c .if3 .taken)
+returns-3 c = let p = c .before .before .before .pre in value-first _ _ _ p (c .before .if1 .left) (c .if3 .taken)
 
 digits-requires-2 : tie.Need-digits-requires-2
-digits-requires-2 c κs = let p = c .before .before .before .pre in (p .0, omega arith, omega arith)
+digits-requires-2 c κs = let p = c .before .before .before .pre in (omega arith, omega arith)
 
 returns-4 : tie.Need-returns-4
 returns-4 c =
-    let p = c .before .before .before .before .before .before .pre in sign-alone _ _ _ (p .1) (c .before .before .before .if3 .left) (c .before .before .digits2 .ensures) (c .if4 .taken)
+    let p = c .before .before .before .before .before .before .pre in sign-alone _ _ _ p (c .before .before .before .if3 .left) (c .before .before .digits2 .ensures) (c .if4 .taken)
 
 returns-5 : tie.Need-returns-5
 returns-5 c =
     let p = c .before .before .before .before .before .before .before .before .pre in
-    sign-long _ _ _ (p .1) (c .before .before .before .before .before .if3 .left) (c .before .before .before .before .digits2 .ensures) (c .before .before .if4 .left)
+    sign-long _ _ _ p (c .before .before .before .before .before .if3 .left) (c .before .before .before .before .digits2 .ensures) (c .before .before .if4 .left)
     (c .if5 .taken)
 
 fraction-requires-2 : tie.Need-fraction-requires-2
 fraction-requires-2 c κs =
     let p = c .before .before .before .before .before .before .before .before .pre in let r = c .before .before .before .before .digits2 .ensures in
-    (p .0, r .high, r .stands, sign-small _ _ _ (p .1) (c .before .before .before .before .before .if3 .left) r, c .if5 .left)
+    (r .high, r .stands, sign-small _ _ _ p (c .before .before .before .before .before .if3 .left) r, c .if5 .left)
 
 returns-6 : tie.Need-returns-6
 returns-6 c =
     let p = c .before .before .before .before .before .before .before .before .before .pre in
-    sign-headed _ _ _ (p .1) (c .before .before .before .before .before .before .if3 .left) (c .before .before .before .before .before .digits2 .ensures)
+    sign-headed _ _ _ p (c .before .before .before .before .before .before .if3 .left) (c .before .before .before .before .before .digits2 .ensures)
     (c .before .before .before .if4 .left) (c .before .if5 .left) (c .fraction2 .result) (c .fraction2 .ensures)
 
 pub head-spec : {M : Type 1} → statement M

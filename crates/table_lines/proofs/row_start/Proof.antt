@@ -12,10 +12,10 @@ use Rattle.table_lines.proofs.row_start.Statement.{statement}
 use Rattle.table_lines.proofs.row_start.Tie as tie
 
 abbrev Inv-loop : tie.InvT-loop
-Inv-loop t s from at₀ at = (from ≤ at) × (at ≤ length s) × (seen s from fresh ≡ seen s at fresh)
+Inv-loop s from at₀ at = (from ≤ at) × (at ≤ length s) × (seen s from fresh ≡ seen s at fresh)
 
 abbrev μ-loop : tie.MeasureT-loop
-μ-loop t s from at₀ at = length s - at
+μ-loop s from at₀ at = length s - at
 
 loop-holds : tie.Need-loop-holds Inv-loop μ-loop
 loop-holds c = search needs
@@ -43,7 +43,7 @@ returns-2 c =
     l .2 ∙ b .before ∙ start-end _ _ (b .high) (sym (c .before .before .entry-at .ensures) ∙ c .if2 .taken)
 
 line-end-requires : tie.Need-line-end-requires Inv-loop μ-loop
-line-end-requires c κs = (search needs, c .before .before .before .blanks .ensures .high, c .before .before .entry-at .ensures, c .before .if1 .left)
+line-end-requires c κs = (c .before .before .before .blanks .ensures .high, c .before .before .entry-at .ensures, c .before .if1 .left)
 
 enum-known-j : tie.Need-enum-known-j Inv-loop μ-loop
 enum-known-j c = search needs

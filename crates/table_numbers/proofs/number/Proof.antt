@@ -19,7 +19,7 @@ returns-2 : tie.Need-returns-2
 returns-2 c = search needs
 
 packed-requires : tie.Need-packed-requires
-packed-requires c κs = let p = c .before .before .before .pre in (p .0, p .1, c .before .if1 .left, ⊎-elim (λ x. x) (λ x. absurd (let y = c .if2 .left in omega arith)) (p .4))
+packed-requires c κs = let p = c .before .before .before .pre in (p .0, c .before .if1 .left, ⊎-elim (λ x. x) (λ x. absurd (let y = c .if2 .left in omega arith)) (p .3))
 
 returns-3 : tie.Need-returns-3
 returns-3 c = search needs

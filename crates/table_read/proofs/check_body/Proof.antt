@@ -1,9 +1,7 @@
 -- `table_read::check_body` meets its contract: with room for one ordinate, the pass answers and leaves the first.
-use mathlib.Core.Path.{refl}
 use borrow.Author.Needs.{needs, sfits-of}
 use mir.Syntax.{w32}
 use mir.Facts.{toZ-ofZ}
-use Rattle.alphabet_spec.specs.Entries.{table}
 use Rattle.table_read.proofs.AnswerLaws.{check-refused, check-first}
 use Rattle.table_read.proofs.check_body.Statement.{statement}
 use Rattle.table_read.proofs.check_body.Tie as tie
@@ -12,8 +10,7 @@ slice-aggregate-pass : tie.Need-slice-aggregate-pass
 slice-aggregate-pass c = search needs
 
 pass-requires : tie.Need-pass-requires
-unfolding table
-pass-requires c κs = (refl, c .before .before .before .pre)
+pass-requires c κs = search needs
 
 enum-known-n : tie.Need-enum-known-n
 enum-known-n c = search needs
@@ -24,8 +21,8 @@ new-requires c κs = search needs
 enum-told : tie.Need-enum-told
 enum-told c = search needs
 
-array-copy-out-t16 : tie.Need-array-copy-out-t16
-array-copy-out-t16 c = search needs
+array-copy-out-t13 : tie.Need-array-copy-out-t13
+array-copy-out-t13 c = search needs
 
 returns : tie.Need-returns
 returns c =
@@ -34,8 +31,8 @@ returns c =
 
 returns-2 : tie.Need-returns-2
 returns-2 c =
-    let told = c .before in let passed = told .before .before .before in let start = passed .before .before .before .before in
-    rw (toZ-ofZ (sfits-of {w = w32} (c .t16 .given))) (check-first (start .pre .some) (rw (told .enum-told .given .1) at (passed .pass .ensures)))
+    let told = c .before in let passed = told .before .before .before in let start = passed .before .before .before in
+    rw (toZ-ofZ (sfits-of {w = w32} (c .t13 .given))) (check-first (start .pre .some) (rw (told .enum-told .given .1) at (passed .pass .ensures)))
 
 pub check-body-spec : {M : Type 1} → statement M
 check-body-spec =
@@ -46,6 +43,6 @@ check-body-spec =
     enum-known-n
     new-requires
     enum-told
-    array-copy-out-t16
+    array-copy-out-t13
     returns
     returns-2)

@@ -9,16 +9,16 @@ use Rattle.table_read.proofs.pass.Statement.{statement}
 use Rattle.table_read.proofs.pass.Tie as tie
 
 abbrev Inv-loop : tie.InvT-loop
-Inv-loop t s fr out₀ r₀ out r = Reached (frame-rules fr) s out₀ out r
+Inv-loop s fr out₀ r₀ out r = Reached (frame-rules fr) s out₀ out r
 
 abbrev μ-loop : tie.MeasureT-loop
-μ-loop t s fr out₀ r₀ out r = length s - r .at
+μ-loop s fr out₀ r₀ out r = length s - r .at
 
 loop-holds : tie.Need-loop-holds Inv-loop μ-loop
 loop-holds c = reached-start _ _ _ _
 
 row-start-requires : tie.Need-row-start-requires Inv-loop μ-loop
-row-start-requires c κs = (c .before .before .pre .0, c .loop .inv .rests .high)
+row-start-requires c κs = c .loop .inv .rests .high
 
 enum-told : tie.Need-enum-told Inv-loop μ-loop
 enum-told c = search needs
@@ -52,7 +52,7 @@ read-line-requires : tie.Need-read-line-requires Inv-loop μ-loop
 read-line-requires c κs =
     let head = c .before .before in let read = head .before .before in let turn = read .before in let p = turn .before .before .pre in
     let x = rw (head .j2 .given .1) at (read .row-start .ensures) in
-    (p .0, p .1, turn .loop .inv .rests, x .1)
+    (p, turn .loop .inv .rests, x .1)
 
 enum-known-n : tie.Need-enum-known-n Inv-loop μ-loop
 enum-known-n c = search needs

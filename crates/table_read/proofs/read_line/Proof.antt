@@ -64,7 +64,7 @@ index-of-requires c κs = search needs
 passes-requires : tie.Need-passes-requires
 passes-requires c κs =
     let k = known c in let p = start (read k) .pre in let r = row (read k) in
-    (p .1, topped k .small, topped k .coarsest, rw (c .index-of .ensures) (index-small (r .dif) (r .k) (p .1 .few) (p .2 .few)))
+    (p .0, topped k .small, topped k .coarsest, rw (c .index-of .ensures) (index-small (r .dif) (r .k) (p .0 .few) (p .1 .few)))
 
 returns : tie.Need-returns
 returns c =
@@ -73,7 +73,7 @@ returns c =
     line-six (frame (read k)) _ (row (read k)) _ (topped k) fails [] []
 
 bare-line-requires : tie.Need-bare-line-requires
-bare-line-requires c κs = let k = known (indexed c) in (start (read k) .pre .0, topped k .high)
+bare-line-requires c κs = let k = known (indexed c) in topped k .high
 
 returns-2 : tie.Need-returns-2
 returns-2 c =
@@ -88,7 +88,7 @@ values-requires : tie.Need-values-requires
 values-requires c κs =
     let k = known (indexed (c .before .before .before .before)) in let p = start (read k) .pre in let t = topped k in
     let low = t .low in
-    record { lent = p .0; most = p .1 .few; some = omega arith; high = t .high; stands = t .stands; few = p .2 .few }
+    record { most = p .0 .few; some = omega arith; high = t .high; stands = t .stands; few = p .1 .few }
 
 returns-3 : tie.Need-returns-3
 returns-3 c = let h = c .before .before in line-four (frame h) _ (row h) _ (rw (c .enum-told .given .1) at (h .head .ensures)) [] []

@@ -13,20 +13,20 @@ use Rattle.table_values.proofs.differences.Statement.{statement}
 use Rattle.table_values.proofs.differences.Tie as tie
 
 abbrev Inv-loop : tie.InvT-loop
-Inv-loop t s points out₀ c at₀ e₀ k₀ q₀ step₀ form₀ out at e k q step form =
+Inv-loop s points out₀ c at₀ e₀ k₀ q₀ step₀ form₀ out at e k q step form =
     Went points s c (record { at = at; e = e; k = k; q = q; want = c .want; step = step; form = form }) out₀ out × (0 < q) × (length out ≡ length out₀)
 
 abbrev μ-loop : tie.MeasureT-loop
-μ-loop t s points out₀ c at₀ e₀ k₀ q₀ step₀ form₀ out at e k q step form = points - k
+μ-loop s points out₀ c at₀ e₀ k₀ q₀ step₀ form₀ out at e k q step form = points - k
 
 returns : tie.Need-returns Inv-loop μ-loop
-returns c = went-none _ _ (c .before .before .pre .1)
+returns c = went-none _ _ (c .before .before .pre)
 
 loop-holds : tie.Need-loop-holds Inv-loop μ-loop
-loop-holds c = let n = c .if1 .left in (went-none _ _ (c .before .before .pre .1), omega (arith, n), refl)
+loop-holds c = let n = c .if1 .left in (went-none _ _ (c .before .before .pre), omega (arith, n), refl)
 
 packed-requires : tie.Need-packed-requires Inv-loop μ-loop
-packed-requires c κs = let l = c .before .before .loop .inv .0 .sits in let d = c .before .loop-test .taken in (c .before .before .before .before .before .pre .0, l .stands, omega arith, omega arith)
+packed-requires c κs = let l = c .before .before .loop .inv .0 .sits in let d = c .before .loop-test .taken in (l .stands, omega arith, omega arith)
 
 enum-told : tie.Need-enum-told Inv-loop μ-loop
 enum-told c = search needs

@@ -33,7 +33,7 @@ entry-at-requires c κs = search needs
 
 returns-3 : tie.Need-returns-3
 returns-3 c =
-    let p = c .before .before .before .before .before .pre .2 in let b = c .before .blanks .ensures in let l = blank-moves _ _ _ _ (p .stands) (c .before .before .if2 .taken) b in (
+    let p = c .before .before .before .before .before .pre .1 in let b = c .before .blanks .ensures in let l = blank-moves _ _ _ _ (p .stands) (c .before .before .if2 .taken) b in (
       l,
       record {
         low = b .low;
@@ -55,7 +55,7 @@ returns-4 c = search needs
 number-requires : tie.Need-number-requires
 number-requires c κs =
     let p = c .before .before .before .before .pre in let a = c .before .before .before .before .args in
-    (p .0, p .2 .stands, c .before .before .if1 .left, p .2 .some, kinds _ _ _ (p .2 .stands) (c .before .before .if1 .left) (c .before .if2 .left) (c .if3 .left))
+    (p .1 .stands, c .before .before .if1 .left, p .1 .some, kinds _ _ _ (p .1 .stands) (c .before .before .if1 .left) (c .before .if2 .left) (c .if3 .left))
 
 enum-told-2 : tie.Need-enum-told-2
 enum-told-2 c = search needs
@@ -67,10 +67,10 @@ value-requires : tie.Need-value-requires
 value-requires c κs =
     let p = c .before .before .before .before .before .before .before .before .before .pre in let x = rw (c .before .before .v .given .1) at (c .before .before .before .before .number .ensures) in
     record {
-      sits = p .2;
-      most = p .1;
+      sits = p .1;
+      most = p .0;
       before-point = c .before .before .before .before .before .before .before .if1 .left;
-      kind = kinds _ _ _ (p .2 .stands) (c .before .before .before .before .before .before .before .if1 .left)
+      kind = kinds _ _ _ (p .1 .stands) (c .before .before .before .before .before .before .before .if1 .left)
           (c .before .before .before .before .before .before .if2 .left) (c .before .before .before .before .before .if3 .left);
       small = x .small;
       token = x .token;

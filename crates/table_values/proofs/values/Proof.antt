@@ -10,10 +10,10 @@ use Rattle.table_values.proofs.values.Statement.{statement}
 use Rattle.table_values.proofs.values.Tie as tie
 
 abbrev Inv-loop : tie.InvT-loop
-Inv-loop t s points out₀ at e k want c₀ out c = Went points s (first-state at e k want) c out₀ out × (length out ≡ length out₀)
+Inv-loop s points out₀ at e k want c₀ out c = Went points s (first-state at e k want) c out₀ out × (length out ≡ length out₀)
 
 abbrev μ-loop : tie.MeasureT-loop
-μ-loop t s points out₀ at e k want c₀ out c = length s - c .at
+μ-loop s points out₀ at e k want c₀ out c = length s - c .at
 
 loop-holds : tie.Need-loop-holds Inv-loop μ-loop
 loop-holds c =
@@ -21,12 +21,12 @@ loop-holds c =
     (went-none _ _ (record { some = p .some; high = p .high; stands = p .stands; small = omega arith; size = omega arith; few = p .few }), refl)
 
 differences-requires : tie.Need-differences-requires Inv-loop μ-loop
-differences-requires c κs = (c .before .before .before .pre .lent, c .before .loop .inv .0 .sits)
+differences-requires c κs = c .before .loop .inv .0 .sits
 
 token-requires : tie.Need-token-requires Inv-loop μ-loop
 token-requires c κs =
     let p = c .before .before .before .before .before .before .pre in
-    (p .lent, p .most, c .before .before .differences .ensures .sits)
+    (p .most, c .before .before .differences .ensures .sits)
 
 enum-known-d : tie.Need-enum-known-d Inv-loop μ-loop
 enum-known-d c = search needs
