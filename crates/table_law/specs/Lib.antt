@@ -1,4 +1,5 @@
 pub mod Spelling
+pub mod LineLengths
 pub mod Runs
 pub mod Heads
 pub mod Tokens
