@@ -8,4 +8,5 @@ pub mod Complete
 pub mod Sound
 pub mod Small
 pub mod Outcome
+pub mod Every
 pub mod Places
