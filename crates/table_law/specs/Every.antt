@@ -1,4 +1,5 @@
 -- What holds of the tokens of every text, by one induction on its bytes: S of those before a line's head, I of those after it. Assumes nothing.
+use mathlib.Core.Path.{_≡_}
 use mathlib.Core.Bool.{Bool, true, false}
 use mathlib.Core.List.{List, [], _∷_}
 use Prim.Native.Nat.{ℕ, zero, suc, _+_, _≤_, _<_}
@@ -16,7 +17,7 @@ ByteIn lo hi a = (lo ≤ a) × (a < hi)
 
 -- what S and I need to hold of the tokens of a text whose bytes stand from lo to hi
 pub record Everywhere (lo hi : ℕ) (S I : Tokens → Type 0) : Type 0 where
-  pub s-over : (a : ℕ) → lo ≤ a → a ≤ hi → S (over a)
+  pub s-over : S (over hi)
   pub s-fault : (c a : ℕ) → ByteIn lo hi a → S (fault c a)
   pub s-head : (a h u : ℕ) (r : Tokens) → ByteIn lo hi a → I r → S (head a h u r)
   pub i-fault : (c a : ℕ) → ByteIn lo hi a → I (fault c a)
@@ -77,14 +78,14 @@ module _ (lo hi : ℕ) (S I : Tokens → Type 0) (e : Everywhere lo hi S I) wher
     steps fresh c = opens c
     steps (inner q) c = insides q c
 
-  stopped : (a : ℕ) → lo ≤ a → a ≤ hi → (m : Mode) → Holds m (stop a m)
+  stopped : (m : Mode) → Holds m (stop hi m)
   unfolding stop
-  stopped a l h fresh = e .s-over a l h
-  stopped a l h (inner q) = e .i-line (over a) (e .s-over a l h)
+  stopped fresh = e .s-over
+  stopped (inner q) = e .i-line (over hi) (e .s-over)
 
-  pub every : (tabs : Bool) (s : List ℕ) (n a : ℕ) (m : Mode) → lo ≤ a → a + length s ≤ hi → Holds m (tokens tabs s n a m)
+  pub every : (tabs : Bool) (s : List ℕ) (n a : ℕ) (m : Mode) → lo ≤ a → a + length s ≡ hi → Holds m (tokens tabs s n a m)
   unfolding tokens
-  every tabs [] n a m l h = stopped a l (omega arith) m
+  every tabs [] n a m l h = let z : a ≡ hi = omega arith in rw z (stopped m)
   every tabs (b ∷ s) zero a m l h =
       steps s a (l, omega arith) (λ n. tokens tabs s n (suc a)) (λ n x. every tabs s n (suc a) x (omega arith) (omega arith)) m (kind tabs b)
   every tabs (b ∷ s) (suc n) a m l h = every tabs s n (suc a) m (omega arith) (omega arith)

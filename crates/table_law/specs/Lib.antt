@@ -10,3 +10,5 @@ pub mod Small
 pub mod Outcome
 pub mod Every
 pub mod Places
+pub mod Linewise
+pub mod WholeLine

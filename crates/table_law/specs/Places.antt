@@ -1,39 +1,42 @@
 -- The place of a refusal lies in the body, or at its end. Assumes nothing.
+use mathlib.Core.Path.{_≡_, refl}
 use mathlib.Core.Bool.{Bool, true, false}
 use mathlib.Core.List.{List, [], _∷_}
 use Prim.Native.Nat.{ℕ, suc, _+_, _≤_}
 use native.Mathlib.Omega.{arith}
+use native.Mathlib.Nat.{zero-add}
 use lib.Dec.{ltb, leb, eqb}
 use lib.IntN.{ℤ}
 use lib.ListN.{length}
 use Rattle.terms.specs.Logic.{pick, both, by-case}
 use Rattle.table_spec.specs.Frame.{Rules, rules, abscissa, longest-body, longest-line, frame-legal}
 use Rattle.table_spec.specs.Values.{Form, Own, Spot, first, after, lastOr, index}
-use Rattle.table_spec.specs.Reading.{Tokens, over, fault, head, value, line, Mode, fresh, inner, tokens, Says, adds, refuses, says, Answer, refuse, accept, push, bare, difBefore}
+use Rattle.table_spec.specs.Reading.{Tokens, over, fault, head, value, line, fresh, tokens, Says, adds, refuses, says, Answer, refuse, accept, push, bare, difBefore}
 use Rattle.table_spec.specs.Reading.{took, checked, finish, judge, readLines, lineLength, LongLine, all-short, long-at, longLine, sooner, read, readTable}
-use Rattle.table_law.specs.Every.{ByteIn, Everywhere, every}
+use Rattle.table_law.specs.Every.{ByteIn, every}
 
 -- ---- tokens
 
--- every token stands at a byte of a text, from lo on and before hi, and its end no later than hi
+-- every token stands at a byte of a text that begins at lo and ends at hi
 abbrev pub Placed : ℕ → ℕ → Tokens → Type 0
-Placed lo hi (over a) = (lo ≤ a) × (a ≤ hi)
+Placed lo hi (over a) = (lo ≤ a) × (a ≡ hi)
 Placed lo hi (fault c a) = ByteIn lo hi a
 Placed lo hi (head a h u r) = ByteIn lo hi a × Placed lo hi r
 Placed lo hi (value a v r) = ByteIn lo hi a × Placed lo hi r
 Placed lo hi (line r) = Placed lo hi r
 
-pub tokens-placed : (tabs : Bool) (s : List ℕ) (a hi : ℕ) → a + length s ≤ hi → Placed a hi (tokens tabs s 0 a fresh)
-tokens-placed tabs s a hi l =
+pub tokens-placed : (tabs : Bool) (s : List ℕ) (a : ℕ) → Placed a (a + length s) (tokens tabs s 0 a fresh)
+tokens-placed tabs s a =
+    let hi = a + length s in
     every a hi (Placed a hi) (Placed a hi)
     (record {
-      s-over = λ b x y. (x, y);
+      s-over = (omega arith, refl);
       s-fault = λ c b x. x;
       s-head = λ b h u r x y. (x, y);
       i-fault = λ c b x. x;
       i-value = λ b v r x y. (x, y);
       i-line = λ r x. x;
-    }) tabs s 0 a fresh (omega arith) l
+    }) tabs s 0 a fresh (omega arith) refl
 
 -- ---- what they say
 
@@ -62,7 +65,9 @@ module _ (lo hi : ℕ) where
 
     pub judge-in : (x : Tokens) → Placed lo hi x → (i p : ℕ) (w : Spot) → AnswerIn lo hi (judge R x i p w)
     unfolding judge checked finish
-    judge-in (over a) l i p w = picked (ltb i (R .points)) (refuse 12 a) _ l (picked (difBefore w) (refuse 13 a) (accept []) l tt)
+    judge-in (over a) l i p w =
+        let z : (lo ≤ a) × (a ≤ hi) = (l .0, let k = l .1 in omega arith) in
+        picked (ltb i (R .points)) (refuse 12 a) _ z (picked (difBefore w) (refuse 13 a) (accept []) z tt)
     judge-in (fault c a) l i p w = (l .0, let k = l .1 in omega arith)
     judge-in (head a h u r) l i p w =
         let z : (lo ≤ a) × (a ≤ hi) = (l .0 .0, let k = l .0 .1 in omega arith) in
@@ -107,7 +112,7 @@ pub place-in : (R : Rules) (s : List ℕ) → AnswerIn 0 (length s) (read R s)
 unfolding read readLines
 place-in R s =
     sooner-in 0 (length s) (longLine true 0 s) (readLines R s) (long-in 0 (length s) true 0 s (omega arith) (omega arith))
-    (judge-in 0 (length s) R (tokens (R .tabs) s 0 0 fresh) (tokens-placed (R .tabs) s 0 (length s) (omega arith)) 0 0 (after Own))
+    (judge-in 0 (length s) R (tokens (R .tabs) s 0 0 fresh) (rw (zero-add (length s)) at (tokens-placed (R .tabs) s 0)) 0 0 (after Own))
 
 pub table-place : (f l : ℤ) (n : ℕ) (s : List ℕ) (space : ℕ) → LowAnswer (length s) (readTable f l n s space)
 unfolding readTable
