@@ -10,11 +10,13 @@ use lib.ListN.{length}
 use borrow.Author.Tests.{leb-true}
 use Rattle.terms.specs.Logic.{pick, by-case, no-way}
 use Rattle.alphabet_spec.specs.Kinds.{Lead, sqz, dif, dup}
-use Rattle.table_spec.specs.Frame.{nearest, zero-ordinate, zero-abscissa}
+use Rattle.table_spec.specs.Frame.{longest-line, nearest, zero-ordinate, zero-abscissa}
 use Rattle.table_spec.specs.Values.{Form, Own, Gap, By, Dup, isDif}
 use Rattle.table_spec.specs.Numerals.{top, low, leadByte, numeral, fraction, magnitude, headText}
 use Rattle.table_spec.specs.Groups.{form, sqzText, tokenText, dupText, group}
-use Rattle.table_spec.specs.Writing.{longest-line, put, check, open-line, go-on, close, text, lines-of, written}
+use Rattle.table_spec.specs.Writing.{put, check, open-line, go-on, close, text, lines-of, written}
+use Rattle.table_law.specs.Spelling as sp
+use Rattle.table_law.specs.Spelling.{Short}
 use Rattle.table_write_law.specs.Written.{Takes}
 use Rattle.table_write_law.specs.Lengths.{check-most, head-most}
 use Rattle.table_spec.specs.declared.Style.{Style}
@@ -44,6 +46,21 @@ pub inner-lined : {c : ℕ} {s : List ℕ} → LinedOf Inner c s → Lined c s
 inner-lined over = over
 inner-lined (ends l x) = ends l (inner-lined x)
 inner-lined (byte {b = b} h x) = let k = h .0 in let o : Ordinary b = (λ e. omega arith, λ e. omega arith) in byte o (inner-lined x)
+
+-- such lines are short as reading asks for it (02, T-06)
+lined-most : {P : ℕ → Type 0} {c : ℕ} {s : List ℕ} → LinedOf P c s → c ≤ longest-line
+lined-most over = omega arith
+lined-most (ends l x) = l
+lined-most (byte h x) = let k = lined-most x in omega arith
+
+shorter : {P : ℕ → Type 0} {c : ℕ} {s : List ℕ} → LinedOf P c s → (m : ℕ) → c + m ≡ longest-line → Short m s
+shorter over m e = sp.over
+shorter (ends l x) m e = sp.cr-lf (shorter x longest-line refl)
+shorter (byte h x) zero e = let k = lined-most x in absurd (omega arith)
+shorter (byte h x) (suc m) e = sp.byte (shorter x m (omega arith))
+
+pub lined-short : {P : ℕ → Type 0} {s : List ℕ} → LinedOf P 0 s → Short longest-line s
+lined-short x = shorter x longest-line refl
 
 -- ---- the bytes of tokens and heads
 

@@ -114,7 +114,7 @@ module _ (st : Style) (R : Rules) (few : R .points ≤ 65536) (hd : ℕ → List
       rw (add-suc i n, ← suc-add i n) (spells ys n (suc i) y r col (s .1) o (le-of-suc-le-suc l) (omega arith) (omega arith))
 
   -- the text of a list that is not empty
-  pub lines-spell : (ys : List ℕ) → Small ys → length ys ≡ R .points → 0 < R .points → sp.Spells R ys (lines-of st hd ys)
+  pub lines-body : (ys : List ℕ) → Small ys → length ys ≡ R .points → 0 < R .points → sp.Body R 0 0 false ys (lines-of st hd ys)
   unfolding lines-of
-  lines-spell [] s b h = absurd (omega arith)
-  lines-spell (y ∷ ys) s b h = opens y ys (spells ys) (s .0) (s .1) false 0 0 (λ e. no-way e) (lit< tt) (omega arith)
+  lines-body [] s b h = absurd (omega arith)
+  lines-body (y ∷ ys) s b h = opens y ys (spells ys) (s .0) (s .1) false 0 0 (λ e. no-way e) (lit< tt) (omega arith)

@@ -11,7 +11,8 @@ use Rattle.terms.specs.Logic.{pick}
 use Rattle.table_spec.specs.declared.Style.{Style}
 use Rattle.table_spec.specs.Values.{isDif}
 use Rattle.table_spec.specs.Groups.{in-full, form, tokenText, dupText, group}
-use Rattle.table_spec.specs.Writing.{longest-line, put, open-line, go-on, close, text, lines-of}
+use Rattle.table_spec.specs.Frame.{longest-line}
+use Rattle.table_spec.specs.Writing.{put, open-line, go-on, close, text, lines-of}
 use Rattle.table_write_law.specs.Tokens.{form-cases}
 
 -- "Each value is written in full"
