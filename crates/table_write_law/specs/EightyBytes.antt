@@ -189,7 +189,7 @@ onward c (b ∷ g) h l =
 
 module _ (st : Style) (N : ℕ) (few : N ≤ 65536) (hd : ℕ → List ℕ) (short : (i : ℕ) → i < N → length (hd i) ≤ 12) (above : (i : ℕ) → Above (hd i)) where
   abbrev Rows : List ℕ → Type 0
-  Rows zs = (n i p : ℕ) (d : Bool) (col : ℕ) → n ≤ length zs → 0 < i → i + length zs ≡ N → col ≤ 80 → LinedOf Inner col (text st hd zs n i p d col)
+  Rows zs = (n i p : ℕ) (d : Bool) (col : ℕ) → n ≤ length zs → 0 < i → i + length zs ≡ N → col ≤ longest-line → LinedOf Inner col (text st hd zs n i p d col)
 
   check-above : (i p : ℕ) → Above (check st hd i p)
   unfolding check
@@ -201,7 +201,7 @@ module _ (st : Style) (N : ℕ) (few : N ≤ 65536) (hd : ℕ → List ℕ) (sho
   close-lined false i p g l = over
 
   module _ (y : ℕ) (ys : List ℕ) (ih : Rows ys) where
-    put-lined : (i p col : ℕ) → i + length (y ∷ ys) ≡ N → col + length (group st p y ys) ≤ 80 → LinedOf Inner col (put st hd (text st hd ys) col i p y ys)
+    put-lined : (i p col : ℕ) → i + length (y ∷ ys) ≡ N → col + length (group st p y ys) ≤ longest-line → LinedOf Inner col (put st hd (text st hd ys) col i p y ys)
     unfolding put
     put-lined i p col b l =
         let r = form (seen-after st p) y in
@@ -219,11 +219,11 @@ module _ (st : Style) (N : ℕ) (few : N ≤ 65536) (hd : ℕ → List ℕ) (sho
         let w = group-slim st 0 y ys (omega arith) in
         onward 0 (hd i) (above i) (rw zero-add (put-lined i 0 (length (hd i)) b (omega (arith, w))))
 
-    goes-lined : (d : Bool) (i p col : ℕ) → 0 < i → i + length (y ∷ ys) ≡ N → col ≤ 80 → LinedOf Inner col (go-on st hd (text st hd ys) d col i p y ys)
+    goes-lined : (d : Bool) (i p col : ℕ) → 0 < i → i + length (y ∷ ys) ≡ N → col ≤ longest-line → LinedOf Inner col (go-on st hd (text st hd ys) d col i p y ys)
     unfolding go-on
     goes-lined d i p col g b l =
-        by-case (λ t. LinedOf Inner col (pick t (put st hd (text st hd ys) col i p y ys) (13 ∷ 10 ∷ open-line st hd (text st hd ys) d i p y ys))) (leb (col + length (group st p y ys)) 80)
-        (λ e. put-lined i p col b (leb-true (col + length (group st p y ys)) 80 e))
+        by-case (λ t. LinedOf Inner col (pick t (put st hd (text st hd ys) col i p y ys) (13 ∷ 10 ∷ open-line st hd (text st hd ys) d i p y ys))) (leb (col + length (group st p y ys)) longest-line)
+        (λ e. put-lined i p col b (leb-true (col + length (group st p y ys)) longest-line e))
         (λ _. ends l (opens-lined d i p (λ _. g) b))
 
   text-lined : (zs : List ℕ) → Rows zs

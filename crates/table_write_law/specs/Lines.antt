@@ -10,7 +10,7 @@ use lib.Dec.{leb, lit<}
 use lib.ListN.{length, take, drop, take-append-drop}
 use lib.Seq.{length-take-le}
 use Rattle.terms.specs.Logic.{pick, by-case, no-way}
-use Rattle.table_spec.specs.Frame.{Rules}
+use Rattle.table_spec.specs.Frame.{Rules, longest-line}
 use Rattle.table_spec.specs.Values.{Form, Own, Gap, By, Dup, isDif, first, after, copies, lastOr}
 use Rattle.table_spec.specs.Groups.{form, sqzText, dupText, group}
 use Rattle.table_spec.specs.Writing.{put, check, open-line, go-on, close, text, lines-of}
@@ -101,7 +101,7 @@ module _ (st : Style) (R : Rules) (few : R .points ≤ 65536) (hd : ℕ → List
     goes-on r i p col o a b =
         let K = text st hd ys in
         by-case (λ t. Inside R (after r) i p (y ∷ ys) (pick t (put st hd K col i p y ys) (13 ∷ 10 ∷ open-line st hd K (isDif r) i p y ys)))
-        (leb (col + length (group st p y ys)) 80)
+        (leb (col + length (group st p y ys)) longest-line)
         (λ e. put-next r i p col (o .small) b)
         (λ e. line-ends (opens (isDif r) i p (λ d. (o .given d, a)) (o .small) b))
 

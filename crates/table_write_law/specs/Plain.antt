@@ -56,7 +56,7 @@ module _ (st : Style) (full : in-full st ≡ true) (hd : ℕ → List ℕ) where
       ) refl
 
   -- the whole text: the head of the first point, and the values; the first one fits
-  pub plain-lines : (y : ℕ) (ys : List ℕ) → length (hd 0) + length (valueText st y) ≤ 80 → lines-of st hd (y ∷ ys) ≡ hd 0 ++ values (valueText st) hd (y ∷ ys) 0 (length (hd 0))
+  pub plain-lines : (y : ℕ) (ys : List ℕ) → length (hd 0) + length (valueText st y) ≤ longest-line → lines-of st hd (y ∷ ys) ≡ hd 0 ++ values (valueText st) hd (y ∷ ys) 0 (length (hd 0))
   unfolding lines-of open-line values
   plain-lines y ys h =
-      rw (le-leb (length (hd 0) + length (valueText st y)) 80 h, plain-put (text st hd ys) (length (hd 0)) 0 0 y ys, plain-text ys 1 y (length (hd 0) + length (valueText st y))) refl
+      rw (le-leb (length (hd 0) + length (valueText st y)) longest-line h, plain-put (text st hd ys) (length (hd 0)) 0 0 y ys, plain-text ys 1 y (length (hd 0) + length (valueText st y))) refl
