@@ -6,19 +6,12 @@ use Prim.Native.Nat.{ℕ, zero, suc, _≤_}
 use native.Mathlib.Omega.{arith}
 use native.Mathlib.Nat.{not-suc-le-zero, le-of-suc-le-suc}
 use lib.Dec.{ltb, eqb}
-use borrow.Author.Tests.{ltb-false, le-ltb, eqb-true}
+use borrow.Author.Tests.{ltb-false, eqb-true}
 use Rattle.terms.specs.Logic.{pick, both, by-case, zero-one, no-way, both-true}
 use Rattle.table_spec.specs.Frame.{longest-line}
 use Rattle.table_spec.specs.Reading.{starts, lineLength, LongLine, all-short, long-at, longLine, Answer, refuse, accept, sooner}
-use Rattle.table_spec.specs.ReadingLaws.{no-accept}
+use Rattle.table_spec.specs.ReadingLaws.{no-accept, begun}
 use Rattle.table_law.specs.Spelling.{Short, over, lf, cr-lf, byte}
-
--- ---- where a line begins that is not long, reading goes on as within a line
-
-pub begun : (a : ℕ) (s : List ℕ) → lineLength s ≤ longest-line → longLine true a s ≡ longLine false a s
-unfolding longLine
-begun a [] l = refl
-begun a (b ∷ s) l = rw (le-ltb longest-line (lineLength (b ∷ s)) l) refl
 
 -- ---- lines that are spelled short are short
 

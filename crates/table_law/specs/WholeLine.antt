@@ -10,13 +10,12 @@ use native.Mathlib.Nat.{add-suc, suc-add}
 use lib.Dec.{ltb, leb}
 use lib.ListN.{length, length-append}
 use borrow.Author.Tests.{ltb-false, le-ltb, lt-ltb}
-use Rattle.terms.specs.Logic.{pick, by-case, no-way}
+use Rattle.terms.specs.Logic.{pick, by-case}
 use Rattle.table_spec.specs.Frame.{Rules, longest-line}
 use Rattle.table_spec.specs.Values.{Form, Own, Spot, first, after, lastOr, index}
 use Rattle.table_spec.specs.Reading.{Tokens, over, fault, head, value, line, fresh, tokens, Says, adds, refuses, says, Answer, refuse, accept, push, bare, difBefore}
 use Rattle.table_spec.specs.Reading.{took, checked, finish, judge, readLines, lineLength, LongLine, all-short, long-at, longLine, sooner, read}
-use Rattle.table_spec.specs.ReadingLaws.{push-none, push-push}
-use Rattle.table_law.specs.LineLengths.{begun}
+use Rattle.table_spec.specs.ReadingLaws.{push-none, push-push, long-first, begun}
 use Rattle.table_law.specs.Every.{every}
 use Rattle.table_law.specs.Places.{Placed, tokens-placed, AnswerIn, judge-in, LongIn, long-in}
 use Rattle.table_law.specs.Linewise.{and-then, NoLf, linewise, within-line}
@@ -210,11 +209,6 @@ unfolding lineLength
 length-line [] s t = refl
 length-line (b ∷ []) s t = refl
 length-line (b ∷ c ∷ w) s t = rw (length-line (c ∷ w) s t) refl
-
-long-first : (a : ℕ) (s : List ℕ) → ltb longest-line (lineLength s) ≡ true → longLine true a s ≡ long-at a
-unfolding longLine lineLength
-long-first a [] e = no-way e
-long-first a (b ∷ s) e = rw e refl
 
 short-then : (w s : List ℕ) (a : ℕ) → NoLf w → longLine false a (w ++ 10 ∷ s) ≡ longLine true (a + suc (length w)) s
 unfolding longLine
