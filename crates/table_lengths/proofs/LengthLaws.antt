@@ -4,7 +4,7 @@ use mathlib.Core.Bool.{Bool, true, false}
 use mathlib.Core.List.{List, [], _∷_}
 use Prim.Native.Nat.{ℕ, zero, suc, _+_, _-_, _≤_, _<_}
 use native.Mathlib.Omega.{arith}
-use native.Mathlib.Nat.{add-zero, add-suc, suc-add}
+use native.Mathlib.Nat.{suc-add}
 use native.Mathlib.Numerals.{add-one}
 use lib.Dec.{ltb, eqb}
 use lib.ListN.{length, drop, getD, length-drop}
@@ -13,18 +13,22 @@ use borrow.Author.Tests.{le-ltb, lt-ltb, eqb-true, eqb-false, eq-eqb, ne-eqb}
 use Rattle.terms.specs.Logic.{pick, both, by-case, both-true, no-way}
 use Rattle.table_spec.specs.Frame.{longest-line}
 use Rattle.table_spec.specs.Reading.{starts, lineLength, all-short, long-at, longLine}
-use Rattle.table_spec.specs.ReadingLaws.{long-first, begun}
+use Rattle.table_spec.specs.ReadingLaws.{long-first}
 use Rattle.table_lengths.specs.Lengths.{LastLf, NextLine, longFrom}
 
 -- ---- the end of the text
 
+-- a byte more
+count-on : (b : ℕ) (t : List ℕ) (k : ℕ) → lineLength t ≤ k → lineLength (b ∷ t) ≤ suc k
+unfolding lineLength
+count-on b t k l =
+    by-case (λ q. pick q 0 (pick (both (eqb b 13) (starts 10 t)) 0 (suc (lineLength t))) ≤ suc k) (eqb b 10) (λ _. omega arith)
+    (λ _. by-case (λ q. pick q 0 (suc (lineLength t)) ≤ suc k) (both (eqb b 13) (starts 10 t)) (λ _. omega arith) (λ _. omega arith))
+
 length-most : (t : List ℕ) → lineLength t ≤ length t
 unfolding lineLength
 length-most [] = omega arith
-length-most (b ∷ t) =
-    let z = length-most t in
-    by-case (λ q. pick q 0 (pick (both (eqb b 13) (starts 10 t)) 0 (suc (lineLength t))) ≤ suc (length t)) (eqb b 10) (λ _. omega arith)
-    (λ _. by-case (λ q. pick q 0 (suc (lineLength t)) ≤ suc (length t)) (both (eqb b 13) (starts 10 t)) (λ _. omega arith) (λ _. omega arith))
+length-most (b ∷ t) = count-on b t (length t) (length-most t)
 
 few-bytes : (begins : Bool) (a : ℕ) (t : List ℕ) → length t ≤ longest-line → longLine begins a t ≡ all-short
 unfolding longLine
@@ -41,10 +45,7 @@ lf-length : (t : List ℕ) (k : ℕ) → eqb (getD t k 0) 10 ≡ true → lineLe
 unfolding lineLength
 lf-length [] k e = omega arith
 lf-length (b ∷ t) zero e = rw e (omega arith)
-lf-length (b ∷ t) (suc k) e =
-    let z = lf-length t k e in
-    by-case (λ q. pick q 0 (pick (both (eqb b 13) (starts 10 t)) 0 (suc (lineLength t))) ≤ suc k) (eqb b 10) (λ _. omega arith)
-    (λ _. by-case (λ q. pick q 0 (suc (lineLength t)) ≤ suc k) (both (eqb b 13) (starts 10 t)) (λ _. omega arith) (λ _. omega arith))
+lf-length (b ∷ t) (suc k) e = count-on b t k (lf-length t k e)
 
 no-lf-here : {A : Type 0} (k : ℕ) → eqb (getD [] k 0) 10 ≡ true → A
 no-lf-here zero e = no-way e
@@ -70,6 +71,32 @@ past-lf (b ∷ t) (suc k) e l begins a =
     let n : a + suc (suc k) ≡ suc a + suc k = omega arith in
     short-here begins a b t (omega (arith, z, l)) ∙ rw n (past-lf t k e (omega arith) (eqb b 10) (suc a))
 
+-- ---- CR LF after at most 80 bytes
+
+abbrev CrLf : List ℕ → ℕ → Bool
+CrLf t k = both (eqb (getD t k 0) 13) (eqb (getD t (suc k) 0) 10)
+
+starts-lf : (t : List ℕ) → starts 10 t ≡ eqb (getD t 0 0) 10
+starts-lf [] = refl
+starts-lf (b ∷ t) = refl
+
+cr-length : (t : List ℕ) (k : ℕ) → CrLf t k ≡ true → lineLength t ≤ k
+unfolding lineLength
+cr-length [] k e = omega arith
+cr-length (b ∷ t) zero e = rw (starts-lf t, e) (by-case (λ q. pick q 0 0 ≤ 0) (eqb b 10) (λ _. omega arith) (λ _. omega arith))
+cr-length (b ∷ t) (suc k) e = count-on b t k (cr-length t k e)
+
+past-cr : (t : List ℕ) (k : ℕ) → CrLf t k ≡ true → k ≤ longest-line → (begins : Bool) (a : ℕ) → longLine begins a t ≡ longLine true (a + suc (suc k)) (drop (suc (suc k)) t)
+past-cr [] k e l begins a = no-lf-here (suc k) (both-true (eqb (getD [] k 0) 13) (eqb (getD [] (suc k) 0) 10) e .1)
+past-cr (b ∷ t) zero e l begins a =
+    let z = cr-length (b ∷ t) 0 e in
+    let n : a + 2 ≡ suc a + 1 = omega arith in
+    short-here begins a b t (omega (arith, z)) ∙ rw n (past-lf t 0 (both-true (eqb b 13) (eqb (getD t 0 0) 10) e .1) (omega arith) (eqb b 10) (suc a))
+past-cr (b ∷ t) (suc k) e l begins a =
+    let z = cr-length (b ∷ t) (suc k) e in
+    let n : a + suc (suc (suc k)) ≡ suc a + suc (suc k) = omega arith in
+    short-here begins a b t (omega (arith, z, l)) ∙ rw n (past-cr t k e (omega arith) (eqb b 10) (suc a))
+
 -- ---- no LF among the first bytes
 
 abbrev NoLfBelow : List ℕ → ℕ → Type 0
@@ -77,10 +104,6 @@ NoLfBelow t n = (j : ℕ) → j < n → eqb (getD t j 0) 10 ≡ false
 
 further : (b : ℕ) (t : List ℕ) (n : ℕ) → NoLfBelow (b ∷ t) (suc n) → NoLfBelow t n
 further b t n h j l = h (suc j) (omega arith)
-
-starts-lf : (t : List ℕ) → starts 10 t ≡ eqb (getD t 0 0) 10
-starts-lf [] = refl
-starts-lf (b ∷ t) = refl
 
 no-cr-lf : (b : ℕ) (t : List ℕ) → eqb (getD t 0 0) 10 ≡ false → both (eqb b 13) (starts 10 t) ≡ false
 no-cr-lf b t e = rw (starts-lf t, e) (by-case (λ q. both q false ≡ false) (eqb b 13) (λ _. refl) (λ _. refl))
@@ -92,25 +115,11 @@ long-length (suc n) [] h l = absurd (omega arith)
 long-length (suc n) (b ∷ t) h l =
     rw (h 0 (omega arith), no-cr-lf b t (h 1 (omega arith)), long-length n t (further b t (suc n) h) (omega arith), suc-add n (lineLength (drop n t))) refl
 
-within-line : (n : ℕ) (t : List ℕ) (a : ℕ) → NoLfBelow t n → n ≤ length t → longLine false a t ≡ longLine false (a + n) (drop n t)
-unfolding longLine
-within-line zero t a h l = rw (add-zero a) refl
-within-line (suc n) [] a h l = absurd (omega arith)
-within-line (suc n) (b ∷ t) a h l = rw (h 0 (omega arith), add-suc a n, ← suc-add a n) (within-line n t (suc a) (further b t n h) (omega arith))
-
--- the line from its byte 80 on, which is no LF: it ends there with CR LF, or that byte is one too many
-abbrev CrLf : List ℕ → ℕ → Bool
-CrLf t j = both (eqb (getD t j 0) 13) (eqb (getD t (suc j) 0) 10)
-
+-- from byte 80 on, which is no LF and not the CR of CR LF: that byte is one too many
 one-more : (u : List ℕ) → 0 < length u → eqb (getD u 0 0) 10 ≡ false → CrLf u 0 ≡ false → 1 ≤ lineLength u
 unfolding lineLength
 one-more [] l e f = absurd (omega arith)
 one-more (c ∷ u) l e f = rw (e, starts-lf u, f) (omega arith)
-
-no-more : (u : List ℕ) → eqb (getD u 0 0) 10 ≡ false → CrLf u 0 ≡ true → lineLength u ≡ 0
-unfolding lineLength
-no-more [] e f = refl
-no-more (c ∷ u) e f = rw (e, starts-lf u, f) refl
 
 -- ---- the same in a text, from a place on
 
@@ -150,18 +159,11 @@ module _ (s : List ℕ) (at : ℕ) where
       let o = one-more (drop 80 t) m (rw (getD-drop 80 t 0 0) (h 80 (omega arith))) c in
       long-first at t (lt-ltb longest-line (lineLength t) (omega (arith, z, o)))
 
-  -- CR LF follows the 80 bytes: the next line begins after it
-  pub lf-after : LastLf s at at → at + 80 < length s → both (eqb (getD s (at + 80) 0) 13) (eqb (getD s (at + 81) 0) 10) ≡ true → longFrom s at ≡ longFrom s (at + 82)
-  lf-after g l f =
-      let t = drop at s in
-      let h = below g refl in
-      let z = eighty h l in
-      let n = long-enough h l in
-      let c : CrLf (drop 80 t) 0 ≡ true = rw (getD-drop 80 t 0 0, getD-drop 80 t 1 0, byte-in 80, byte-in 81) f in
-      let o = no-more (drop 80 t) (rw (getD-drop 80 t 0 0) (h 80 (omega arith))) c in
-      let e : eqb (getD (drop 81 t) 0 0) 10 ≡ true = rw (getD-drop 81 t 0 0, byte-in 81) (both-true (eqb (getD s (at + 80) 0) 13) (eqb (getD s (at + 81) 0) 10) f .1) in
-      let k : at + 81 + 1 ≡ at + 82 = omega arith in
-      begun at t (omega (arith, z, o)) ∙ within-line 81 t at h (omega (arith, n)) ∙ rw (drop-drop 1 81 t, drop-drop 82 at s, k) at (past-lf (drop 81 t) 0 e (omega arith) false (at + 81))
+  -- CR LF after 80 bytes: the next line begins after it
+  pub cr-found : both (eqb (getD s (at + 80) 0) 13) (eqb (getD s (at + 81) 0) 10) ≡ true → longFrom s at ≡ longFrom s (at + 82)
+  cr-found f =
+      let c : CrLf (drop at s) 80 ≡ true = rw (byte-in 80, byte-in 81) f in
+      rw (drop-drop 82 at s) at (past-cr (drop at s) 80 c (omega arith) true at)
 
 -- ---- looking for the last LF, from the back: none stands from i on
 
@@ -201,20 +203,18 @@ ends-by s at b e f = let k : at + 80 + 1 ≡ at + 81 = omega arith in rw (eq-eqb
 -- ---- the next line
 
 module _ (s : List ℕ) (at : ℕ) (l : at + 80 < length s) where
-  pub next-found : (r : ℕ) → LastLf s at r → at < r → NextLine s at r
-  next-found r g h =
-      let high = g .high in record { low = g .low; high = omega arith; on = λ _. lf-found s at g h; long = λ e. absurd (omega arith) }
+  abbrev ends : Bool
+  ends = both (eqb (getD s (at + 80) 0) 13) (eqb (getD s (at + 81) 0) 10)
 
-  same : (r : ℕ) → LastLf s at r → r ≤ at → LastLf s at at
-  same r g h = let low = g .low in let e : r ≡ at = omega arith in rw e at g
-
-  pub next-after : (r n : ℕ) → LastLf s at r → r ≤ at → both (eqb (getD s (at + 80) 0) 13) (eqb (getD s (at + 81) 0) 10) ≡ true → n ≡ at + 82 → NextLine s at n
-  next-after r n g h f e =
+  pub next-after : (n : ℕ) → ends ≡ true → n ≡ at + 82 → NextLine s at n
+  next-after n f e =
       let z = lf-in s (at + 81) (both-true (eqb (getD s (at + 80) 0) 13) (eqb (getD s (at + 81) 0) 10) f .1) in
-      record { low = omega arith; high = omega (arith, z, e); on = λ _. rw e (lf-after s at (same r g h) l f); long = λ k. absurd (omega arith) }
+      record { low = omega arith; high = omega (arith, z, e); on = λ _. rw e (cr-found s at f); long = λ k. absurd (omega arith) }
 
-  pub next-long : (r : ℕ) → LastLf s at r → r ≤ at → both (eqb (getD s (at + 80) 0) 13) (eqb (getD s (at + 81) 0) 10) ≡ false → NextLine s at at
-  next-long r g h f = record { low = omega arith; high = omega arith; on = λ k. absurd (omega arith); long = λ _. lf-none s at (same r g h) l f }
+  pub next-by : (r : ℕ) → LastLf s at r → ends ≡ false → NextLine s at r
+  next-by r g f =
+      let high = g .high in
+      record { low = g .low; high = omega (arith, high, l); on = λ h. lf-found s at g h; long = λ e. lf-none s at (rw e at g) l f }
 
 -- the text ends within 80 bytes
 pub text-ends : (s : List ℕ) (at : ℕ) → length s - at ≤ 80 → longFrom s at ≡ all-short

@@ -1,5 +1,5 @@
-// The length of the lines of a body (02, T-06, "Eighty bytes is the rule"). A line's LF is looked for from the back of its first 81 bytes: what lies before the last LF there belongs to
-// lines that are short enough, so that most bytes of a body are not looked at.
+// The length of the lines of a body (02, T-06, "Eighty bytes is the rule"). From a line's first byte the end is looked for at the back of the 80 bytes that it may have: CR LF after them,
+// or else the last LF among 81. What lies before it belongs to lines that are short enough, so that most bytes of a body are not looked at.
 ghost use mathlib.Core.Path.{_≡_};
 ghost use mathlib.Core.Bool.{true};
 ghost use Prim.Native.Nat.{_+_, _<_};
@@ -50,14 +50,10 @@ fn next_line(s: &[u8], at: usize) -> usize
     requires { ⌜ at + 80 < length (now s) ⌝ }
     ensures { λ r. ⌜ NextLine (now (s .entry)) at r ⌝ }
 {
-    let next = past_last_lf(s, at);
-    if next > at {
-        return next;
-    }
     if ends_at_80(s, at) {
         return at + LONGEST_LINE + 2;
     }
-    at
+    past_last_lf(s, at)
 }
 
 // Where the first line over 80 bytes of a body begins.
