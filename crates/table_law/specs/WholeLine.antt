@@ -231,7 +231,8 @@ module _ (R : Rules) where
   lined t s a z i p v y later same placed split next within =
       let x = tokens (R .tabs) t 0 a fresh in
       let hi = a + length s in
-      by-case (λ q. ltb longest-line (lineLength t) ≡ q → reading R s a i p v ≡ resume (pick q (refused 16 a) (does R x i p v)) (λ j q u. sooner later (judge R y j q u))) (ltb longest-line (lineLength t))
+      let long = ltb longest-line (lineLength t) in
+      by-case (λ q. long ≡ q → reading R s a i p v ≡ resume (pick q (refused 16 a) (does R x i p v)) (λ j k u. sooner later (judge R y j k u))) long
       (λ _ e. rw (long-first a s (rw same e)) (sooner-long a hi (judge R (tokens (R .tabs) s 0 a fresh) i p v) (judge-in a hi R (tokens (R .tabs) s 0 a fresh) (tokens-placed (R .tabs) s a) i p v)))
       (λ _ e. rw (begun a s (rw same (ltb-false longest-line (lineLength t) e)), next, split, goes-on R y x (line-starts (R .tabs) t a .1) i p v)
       (sooner-later z hi later within (does R x i p v) (does-before R a z x placed i p v) (judge R y))) refl

@@ -1,4 +1,4 @@
--- 01, "Bench samples": those marked P, and one for each form of 02, T-02: one table under one theorem about the definitions, by computation. Assumes nothing.
+-- 01, "Bench samples": those marked P, one for each form of 02, T-02, ours, and those of T-06: under one theorem about the definitions, by computation. Assumes nothing.
 -- Frame F = 0, L = 3000, N = 4 where no other is said; `/` stands for LF, CR LF where written.
 use mathlib.Core.Path.{_≡_, refl}
 use mathlib.Core.List.{List, [], _∷_}
