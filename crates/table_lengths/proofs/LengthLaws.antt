@@ -14,7 +14,7 @@ use Rattle.terms.specs.Logic.{pick, both, by-case, both-true, no-way}
 use Rattle.table_spec.specs.Frame.{longest-line}
 use Rattle.table_spec.specs.Reading.{starts, lineLength, all-short, long-at, longLine}
 use Rattle.table_spec.specs.ReadingLaws.{long-first}
-use Rattle.table_lengths.specs.Lengths.{LastLf, NextLine, longFrom}
+use Rattle.table_lengths.specs.Lengths.{LastLf, endsThere, NextLine, longFrom}
 
 -- ---- the end of the text
 
@@ -148,7 +148,7 @@ module _ (s : List ℕ) (at : ℕ) where
     eighty = long-length 80 (drop at s) h long-enough
 
   -- there is none, and no CR LF after 80 bytes: the line is too long
-  pub lf-none : LastLf s at at → at + 80 < length s → both (eqb (getD s (at + 80) 0) 13) (eqb (getD s (at + 81) 0) 10) ≡ false → longFrom s at ≡ long-at at
+  pub lf-none : LastLf s at at → at + 80 < length s → endsThere s at ≡ false → longFrom s at ≡ long-at at
   lf-none g l f =
       let t = drop at s in
       let h = below g refl in
@@ -160,7 +160,7 @@ module _ (s : List ℕ) (at : ℕ) where
       long-first at t (lt-ltb longest-line (lineLength t) (omega (arith, z, o)))
 
   -- CR LF after 80 bytes: the next line begins after it
-  pub cr-found : both (eqb (getD s (at + 80) 0) 13) (eqb (getD s (at + 81) 0) 10) ≡ true → longFrom s at ≡ longFrom s (at + 82)
+  pub cr-found : endsThere s at ≡ true → longFrom s at ≡ longFrom s (at + 82)
   cr-found f =
       let c : CrLf (drop at s) 80 ≡ true = rw (byte-in 80, byte-in 81) f in
       rw (drop-drop 82 at s) at (past-cr (drop at s) 80 c (omega arith) true at)
@@ -194,24 +194,21 @@ module _ (s : List ℕ) (at : ℕ) where
 
 -- ---- the two bytes after the 80
 
-pub ends-not : (s : List ℕ) (at : ℕ) → (getD s (at + 80) 0 ≡ 13 → ⊥) → false ≡ both (eqb (getD s (at + 80) 0) 13) (eqb (getD s (at + 81) 0) 10)
+pub ends-not : (s : List ℕ) (at : ℕ) → (getD s (at + 80) 0 ≡ 13 → ⊥) → false ≡ endsThere s at
 ends-not s at e = rw (ne-eqb (getD s (at + 80) 0) 13 e) refl
 
-pub ends-by : (s : List ℕ) (at b : ℕ) → getD s (at + 80) 0 ≡ 13 → b ≡ getD s (at + 80 + 1) 0 → eqb b 10 ≡ both (eqb (getD s (at + 80) 0) 13) (eqb (getD s (at + 81) 0) 10)
+pub ends-by : (s : List ℕ) (at b : ℕ) → getD s (at + 80) 0 ≡ 13 → b ≡ getD s (at + 80 + 1) 0 → eqb b 10 ≡ endsThere s at
 ends-by s at b e f = let k : at + 80 + 1 ≡ at + 81 = omega arith in rw (eq-eqb (getD s (at + 80) 0) 13 e, f, k) refl
 
 -- ---- the next line
 
 module _ (s : List ℕ) (at : ℕ) (l : at + 80 < length s) where
-  abbrev ends : Bool
-  ends = both (eqb (getD s (at + 80) 0) 13) (eqb (getD s (at + 81) 0) 10)
-
-  pub next-after : (n : ℕ) → ends ≡ true → n ≡ at + 82 → NextLine s at n
+  pub next-after : (n : ℕ) → endsThere s at ≡ true → n ≡ at + 82 → NextLine s at n
   next-after n f e =
       let z = lf-in s (at + 81) (both-true (eqb (getD s (at + 80) 0) 13) (eqb (getD s (at + 81) 0) 10) f .1) in
       record { low = omega arith; high = omega (arith, z, e); on = λ _. rw e (cr-found s at f); long = λ k. absurd (omega arith) }
 
-  pub next-by : (r : ℕ) → LastLf s at r → ends ≡ false → NextLine s at r
+  pub next-by : (r : ℕ) → LastLf s at r → endsThere s at ≡ false → NextLine s at r
   next-by r g f =
       let high = g .high in
       record { low = g .low; high = omega (arith, high, l); on = λ h. lf-found s at g h; long = λ e. lf-none s at (rw e at g) l f }

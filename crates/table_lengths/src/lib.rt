@@ -3,11 +3,10 @@
 ghost use mathlib.Core.Path.{_≡_};
 ghost use mathlib.Core.Bool.{true};
 ghost use Prim.Native.Nat.{_+_, _<_};
-ghost use lib.Dec.{eqb};
-ghost use lib.ListN.{length, getD};
-ghost use Rattle.terms.specs.Logic.{both};
+ghost use lib.ListN.{length};
+ghost use Rattle.table_spec.specs.Frame.{longest-line};
 ghost use Rattle.table_spec.specs.Reading.{longLine};
-ghost use Rattle.table_lengths.specs.Lengths.{LastLf, NextLine, shownLong};
+ghost use Rattle.table_lengths.specs.Lengths.{LastLf, endsThere, NextLine, shownLong};
 use text::byte_at;
 
 // The most bytes of a line, its end not counted.
@@ -21,7 +20,7 @@ pub enum LongLine {
 
 // The place after the last LF among the 81 bytes from a place on; the place itself if none is there.
 fn past_last_lf(s: &[u8], at: usize) -> usize
-    requires { ⌜ at + 80 < length (now s) ⌝ }
+    requires { ⌜ at + longest-line < length (now s) ⌝ }
     ensures { λ r. ⌜ LastLf (now (s .entry)) at r ⌝ }
 {
     let mut i = at + LONGEST_LINE + 1;
@@ -36,8 +35,8 @@ fn past_last_lf(s: &[u8], at: usize) -> usize
 
 // Does CR LF stand directly after the 80 bytes from a place on?
 fn ends_at_80(s: &[u8], at: usize) -> bool
-    requires { ⌜ at + 80 < length (now s) ⌝ }
-    ensures { λ r. ⌜ r ≡ both (eqb (getD (now (s .entry)) (at + 80) 0) 13) (eqb (getD (now (s .entry)) (at + 81) 0) 10) ⌝ }
+    requires { ⌜ at + longest-line < length (now s) ⌝ }
+    ensures { λ r. ⌜ r ≡ endsThere (now (s .entry)) at ⌝ }
 {
     if s[at + LONGEST_LINE] != b'\r' {
         return false;
@@ -47,7 +46,7 @@ fn ends_at_80(s: &[u8], at: usize) -> bool
 
 // From a line's first byte, with at least 81 bytes left: the first byte of a later line, where all lines before that one are short enough; the line's own if it is too long.
 fn next_line(s: &[u8], at: usize) -> usize
-    requires { ⌜ at + 80 < length (now s) ⌝ }
+    requires { ⌜ at + longest-line < length (now s) ⌝ }
     ensures { λ r. ⌜ NextLine (now (s .entry)) at r ⌝ }
 {
     if ends_at_80(s, at) {
