@@ -11,7 +11,7 @@ use borrow.Author.Tests.{ltb-true, leb-true}
 use Rattle.terms.specs.Logic.{pick, both, both-true, no-way}
 use Rattle.label_spec.specs.Names.{TITLE, END}
 use Rattle.table_spec.specs.Groups.{plainText}
-use Rattle.table_spec.specs.Writing.{longest-line}
+use Rattle.table_spec.specs.Frame.{longest-line}
 use Rattle.table_write_law.specs.Numbers.{low-length}
 use Rattle.table_write_law.specs.EightyBytes.{over, ends, byte, Ordinary, Lined, onward}
 use Rattle.decimal_spec.specs.Number.{bound}

@@ -12,7 +12,7 @@ use Rattle.alphabet_spec.specs.Bytes.{kind}
 use Rattle.alphabet_spec.specs.KindLaws.{pseudo-kind, blank-kind}
 use Rattle.table_spec.specs.Frame.{Rules}
 use Rattle.table_spec.specs.Values.{Value, Form, Own, isDif, Spot, first, after, index}
-use Rattle.table_spec.specs.Reading.{fresh, inner, opening, inside, step, stop, tokens, accept, push, bare, difBefore, took, checked, finish, judge, read}
+use Rattle.table_spec.specs.Reading.{fresh, inner, opening, inside, step, stop, tokens, accept, push, bare, difBefore, took, checked, finish, judge, readLines, sooner, read}
 use Rattle.table_spec.specs.ReadingLaws.{push-none, push-push}
 use Rattle.table_law.specs.Spelling.{Spelled, plus, minus, plain, sqz-zero, sqz-more, dif-zero, dif-more, dup-more, missing, LineEnd, over as end-over, lf as end-lf, cr-lf}
 use Rattle.table_law.specs.Spelling.{comment as end-comment, Line, done}
@@ -21,6 +21,7 @@ use Rattle.table_law.specs.Spelling.{indent, passed, row, Spells}
 use Rattle.table_law.specs.Heads.{lengthens, Apart, head-read}
 use Rattle.table_law.specs.Tokens.{end-fresh, end-inner, value-read}
 use Rattle.table_law.specs.Meaning.{stands-says}
+use Rattle.table_law.specs.LineLengths.{spelled-short}
 
 -- ---- "A digit run is always as long as it can be": what stands after a head or a value does not make it longer
 
@@ -105,9 +106,9 @@ module _ (R : Rules) where
 
   -- a table that spells some ordinates is read as those
   pub complete : (ys s : List ℕ) → Spells R ys s → read R s ≡ accept ys
-  unfolding read
-  complete ys s r = body-read r 0 (after Own) refl
+  unfolding read readLines sooner
+  complete ys s r = rw (spelled-short (r .short) 0) (body-read (r .body) 0 (after Own) refl)
 
   -- as many as N
   pub spells-count : {ys s : List ℕ} → Spells R ys s → length ys ≡ R .points
-  spells-count {ys = ys} r = sym (zero-add (length ys)) ∙ count r
+  spells-count {ys = ys} r = sym (zero-add (length ys)) ∙ count (r .body)

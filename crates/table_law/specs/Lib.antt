@@ -1,4 +1,5 @@
 pub mod Spelling
+pub mod LineLengths
 pub mod Runs
 pub mod Heads
 pub mod Tokens
@@ -7,4 +8,7 @@ pub mod Complete
 pub mod Sound
 pub mod Small
 pub mod Outcome
+pub mod Every
 pub mod Places
+pub mod Linewise
+pub mod WholeLine

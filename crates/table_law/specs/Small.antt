@@ -61,4 +61,4 @@ body-small (passed h r) l = body-small r l
 body-small (row {vs = vs} {ys = ys} h b g v d r) l = let z = line-small v l in joined vs ys (z .0) (body-small r (z .1))
 
 pub spells-small : {R : Rules} {ys s : List ℕ} → Spells R ys s → Small ys
-spells-small r = body-small r (omega arith)
+spells-small r = body-small (r .body) (omega arith)

@@ -15,13 +15,14 @@ use Rattle.table_spec.specs.Frame.{Rules}
 use Rattle.table_spec.specs.Values.{Value, own, gap, Form, Own, Gap, By, Dup, isDif, Spot, first, after, lastOr, room, valueOf, index, headed-at}
 use Rattle.table_spec.specs.Reading.{Tokens, over, fault, HeadDigits, no-head, sized, value, line, Ending, ends as ends-in, none as no-end, ending, thousandths, Mode, fresh, inner, Rest, ended}
 use Rattle.table_spec.specs.Reading.{headed, valued, opening, inside, step, stop, tokens, Says, adds, refuses, says, Answer, refuse, accept, push, bare, difBefore, took}
-use Rattle.table_spec.specs.Reading.{checked, finish, judge, read}
+use Rattle.table_spec.specs.Reading.{checked, finish, judge, readLines, longLine, read}
 use Rattle.table_spec.specs.ReadingLaws.{no-accept}
 use Rattle.table_law.specs.Spelling.{Spelled, missing, Stands, LineEnd, over as end-over, Line, done, blank as with-blank, value as with-value}
 use Rattle.table_law.specs.Spelling.{EndsInDif, own-not, gap-not, dif-does, dup-as, Belongs, last-given, next-point, Body, end, indent, passed, row, Spells}
 use Rattle.table_law.specs.Heads.{HeadIs, unsigned-is, signed-is as signed-head}
 use Rattle.table_law.specs.Tokens.{EndIs, ending-is, ValueIs, packed-is, plain-is, signed-is}
 use Rattle.table_law.specs.Meaning.{Said, said}
+use Rattle.table_law.specs.LineLengths.{short-spelled, sooner-accept}
 use Rattle.table_law.specs.Complete.{complete}
 
 -- ---- answers that accept
@@ -215,8 +216,10 @@ module _ (R : Rules) where
   sound (b ∷ s) (suc n) a m = sound s n (suc a) m
 
   pub read-sound : (s ys : List ℕ) → read R s ≡ accept ys → Spells R ys s
-  unfolding read
-  read-sound s ys e = sound s 0 0 fresh 0 0 (after Own) ys (omega arith) e
+  unfolding read readLines
+  read-sound s ys e =
+      let z = sooner-accept (longLine true 0 s) (readLines R s) ys e in
+      record { body = sound s 0 0 fresh 0 0 (after Own) ys (omega arith) (z .1); short = short-spelled 0 s (z .0) }
 
   -- no table spells two lists
   pub spells-unique : (s ys zs : List ℕ) → Spells R ys s → Spells R zs s → ys ≡ zs

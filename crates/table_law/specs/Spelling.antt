@@ -1,6 +1,6 @@
 -- Which texts spell which ordinates, said from the ordinates to the bytes (01, "Spelling of a body"). Nothing here runs a reader or takes a text apart. Assumes nothing.
--- `R x t s`: the text t is x, spelled, and then s. With reading this shares the names of values, forms and spots and the frame's rules (how many points, which heads of which unit
--- pass, is a tab a blank); every other rule is said here once more, in its own words.
+-- `R x t s`: the text t is x, spelled, and then s. With reading this shares the names of values, forms and spots, the frame's rules (how many points, which heads of which unit
+-- pass, is a tab a blank) and the longest line; every other rule is said here once more, in its own words.
 use mathlib.Core.Path.{_≡_}
 use mathlib.Core.Bool.{Bool, true, false}
 use mathlib.Core.List.{List, [], _∷_, _++_}
@@ -8,7 +8,7 @@ use Prim.Native.Nat.{ℕ, zero, suc, _+_, _-_, _*_, _≤_, _<_}
 use lib.ListN.{length}
 use Rattle.alphabet_spec.specs.Kinds.{sqz, dif, dup, Pseudo, Blank}
 use Rattle.alphabet_spec.specs.SpelledDigits.{SpelledDigits}
-use Rattle.table_spec.specs.Frame.{Rules, zero-abscissa, zero-ordinate}
+use Rattle.table_spec.specs.Frame.{Rules, longest-line, zero-abscissa, zero-ordinate}
 use Rattle.table_spec.specs.Values.{Value, own, gap, by, times, Form, Own, Gap, By, Dup, Spot, first, after}
 
 -- ---- "Head. Optional sign, 1 to 7 digits, then optionally a point and 0 to 3 digits"
@@ -134,6 +134,16 @@ pub data Body (R : Rules) : ℕ → ℕ → Bool → List ℕ → List ℕ → T
       → Body R (i + length vs) e d ys s
       → Body R i p c (vs ++ ys) t
 
+-- ---- "Eighty bytes is the rule" (02, T-06)
+
+-- every line has at most 80 bytes before its end, LF, CR LF or the end of the body; the first one has at most m
+pub data Short : ℕ → List ℕ → Type 0 where
+  over : {m : ℕ} → Short m []
+  lf : {m : ℕ} {s : List ℕ} → Short longest-line s → Short m (10 ∷ s)
+  cr-lf : {m : ℕ} {s : List ℕ} → Short longest-line s → Short m (13 ∷ 10 ∷ s)
+  byte : {m b : ℕ} {s : List ℕ} → Short m s → Short (suc m) (b ∷ s)
+
 -- these bytes are a spelling of these ordinates under these rules
-abbrev pub Spells : Rules → List ℕ → List ℕ → Type 0
-Spells R ys s = Body R 0 0 false ys s
+pub record Spells (R : Rules) (ys s : List ℕ) : Type 0 where
+  pub body : Body R 0 0 false ys s
+  pub short : Short longest-line s

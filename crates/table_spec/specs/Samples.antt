@@ -1,14 +1,14 @@
--- 01, "Bench samples": those marked P, and one for each form of 02, T-02: one table under one theorem about the definitions, by computation. Assumes nothing.
+-- 01, "Bench samples": those marked P, one for each form of 02, T-02, ours, and those of T-06: under one theorem about the definitions, by computation. Assumes nothing.
 -- Frame F = 0, L = 3000, N = 4 where no other is said; `/` stands for LF, CR LF where written.
 use mathlib.Core.Path.{_≡_, refl}
 use mathlib.Core.List.{List, [], _∷_}
-use Prim.Native.Nat.{ℕ}
+use Prim.Native.Nat.{ℕ, zero, suc}
 use lib.IntN.{ℤ, pos}
 use Rattle.alphabet_spec.specs.Digits.{digits}
 use Rattle.alphabet_spec.specs.Bytes.{kind}
 use Rattle.table_spec.specs.Frame.{frame-legal, passes, exact, nearest, entry-for}
 use Rattle.table_spec.specs.Reading.{Answer, refuse, accept, readTable, read, judge, tokens, comment, ending, scaled, pointed, thousandths, opening, inside, step, stop}
-use Rattle.table_spec.specs.Reading.{again, says, push, took, checked, finish}
+use Rattle.table_spec.specs.Reading.{again, says, push, took, checked, finish, readLines, lineLength, longLine, sooner}
 use Rattle.table_spec.specs.Numerals.{top, low, numeral, fraction, magnitude, headText}
 use Rattle.table_spec.specs.Groups.{form, sqzText, tokenText, many, dupText, group}
 use Rattle.table_spec.specs.Writing.{wrote, writeTable, written, lines-of, text, put, check, open-line, go-on, close}
@@ -16,6 +16,15 @@ use mathlib.Core.List.{map}
 use Rattle.table_spec.specs.declared.Style.{Style}
 use Rattle.table_spec.specs.declared.Style.the-variants.{Affn, Pac, Sqz, Difdup}
 use Rattle.table_spec.specs.Groups.{form, sqzText, plainText, pacText, affnText, tokenText, many, dupText, group}
+
+-- n bytes b, and then s
+abbrev pub padded : ℕ → ℕ → List ℕ → List ℕ
+padded b zero s = s
+padded b (suc n) s = b ∷ padded b n s
+
+-- 1 1 1 1
+abbrev pub ones : Answer
+ones = accept (2147483649 ∷ 2147483649 ∷ 2147483649 ∷ 2147483649 ∷ [])
 
 -- a body and its answer; or a form, ordinates and their text. In a frame of its own where F, L and N stand before them
 pub data Sample : Type 0 where
@@ -112,6 +121,29 @@ ours =
     reads-in (pos 0) (pos 1) 4 (48 ∷ 64 ∷ 74 ∷ 106 ∷ 37 ∷ 13 ∷ 10 ∷ 48 ∷ 46 ∷ 48 ∷ 48 ∷ 49 ∷ 64 ∷ 13 ∷ 10 ∷ []) (accept (2147483648 ∷ 2147483649 ∷ 2147483648 ∷ 2147483648 ∷ [])) ∷
     []
 
+-- ---- 02, T-06: `0AV` after 77 blanks is a line of 80 bytes
+
+unfoldable pub long-lines : List Sample
+long-lines =
+    -- 80 bytes, and the end of the body, LF or CR LF: 1 1 1 1
+    reads (padded 32 77 (48 ∷ 65 ∷ 86 ∷ [])) ones ∷
+    reads (padded 32 77 (48 ∷ 65 ∷ 86 ∷ 10 ∷ [])) ones ∷
+    reads (padded 32 77 (48 ∷ 65 ∷ 86 ∷ 13 ∷ 10 ∷ [])) ones ∷
+    -- 81 bytes: 16 at 0
+    reads (padded 32 78 (48 ∷ 65 ∷ 86 ∷ [])) (refuse 16 0) ∷
+    reads (padded 32 78 (48 ∷ 65 ∷ 86 ∷ 10 ∷ [])) (refuse 16 0) ∷
+    reads (padded 32 78 (48 ∷ 65 ∷ 86 ∷ 13 ∷ 10 ∷ [])) (refuse 16 0) ∷
+    -- 81 bytes, the third of them no byte of a table: 16 at 0, not 3 at 2; the first of them: 16 at 0, not 3 at 0
+    reads (32 ∷ 32 ∷ 33 ∷ padded 32 78 []) (refuse 16 0) ∷
+    reads (33 ∷ padded 32 80 []) (refuse 16 0) ∷
+    -- a line after the table, "refused even if blank": 81 blanks, 16 at 4; a comment of 81 bytes; a CR that ends nothing, after 80 blanks
+    reads (48 ∷ 65 ∷ 86 ∷ 10 ∷ padded 32 81 []) (refuse 16 4) ∷
+    reads (48 ∷ 65 ∷ 86 ∷ 10 ∷ 36 ∷ 36 ∷ padded 33 79 []) (refuse 16 4) ∷
+    reads (48 ∷ 65 ∷ 86 ∷ 10 ∷ padded 32 80 (13 ∷ [])) (refuse 16 4) ∷
+    -- `0A!` and a line of 81 blanks after it: 3 at 2
+    reads (48 ∷ 65 ∷ 33 ∷ 10 ∷ padded 32 81 []) (refuse 3 2) ∷
+    []
+
 -- ---- the theorem
 
 -- a sample holds, of the definitions of reading and writing, with room for 4 ordinates or 80 bytes
@@ -125,11 +157,12 @@ abbrev pub AllHold : List Sample → Type 0
 AllHold [] = Unit {0}
 AllHold (x ∷ xs) = Holds x × AllHold xs
 
-pub samples-hold : AllHold samples × AllHold ours
-unfolding samples ours readTable read frame-legal passes exact nearest kind digits judge tokens comment ending scaled pointed thousandths opening
+pub samples-hold : AllHold samples × AllHold ours × AllHold long-lines
+unfolding samples ours long-lines readTable read readLines lineLength longLine sooner frame-legal passes exact nearest kind digits judge tokens comment ending scaled pointed thousandths opening
     inside step stop again says push took checked finish writeTable written lines-of text put check open-line go-on close group many form tokenText
     sqzText plainText pacText affnText dupText numeral top low fraction magnitude headText
 samples-hold = (
   (refl, (refl, (refl, (refl, (refl, (refl, (refl, (refl, (refl, (refl, (refl, (refl, (refl, (refl, (refl, (refl, (refl, tt))))))))))))))))),
   (refl, (refl, (refl, (refl, (refl, (refl, (refl, (refl, (refl, (refl, (refl, (refl, (refl, (refl, (refl, (refl, (refl, (refl, (refl, (refl, (refl, tt))))))))))))))))))))),
+  (refl, (refl, (refl, (refl, (refl, (refl, (refl, (refl, (refl, (refl, (refl, (refl, tt)))))))))))),
 )

@@ -7,15 +7,11 @@ use lib.IntN.{ℤ}
 use lib.ListN.{length, take}
 use lib.Seq.{sets}
 use Rattle.terms.specs.Logic.{pick}
-use Rattle.table_spec.specs.Frame.{frame-legal, abscissa, ordinate-of, nearest}
+use Rattle.table_spec.specs.Frame.{longest-line, frame-legal, abscissa, ordinate-of, nearest}
 use Rattle.table_spec.specs.Values.{isDif}
 use Rattle.table_spec.specs.Numerals.{headText}
 use Rattle.table_spec.specs.declared.Style.{Style}
 use Rattle.table_spec.specs.Groups.{form, sqzText, seen-after, more-of, group}
-
--- "Lines hold at most 80 bytes, then CR LF"
-abbrev pub longest-line : ℕ
-longest-line = 80
 
 -- what follows, from: points passed over, points given, the last, whether its form is DIF, the bytes of the line so far
 abbrev pub Rest : Type 0
@@ -37,7 +33,7 @@ module _ (w : Style) (head-of : ℕ → List ℕ) where
   open-line K true i p y ys = check i p ++ put K (length (check i p)) i p y ys
   open-line K false i p y ys = head-of i ++ put K (length (head-of i)) i 0 y ys
 
-  -- "A group that does not fit whole starts a new line"
+  -- "Lines hold at most 80 bytes, then CR LF"; "A group that does not fit whole starts a new line"
   unfoldable pub go-on : Rest → Bool → ℕ → ℕ → ℕ → ℕ → List ℕ → List ℕ
   go-on K dif col i p y ys = pick (leb (col + length (group w p y ys)) longest-line) (put K col i p y ys) (13 ∷ 10 ∷ open-line K dif i p y ys)
 

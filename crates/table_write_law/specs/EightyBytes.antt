@@ -10,11 +10,13 @@ use lib.ListN.{length}
 use borrow.Author.Tests.{leb-true}
 use Rattle.terms.specs.Logic.{pick, by-case, no-way}
 use Rattle.alphabet_spec.specs.Kinds.{Lead, sqz, dif, dup}
-use Rattle.table_spec.specs.Frame.{nearest, zero-ordinate, zero-abscissa}
+use Rattle.table_spec.specs.Frame.{longest-line, nearest, zero-ordinate, zero-abscissa}
 use Rattle.table_spec.specs.Values.{Form, Own, Gap, By, Dup, isDif}
 use Rattle.table_spec.specs.Numerals.{top, low, leadByte, numeral, fraction, magnitude, headText}
 use Rattle.table_spec.specs.Groups.{form, sqzText, tokenText, dupText, group}
-use Rattle.table_spec.specs.Writing.{longest-line, put, check, open-line, go-on, close, text, lines-of, written}
+use Rattle.table_spec.specs.Writing.{put, check, open-line, go-on, close, text, lines-of, written}
+use Rattle.table_law.specs.Spelling as sp
+use Rattle.table_law.specs.Spelling.{Short}
 use Rattle.table_write_law.specs.Written.{Takes}
 use Rattle.table_write_law.specs.Lengths.{check-most, head-most}
 use Rattle.table_spec.specs.declared.Style.{Style}
@@ -44,6 +46,21 @@ pub inner-lined : {c : ℕ} {s : List ℕ} → LinedOf Inner c s → Lined c s
 inner-lined over = over
 inner-lined (ends l x) = ends l (inner-lined x)
 inner-lined (byte {b = b} h x) = let k = h .0 in let o : Ordinary b = (λ e. omega arith, λ e. omega arith) in byte o (inner-lined x)
+
+-- such lines are short as reading asks for it (02, T-06)
+lined-most : {P : ℕ → Type 0} {c : ℕ} {s : List ℕ} → LinedOf P c s → c ≤ longest-line
+lined-most over = omega arith
+lined-most (ends l x) = l
+lined-most (byte h x) = let k = lined-most x in omega arith
+
+shorter : {P : ℕ → Type 0} {c : ℕ} {s : List ℕ} → LinedOf P c s → (m : ℕ) → c + m ≡ longest-line → Short m s
+shorter over m e = sp.over
+shorter (ends l x) m e = sp.cr-lf (shorter x longest-line refl)
+shorter (byte h x) zero e = let k = lined-most x in absurd (omega arith)
+shorter (byte h x) (suc m) e = sp.byte (shorter x m (omega arith))
+
+pub lined-short : {P : ℕ → Type 0} {s : List ℕ} → LinedOf P 0 s → Short longest-line s
+lined-short x = shorter x longest-line refl
 
 -- ---- the bytes of tokens and heads
 
@@ -172,7 +189,7 @@ onward c (b ∷ g) h l =
 
 module _ (st : Style) (N : ℕ) (few : N ≤ 65536) (hd : ℕ → List ℕ) (short : (i : ℕ) → i < N → length (hd i) ≤ 12) (above : (i : ℕ) → Above (hd i)) where
   abbrev Rows : List ℕ → Type 0
-  Rows zs = (n i p : ℕ) (d : Bool) (col : ℕ) → n ≤ length zs → 0 < i → i + length zs ≡ N → col ≤ 80 → LinedOf Inner col (text st hd zs n i p d col)
+  Rows zs = (n i p : ℕ) (d : Bool) (col : ℕ) → n ≤ length zs → 0 < i → i + length zs ≡ N → col ≤ longest-line → LinedOf Inner col (text st hd zs n i p d col)
 
   check-above : (i p : ℕ) → Above (check st hd i p)
   unfolding check
@@ -184,7 +201,7 @@ module _ (st : Style) (N : ℕ) (few : N ≤ 65536) (hd : ℕ → List ℕ) (sho
   close-lined false i p g l = over
 
   module _ (y : ℕ) (ys : List ℕ) (ih : Rows ys) where
-    put-lined : (i p col : ℕ) → i + length (y ∷ ys) ≡ N → col + length (group st p y ys) ≤ 80 → LinedOf Inner col (put st hd (text st hd ys) col i p y ys)
+    put-lined : (i p col : ℕ) → i + length (y ∷ ys) ≡ N → col + length (group st p y ys) ≤ longest-line → LinedOf Inner col (put st hd (text st hd ys) col i p y ys)
     unfolding put
     put-lined i p col b l =
         let r = form (seen-after st p) y in
@@ -202,11 +219,11 @@ module _ (st : Style) (N : ℕ) (few : N ≤ 65536) (hd : ℕ → List ℕ) (sho
         let w = group-slim st 0 y ys (omega arith) in
         onward 0 (hd i) (above i) (rw zero-add (put-lined i 0 (length (hd i)) b (omega (arith, w))))
 
-    goes-lined : (d : Bool) (i p col : ℕ) → 0 < i → i + length (y ∷ ys) ≡ N → col ≤ 80 → LinedOf Inner col (go-on st hd (text st hd ys) d col i p y ys)
+    goes-lined : (d : Bool) (i p col : ℕ) → 0 < i → i + length (y ∷ ys) ≡ N → col ≤ longest-line → LinedOf Inner col (go-on st hd (text st hd ys) d col i p y ys)
     unfolding go-on
     goes-lined d i p col g b l =
-        by-case (λ t. LinedOf Inner col (pick t (put st hd (text st hd ys) col i p y ys) (13 ∷ 10 ∷ open-line st hd (text st hd ys) d i p y ys))) (leb (col + length (group st p y ys)) 80)
-        (λ e. put-lined i p col b (leb-true (col + length (group st p y ys)) 80 e))
+        by-case (λ t. LinedOf Inner col (pick t (put st hd (text st hd ys) col i p y ys) (13 ∷ 10 ∷ open-line st hd (text st hd ys) d i p y ys))) (leb (col + length (group st p y ys)) longest-line)
+        (λ e. put-lined i p col b (leb-true (col + length (group st p y ys)) longest-line e))
         (λ _. ends l (opens-lined d i p (λ _. g) b))
 
   text-lined : (zs : List ℕ) → Rows zs

@@ -11,7 +11,7 @@ use lib.ListN.{length, length-append}
 use borrow.Author.Tests.{leb-false}
 use Rattle.terms.specs.Logic.{pick, by-case}
 use Rattle.alphabet_spec.specs.Kinds.{Lead, sqz, dif, dup}
-use Rattle.table_spec.specs.Frame.{nearest, zero-ordinate, longest-body}
+use Rattle.table_spec.specs.Frame.{nearest, zero-ordinate, longest-body, longest-line}
 use Rattle.table_spec.specs.Values.{Form, Own, Gap, By, Dup, isDif}
 use Rattle.table_spec.specs.Numerals.{low, numeral, headText}
 use Rattle.table_spec.specs.Groups.{form, sqzText, tokenText, many, dupText, group}
@@ -150,7 +150,7 @@ module _ (N : ℕ) (few : N ≤ 65536) (hd : ℕ → List ℕ) (short : (i : ℕ
         let t = text Difdup hd ys (many r y ys) (suc i) y (isDif r) (col + length (group Difdup p y ys)) in
         omega (arith, length-append (group Difdup p y ys) t, ih (many r y ys) (suc i) y (isDif r) (col + length (group Difdup p y ys)) (many-le r y ys) (omega arith) (omega arith))
 
-    opens-most : (d : Bool) (i p col : ℕ) → 0 < i → i + length (y ∷ ys) ≡ N → 80 < col + length (group Difdup p y ys)
+    opens-most : (d : Bool) (i p col : ℕ) → 0 < i → i + length (y ∷ ys) ≡ N → longest-line < col + length (group Difdup p y ys)
         → 2 * (2 + length (open-line Difdup hd (text Difdup hd ys) d i p y ys)) ≤ 30 * length (y ∷ ys) + col + 52
     unfolding open-line
     opens-most true i p col g b l =
@@ -171,9 +171,9 @@ module _ (N : ℕ) (few : N ≤ 65536) (hd : ℕ → List ℕ) (short : (i : ℕ
     unfolding go-on
     goes-most d i p col g b =
         by-case (λ t. 2 * length (pick t (put Difdup hd (text Difdup hd ys) col i p y ys) (13 ∷ 10 ∷ open-line Difdup hd (text Difdup hd ys) d i p y ys)) ≤ 30 * length (y ∷ ys) + col + 52)
-        (leb (col + length (group Difdup p y ys)) 80)
+        (leb (col + length (group Difdup p y ys)) longest-line)
         (λ _. let w = group-most p y ys (omega arith) in omega (arith, put-most i p col b, w .0))
-        (λ e. omega (arith, opens-most d i p col g b (leb-false (col + length (group Difdup p y ys)) 80 e)))
+        (λ e. omega (arith, opens-most d i p col g b (leb-false (col + length (group Difdup p y ys)) longest-line e)))
 
   text-most : (zs : List ℕ) → Most zs
   unfolding text
@@ -211,9 +211,9 @@ module _ (st : Style) (full : in-full st ≡ true) (N : ℕ) (hd : ℕ → List 
       let on = v ++ values (valueText st) hd ys (suc i) (col + length v) in
       let anew = hd i ++ (v ++ values (valueText st) hd ys (suc i) (length (hd i) + length v)) in
       by-case (λ t. 4 * length (pick t on (13 ∷ 10 ∷ anew)) ≤ 60 * length (y ∷ ys) + col + 8)
-      (leb (col + length v) 80)
+      (leb (col + length v) longest-line)
       (λ _. omega (arith, length-append v (values (valueText st) hd ys (suc i) (col + length v)), values-most ys (suc i) (col + length v) (omega arith)))
-      (λ e. let k = leb-false (col + length v) 80 e in
+      (λ e. let k = leb-false (col + length v) longest-line e in
       let s = values (valueText st) hd ys (suc i) (length (hd i) + length v) in
       omega (arith, length-append (hd i) (v ++ s), length-append v s, short i (omega arith), values-most ys (suc i) (length (hd i) + length v) (omega arith)))
 

@@ -10,7 +10,7 @@ use lib.Dec.{leb, lit<}
 use lib.ListN.{length, take, drop, take-append-drop}
 use lib.Seq.{length-take-le}
 use Rattle.terms.specs.Logic.{pick, by-case, no-way}
-use Rattle.table_spec.specs.Frame.{Rules}
+use Rattle.table_spec.specs.Frame.{Rules, longest-line}
 use Rattle.table_spec.specs.Values.{Form, Own, Gap, By, Dup, isDif, first, after, copies, lastOr}
 use Rattle.table_spec.specs.Groups.{form, sqzText, dupText, group}
 use Rattle.table_spec.specs.Writing.{put, check, open-line, go-on, close, text, lines-of}
@@ -101,7 +101,7 @@ module _ (st : Style) (R : Rules) (few : R .points ≤ 65536) (hd : ℕ → List
     goes-on r i p col o a b =
         let K = text st hd ys in
         by-case (λ t. Inside R (after r) i p (y ∷ ys) (pick t (put st hd K col i p y ys) (13 ∷ 10 ∷ open-line st hd K (isDif r) i p y ys)))
-        (leb (col + length (group st p y ys)) 80)
+        (leb (col + length (group st p y ys)) longest-line)
         (λ e. put-next r i p col (o .small) b)
         (λ e. line-ends (opens (isDif r) i p (λ d. (o .given d, a)) (o .small) b))
 
@@ -114,7 +114,7 @@ module _ (st : Style) (R : Rules) (few : R .points ≤ 65536) (hd : ℕ → List
       rw (add-suc i n, ← suc-add i n) (spells ys n (suc i) y r col (s .1) o (le-of-suc-le-suc l) (omega arith) (omega arith))
 
   -- the text of a list that is not empty
-  pub lines-spell : (ys : List ℕ) → Small ys → length ys ≡ R .points → 0 < R .points → sp.Spells R ys (lines-of st hd ys)
+  pub lines-body : (ys : List ℕ) → Small ys → length ys ≡ R .points → 0 < R .points → sp.Body R 0 0 false ys (lines-of st hd ys)
   unfolding lines-of
-  lines-spell [] s b h = absurd (omega arith)
-  lines-spell (y ∷ ys) s b h = opens y ys (spells ys) (s .0) (s .1) false 0 0 (λ e. no-way e) (lit< tt) (omega arith)
+  lines-body [] s b h = absurd (omega arith)
+  lines-body (y ∷ ys) s b h = opens y ys (spells ys) (s .0) (s .1) false 0 0 (λ e. no-way e) (lit< tt) (omega arith)

@@ -11,7 +11,8 @@ use Rattle.terms.specs.Logic.{pick}
 use Rattle.table_spec.specs.declared.Style.{Style}
 use Rattle.table_spec.specs.Values.{isDif}
 use Rattle.table_spec.specs.Groups.{in-full, form, tokenText, dupText, group}
-use Rattle.table_spec.specs.Writing.{longest-line, put, open-line, go-on, close, text, lines-of}
+use Rattle.table_spec.specs.Frame.{longest-line}
+use Rattle.table_spec.specs.Writing.{put, open-line, go-on, close, text, lines-of}
 use Rattle.table_write_law.specs.Tokens.{form-cases}
 
 -- "Each value is written in full"
@@ -55,7 +56,7 @@ module _ (st : Style) (full : in-full st ≡ true) (hd : ℕ → List ℕ) where
       ) refl
 
   -- the whole text: the head of the first point, and the values; the first one fits
-  pub plain-lines : (y : ℕ) (ys : List ℕ) → length (hd 0) + length (valueText st y) ≤ 80 → lines-of st hd (y ∷ ys) ≡ hd 0 ++ values (valueText st) hd (y ∷ ys) 0 (length (hd 0))
+  pub plain-lines : (y : ℕ) (ys : List ℕ) → length (hd 0) + length (valueText st y) ≤ longest-line → lines-of st hd (y ∷ ys) ≡ hd 0 ++ values (valueText st) hd (y ∷ ys) 0 (length (hd 0))
   unfolding lines-of open-line values
   plain-lines y ys h =
-      rw (le-leb (length (hd 0) + length (valueText st y)) 80 h, plain-put (text st hd ys) (length (hd 0)) 0 0 y ys, plain-text ys 1 y (length (hd 0) + length (valueText st y))) refl
+      rw (le-leb (length (hd 0) + length (valueText st y)) longest-line h, plain-put (text st hd ys) (length (hd 0)) 0 0 y ys, plain-text ys 1 y (length (hd 0) + length (valueText st y))) refl

@@ -20,12 +20,16 @@ use Rattle.table_law.specs.Spelling.{Spells}
 use Rattle.table_law.specs.Small.{Small}
 use Rattle.table_law.specs.Complete.{complete}
 use Rattle.table_law.specs.Outcome.{spells-accepted, accepted-stored}
-use Rattle.table_write_law.specs.Written.{Takes, written-spells}
+use Rattle.table_write_law.specs.Written.{Takes, written-body}
 use Rattle.table_write_law.specs.Lengths.{written-is-a-body, written-ceiling}
-use Rattle.table_write_law.specs.EightyBytes.{LinedOf, Inner, Lined, inner-lined, written-lined}
+use Rattle.table_write_law.specs.EightyBytes.{LinedOf, Inner, Lined, inner-lined, lined-short, written-lined}
 use Rattle.terms.specs.Logic.{pick, by-case}
 use Rattle.table_spec.specs.declared.Style.{Style}
 use Rattle.table_write_law.specs.Lengths.{written-most, written-is-a-body, written-ceiling}
+
+-- the text of every list that the writer takes, in each of the four forms, is a spelling of it: its lines are short too
+pub written-spells : (st : Style) (first last n : ℕ) (ys : List ℕ) → Takes first last n → Small ys → length ys ≡ n → Spells (rules first last n) ys (written st first last n ys)
+written-spells st first last n ys t s e = record { body = written-body st first last n ys t s e; short = lined-short (written-lined st first last n ys t e) }
 
 -- in numbers: the text of a list that the writer takes is read as that list
 pub read-written : (st : Style) (first last n : ℕ) (ys : List ℕ) → Takes first last n → Small ys → length ys ≡ n → read (rules first last n) (written st first last n ys) ≡ accept ys
