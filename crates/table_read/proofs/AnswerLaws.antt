@@ -13,13 +13,14 @@ use Rattle.terms.specs.Refusals.{fault-at, refusalIn}
 use Rattle.terms.specs.declared.Fault.{Fault}
 use Rattle.terms.specs.declared.Refusal.{Refusal}
 use Rattle.terms.specs.declared.TableRead.the-variants as tables
-use Rattle.terms.specs.Logic.{both, by-case, zero-one}
+use Rattle.terms.specs.Logic.{pick, both, by-case, zero-one}
 use Rattle.table_spec.specs.Frame.{Rules, frame-legal, longest-body, entry-for}
-use Rattle.table_spec.specs.Reading.{Answer, refuse, accept, read, readTable, stored}
+use Rattle.table_spec.specs.Reading.{Answer, refuse, accept, readLines, LongLine, all-short, long-at, longLine, sooner, read, readTable, stored}
 use Rattle.frame.specs.declared.Frame.{Frame}
 use Rattle.frame.specs.FrameLaws.{Framing}
 use Rattle.table_read.specs.Rows.{frame-rules, passedOf, PassSays}
-use Rattle.table_read.specs.Answers.{told, toldFirst, Accepts, TableSays}
+use Rattle.table_read.specs.Answers.{told, toldFirst, soonerOf, Accepts, TableSays}
+use Rattle.table_lengths.specs.Lengths.{shownLong}
 use Rattle.table_read.specs.declared.Passed.{Passed}
 use Rattle.table_read.specs.declared.Passed.the-variants as passed
 use Rattle.table_read.specs.declared.Checked.the-variants as checks
@@ -34,8 +35,8 @@ pub pass-all : (x : Answer) → passed.All ≡ passedOf x → (ys : List ℕ) ×
 pass-all (refuse c a) e = zero-one cc
 pass-all (accept ys) e = (ys, refl)
 
-pub check-refused : {R : Rules} {s : List ℕ} (out out' : List ℤ) {c a : ℕ} → PassSays R s out out' (passed.Refused c a) → checks.Refused (fault-at c a) ≡ toldFirst (read R s)
-check-refused {R} {s} out out' g = sym (ap toldFirst (pass-refused (read R s) (g .says)))
+pub check-refused : {R : Rules} {s : List ℕ} (out out' : List ℤ) {c a : ℕ} → PassSays R s out out' (passed.Refused c a) → checks.Refused (fault-at c a) ≡ toldFirst (readLines R s)
+check-refused {R} {s} out out' g = sym (ap toldFirst (pass-refused (readLines R s) (g .says)))
 
 -- one entry: the first ordinate is what stands in it
 one-entry : (vs : List ℤ) (l : List ℤ) (i : ℕ) → getD (sets l (suc i) vs) 0 (pos 0) ≡ getD l 0 (pos 0)
@@ -47,16 +48,36 @@ first-entry : (ys : List ℕ) (x : ℤ) → 0 < length ys → getD (sets (x ∷ 
 first-entry [] x l = absurd (omega arith)
 first-entry (y ∷ ys) x l = one-entry (map entry-for ys) (entry-for y ∷ []) 0
 
-pub check-first : {R : Rules} {s : List ℕ} {x : ℤ} {out' : List ℤ} → 1 ≤ R .points → PassSays R s (x ∷ []) out' passed.All → checks.First (getD out' 0 (pos 0)) ≡ toldFirst (read R s)
+pub check-first : {R : Rules} {s : List ℕ} {x : ℤ} {out' : List ℤ} → 1 ≤ R .points → PassSays R s (x ∷ []) out' passed.All → checks.First (getD out' 0 (pos 0)) ≡ toldFirst (readLines R s)
 check-first {R} {s} {x} {out'} l g =
-    let z = pass-all (read R s) (g .says) in let n = g .count (z .0) (z .1) in
+    let z = pass-all (readLines R s) (g .says) in let n = g .count (z .0) (z .1) in
     rw (z .1) (ap checks.First (ap (λ (o : List ℤ). getD o 0 (pos 0)) (g .stores (z .0) (z .1)) ∙ first-entry (z .0) x (omega arith)))
+
+-- ---- the length of lines
+
+-- 16 where a long line begins at what was found otherwise, or before it
+pub sooner-told : (x : LongLine) (y : Answer) → soonerOf (shownLong x) (toldFirst y) ≡ toldFirst (sooner x y)
+unfolding sooner
+sooner-told all-short y = refl
+sooner-told (long-at a) (refuse c b) =
+    by-case (λ t. pick t (checks.Refused (fault-at c b)) (checks.Refused (fault-at 16 a)) ≡ toldFirst (pick t (refuse c b) (refuse 16 a))) (ltb b a) (λ _. refl) (λ _. refl)
+sooner-told (long-at a) (accept ys) = refl
+
+-- an accepted body has no long line
+pub accepts-lines : (R : Rules) (s : List ℕ) → Accepts (read R s) → read R s ≡ readLines R s
+unfolding read sooner
+accepts-lines R s a = go (longLine true 0 s) (readLines R s) a
+  where
+    go : (x : LongLine) (y : Answer) → Accepts (sooner x y) → sooner x y ≡ y
+    go all-short y h = refl
+    go (long-at b) (refuse c d) h = by-case (λ t. Accepts (pick t (refuse c d) (refuse 16 b)) → pick t (refuse c d) (refuse 16 b) ≡ refuse c d) (ltb d b) (λ _ h. refl) (λ _ h. absurd h) h
+    go (long-at b) (accept ys) h = absurd h
 
 pub stored-all : {R : Rules} {s : List ℕ} {out out' : List ℤ} {r : Passed} → Accepts (read R s) → PassSays R s out out' r → out' ≡ stored out (read R s)
 unfolding stored
-stored-all {R} {s} {out} {out'} a g = go (read R s) refl a
+stored-all {R} {s} {out} {out'} a g = let e = accepts-lines R s a in rw e (go (readLines R s) refl (rw e at a))
   where
-    go : (x : Answer) → read R s ≡ x → Accepts x → out' ≡ stored out (read R s)
+    go : (x : Answer) → readLines R s ≡ x → Accepts x → out' ≡ stored out (readLines R s)
     go (refuse c b) e h = absurd h
     go (accept ys) e h = g .stores ys e ∙ sym (rw e refl)
 

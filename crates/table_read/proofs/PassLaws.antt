@@ -13,7 +13,7 @@ use borrow.Author.Tests.{ltb-false}
 use Rattle.terms.specs.Logic.{pick, no-way}
 use Rattle.table_spec.specs.Frame.{Rules, entry-for}
 use Rattle.table_spec.specs.Values.{Spot, after, Own}
-use Rattle.table_spec.specs.Reading.{over, fault, fresh, Answer, refuse, accept, push, finish, judge, read}
+use Rattle.table_spec.specs.Reading.{over, fault, fresh, Answer, refuse, accept, push, finish, judge, readLines}
 use Rattle.table_lines.specs.Seen.{seen}
 use Rattle.table_values.proofs.Turns.{stored-then}
 use Rattle.table_spec.specs.ReadingLaws.{no-accept, push-none, push-push}
@@ -32,14 +32,14 @@ pub record Reached (R : Rules) (s : List ℕ) (out₀ out : List ℤ) (r : Row) 
   pub between : Between r ordinate spot
   pub count : r .k ≡ length points
   pub stored : out ≡ sets out₀ 0 (map entry-for points)
-  pub law : read R s ≡ push points (judge R (seen s (r .at) fresh) (r .k) ordinate spot)
+  pub law : readLines R s ≡ push points (judge R (seen s (r .at) fresh) (r .k) ordinate spot)
 
 pub reached-same : {R : Rules} {s : List ℕ} {out₀ out : List ℤ} {r : Row} → Reached R s out₀ out r → length out ≡ length out₀
 reached-same {out₀ = out₀} g = ap length (g .stored) ∙ length-sets out₀ 0 (map entry-for (g .points))
 
 pub reached-start : (N : ℕ) (passing : ℕ → ℕ → ℕ → Bool) (s : List ℕ) (out : List ℤ)
     → Reached (record { points = N; passing = passing; tabs = Rattle.alphabet_spec.specs.Kinds.tabs-too }) s out out (record { at = 0; k = 0; q = 0; dif = false })
-unfolding read seen
+unfolding readLines seen
 reached-start N passing s out =
     record {
       rests = record { high = omega arith; small = omega arith; few = omega arith };
@@ -54,7 +54,7 @@ reached-start N passing s out =
 
 module _ {R : Rules} {s : List ℕ} {out₀ out : List ℤ} {r : Row} (g : Reached R s out₀ out r) where
   -- lines passed over
-  moved-on : (j : ℕ) → seen s (r .at) fresh ≡ seen s j fresh → read R s ≡ push (g .points) (judge R (seen s j fresh) (r .k) (g .ordinate) (g .spot))
+  moved-on : (j : ℕ) → seen s (r .at) fresh ≡ seen s j fresh → readLines R s ≡ push (g .points) (judge R (seen s j fresh) (r .k) (g .ordinate) (g .spot))
   moved-on j e = g .law ∙ ap (λ x. push (g .points) (judge R x (r .k) (g .ordinate) (g .spot))) e
 
   pub reached-next : (j : ℕ) {out' : List ℤ} {n : Row} → seen s (r .at) fresh ≡ seen s j fresh → LineSays R s r j out out' (linewise.Next n) → Reached R s out₀ out' n
@@ -72,7 +72,7 @@ module _ {R : Rules} {s : List ℕ} {out₀ out : List ℤ} {r : Row} (g : Reach
       }
 
   -- a refusal, of what stands here or of a line
-  refused-by : {c a : ℕ} {out' : List ℤ} → read R s ≡ refuse c a → PassSays R s out₀ out' (passed.Refused c a)
+  refused-by : {c a : ℕ} {out' : List ℤ} → readLines R s ≡ refuse c a → PassSays R s out₀ out' (passed.Refused c a)
   refused-by e = record { says = sym (ap passedOf e); stores = λ ys h. no-accept (sym e ∙ h); count = λ ys h. no-accept (sym e ∙ h) }
 
   pub reached-fault : {j : ℕ} → seen s (r .at) fresh ≡ fault 3 j → PassSays R s out₀ out (passed.Refused 3 j)
@@ -84,7 +84,7 @@ module _ {R : Rules} {s : List ℕ} {out₀ out : List ℤ} {r : Row} (g : Reach
   reached-refused j out' e l = refused-by (moved-on j e ∙ ap (push (g .points)) (l (g .ordinate) (g .spot) (g .between)))
 
   -- the end
-  at-end : seen s (r .at) fresh ≡ over (length s) → read R s ≡ push (g .points) (finish R (length s) (r .k) (r .dif))
+  at-end : seen s (r .at) fresh ≡ over (length s) → readLines R s ≡ push (g .points) (finish R (length s) (r .k) (r .dif))
   unfolding judge
   at-end e = g .law ∙ rw (e, g .between .form) refl
 

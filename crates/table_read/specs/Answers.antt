@@ -9,6 +9,10 @@ use Rattle.terms.specs.declared.TableRead.{TableRead}
 use Rattle.terms.specs.declared.TableRead.the-variants as tables
 use Rattle.table_read.specs.declared.Checked.{Checked}
 use Rattle.table_read.specs.declared.Checked.the-variants as checks
+use lib.Dec.{ltb}
+use Rattle.terms.specs.Logic.{pick}
+use Rattle.table_lengths.specs.declared.LongLine.{LongLine}
+use Rattle.table_lengths.specs.declared.LongLine.the-variants as lengths
 use Rattle.table_spec.specs.Frame.{entry-for}
 use Rattle.table_spec.specs.Reading.{Answer, refuse, accept, readTable, stored}
 
@@ -21,6 +25,12 @@ told n s (accept ys) = tables.Accepted n
 abbrev pub toldFirst : Answer → Checked
 toldFirst (refuse c a) = checks.Refused (fault-at c a)
 toldFirst (accept ys) = checks.First (entry-for (getD ys 0 0))
+
+-- 02, T-06, "tested before everything else on that line": what was found otherwise counts where it stands before the first long line
+abbrev pub soonerOf : LongLine → Checked → Checked
+soonerOf lengths.AllShort x = x
+soonerOf (lengths.At a) (checks.Refused f) = pick (ltb (f .place) a) (checks.Refused f) (checks.Refused (fault-at 16 a))
+soonerOf (lengths.At a) (checks.First y) = checks.Refused (fault-at 16 a)
 
 -- an answer that accepts
 abbrev pub Accepts : Answer → Type 0

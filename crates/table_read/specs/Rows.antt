@@ -10,7 +10,7 @@ use lib.Seq.{sets}
 use Rattle.terms.specs.Logic.{pick}
 use Rattle.table_spec.specs.Frame.{Rules, rules, entry-for}
 use Rattle.table_spec.specs.Values.{Spot}
-use Rattle.table_spec.specs.Reading.{fresh, Answer, refuse, accept, push, difBefore, judge, read}
+use Rattle.table_spec.specs.Reading.{fresh, Answer, refuse, accept, push, difBefore, judge, readLines}
 use Rattle.table_lines.specs.Seen.{seen}
 use Rattle.frame.specs.declared.Frame.{Frame}
 use Rattle.table_values.specs.declared.Row.{Row}
@@ -60,6 +60,6 @@ passedOf (accept ys) = passed.All
 
 -- and what it stored
 pub record PassSays (R : Rules) (s : List ℕ) (out out' : List ℤ) (r : Passed) : Type 0 where
-  pub says : r ≡ passedOf (read R s)
-  pub stores : (ys : List ℕ) → read R s ≡ accept ys → out' ≡ sets out 0 (map entry-for ys)
-  pub count : (ys : List ℕ) → read R s ≡ accept ys → length ys ≡ R .points
+  pub says : r ≡ passedOf (readLines R s)
+  pub stores : (ys : List ℕ) → readLines R s ≡ accept ys → out' ≡ sets out 0 (map entry-for ys)
+  pub count : (ys : List ℕ) → readLines R s ≡ accept ys → length ys ≡ R .points

@@ -7,11 +7,13 @@ ghost use Rattle.frame.specs.Legal.{Sound};
 ghost use Rattle.table_lines.specs.Ends.{LineOpens};
 ghost use Rattle.terms.specs.Logic.{pick};
 ghost use Rattle.table_spec.specs.Values.{index};
-ghost use Rattle.table_spec.specs.Reading.{read, readTable, stored};
+ghost use Rattle.table_spec.specs.Reading.{readLines, read, readTable, stored};
 ghost use Rattle.table_read.specs.Rows.{frame-rules, Rests, LineSays, finished, PassSays};
-ghost use Rattle.table_read.specs.Answers.{toldFirst, Accepts, TableSays};
+ghost use Rattle.table_read.specs.Answers.{toldFirst, soonerOf, Accepts, TableSays};
 use frame::Frame;
 use frame::Framed;
+use table_lengths::LongLine;
+use table_lengths::long_line;
 use table_lines::HeadRead;
 use table_lines::Start;
 use table_lines::bare_line;
@@ -136,15 +138,43 @@ fn pass(s: &[u8], fr: Frame, out: &mut [i32]) -> Passed
 }
 
 // The pass that answers. It has room for the first ordinate, which refusal 29 asks for.
-fn check_body(body: &[u8], fr: Frame) -> Checked
+fn check_lines(body: &[u8], fr: Frame) -> Checked
     requires { ⌜ Sound fr ⌝ }
-    ensures { λ r. ⌜ r ≡ toldFirst (read (frame-rules fr) (now (body .entry))) ⌝ }
+    ensures { λ r. ⌜ r ≡ toldFirst (readLines (frame-rules fr) (now (body .entry))) ⌝ }
 {
     let mut one = [0i32; 1];
     match pass(body, fr, &mut one) {
         Passed::Refused(n, p) => Checked::Refused(Fault::new(n, p)),
         Passed::All => Checked::First(one[0]),
     }
+}
+
+// 16, where a long line begins at what was found otherwise or before it (02, T-06).
+fn sooner(long: LongLine, found: Checked) -> Checked
+    ensures { λ r. ⌜ r ≡ soonerOf long found ⌝ }
+{
+    match long {
+        LongLine::AllShort => found,
+        LongLine::At(a) => match found {
+            Checked::First(_) => Checked::Refused(Fault::new(16, a)),
+            Checked::Refused(f) => {
+                if f.place < a {
+                    return Checked::Refused(f);
+                }
+                Checked::Refused(Fault::new(16, a))
+            }
+        },
+    }
+}
+
+// What a body says, its lines' lengths too.
+fn check_body(body: &[u8], fr: Frame) -> Checked
+    requires { ⌜ Sound fr ⌝ }
+    ensures { λ r. ⌜ r ≡ toldFirst (read (frame-rules fr) (now (body .entry))) ⌝ }
+{
+    let long = long_line(body);
+    let found = check_lines(body, fr);
+    sooner(long, found)
 }
 
 // The pass that stores.

@@ -1,48 +1,23 @@
--- `table_read::check_body` meets its contract: with room for one ordinate, the pass answers and leaves the first.
-use borrow.Author.Needs.{needs, sfits-of}
-use mir.Syntax.{w32}
-use mir.Facts.{toZ-ofZ}
-use Rattle.table_read.proofs.AnswerLaws.{check-refused, check-first}
+-- `table_read::check_body` meets its contract: of what the lines say and 16 the sooner one.
+use borrow.Author.Needs.{needs}
+use Rattle.table_spec.specs.Reading.{read}
+use Rattle.table_read.proofs.AnswerLaws.{sooner-told}
 use Rattle.table_read.proofs.check_body.Statement.{statement}
 use Rattle.table_read.proofs.check_body.Tie as tie
 
-slice-aggregate-pass : tie.Need-slice-aggregate-pass
-slice-aggregate-pass c = search needs
+long-line-requires : tie.Need-long-line-requires
+long-line-requires c κs = search needs
 
-pass-requires : tie.Need-pass-requires
-pass-requires c κs = search needs
+check-lines-requires : tie.Need-check-lines-requires
+check-lines-requires c κs = c .before .before .pre
 
-enum-known-n : tie.Need-enum-known-n
-enum-known-n c = search needs
-
-new-requires : tie.Need-new-requires
-new-requires c κs = search needs
-
-enum-told : tie.Need-enum-told
-enum-told c = search needs
-
-array-copy-out-t13 : tie.Need-array-copy-out-t13
-array-copy-out-t13 c = search needs
+sooner-requires : tie.Need-sooner-requires
+sooner-requires c κs = search needs
 
 returns : tie.Need-returns
-returns c =
-    let told = c .before .before in let passed = told .before .before .before in
-    rw (c .new .ensures) (check-refused _ _ (rw (told .n .given .1) at (passed .pass .ensures)))
-
-returns-2 : tie.Need-returns-2
-returns-2 c =
-    let told = c .before in let passed = told .before .before .before in let start = passed .before .before .before in
-    rw (toZ-ofZ (sfits-of {w = w32} (c .t13 .given))) (check-first (start .pre .some) (rw (told .enum-told .given .1) at (passed .pass .ensures)))
+unfolding read
+returns c = rw (c .sooner .ensures, c .before .before .long-line .ensures, c .before .check-lines .ensures) (sooner-told _ _)
 
 pub check-body-spec : {M : Type 1} → statement M
 check-body-spec =
-    tie.close
-    (tie.spec
-    slice-aggregate-pass
-    pass-requires
-    enum-known-n
-    new-requires
-    enum-told
-    array-copy-out-t13
-    returns
-    returns-2)
+    tie.close (tie.spec long-line-requires check-lines-requires sooner-requires returns)
