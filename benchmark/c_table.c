@@ -1,4 +1,4 @@
-/* Readers of table bodies with all checks of documents 01 and 02 (T-03), in plain C. */
+/* Readers of table bodies with all checks of documents 01 and 02 (T-03, T-06), in plain C. */
 #include "c_table.h"
 
 #include <string.h>
@@ -79,6 +79,16 @@ static const uint8_t *line_end(const uint8_t *p, const uint8_t *end)
         return lf ? lf + 1 : end;
     }
     return NULL;
+}
+
+/* Whether the line at p has more than 80 bytes, LF or CR LF not counted. */
+static bool line_is_long(const uint8_t *p, const uint8_t *end)
+{
+    size_t left = (size_t)(end - p);
+    const uint8_t *lf = memchr(p, '\n', left < LONGEST_LINE + 2 ? left : LONGEST_LINE + 2);
+    if (!lf)
+        return left > LONGEST_LINE;
+    return lf - p - (lf > p && lf[-1] == '\r') > LONGEST_LINE;
 }
 
 /* A head: its end (NULL if it is misspelled), its value and the unit of its last written place, both in thousandths. */
@@ -162,6 +172,13 @@ ALWAYS_INLINE uint64_t pass(const struct frame *f, struct text body, bool storin
         *place = (uint64_t)((at)-body.start);                                                                          \
         return number;                                                                                                 \
     } while (0)
+/* A fault on a line, which its length comes before. */
+#define REFUSE_ON(number, at)                                                                                          \
+    do {                                                                                                               \
+        if (line_is_long(line, end))                                                                                   \
+            REFUSE(16, line);                                                                                          \
+        REFUSE(number, at);                                                                                            \
+    } while (0)
 
     const uint8_t *p = body.start, *const end = body.end;
     const int64_t points = f->points;
@@ -170,25 +187,28 @@ ALWAYS_INLINE uint64_t pass(const struct frame *f, struct text body, bool storin
     enum { NONE, PLAIN, GAP, SLOPE } form = NONE; /* what the last value of the line before was */
 
     while (p < end) {
+        const uint8_t *const line = p;
         while (p < end && is_blank(*p))
             p++;
         const uint8_t *next = line_end(p, end);
         if (next) {
+            if (UNLIKELY(next - line > LONGEST_LINE) && line_is_long(line, end))
+                REFUSE(16, line);
             p = next;
             continue;
         }
         const uint8_t *const head = p;
         unsigned k = c_kinds[*p] >> 4;
         if (k >= LF)
-            REFUSE(3, p);
+            REFUSE_ON(3, p);
         if (k != DIGIT && k != PLUS && k != MINUS)
-            REFUSE(4, p);
+            REFUSE_ON(4, p);
         struct head read = read_head(p, end);
         if (!read.end)
-            REFUSE(4, p);
+            REFUSE_ON(4, p);
         bool check = form == SLOPE; /* the next value repeats the last point */
         if (!head_passes(f, &read, i - check))
-            REFUSE(6, head);
+            REFUSE_ON(6, head);
         p = read.end;
 
         form = NONE;
@@ -203,19 +223,19 @@ ALWAYS_INLINE uint64_t pass(const struct frame *f, struct text body, bool storin
             case DIF:
             case DIF_MINUS:
                 if (form != PLAIN && form != SLOPE)
-                    REFUSE(dif_is_spelled(at, end) ? 8 : 5, at);
+                    REFUSE_ON(dif_is_spelled(at, end) ? 8 : 5, at);
                 form = SLOPE;
                 repeated = false;
                 for (;; at = p++) { /* differences mostly come in rows: they have a loop of their own */
                     value = (int64_t)digits(&p, end, entry & 15);
                     if (UNLIKELY(p - at > 10 || (entry == K(DIF, 0) && p - at > 1)))
-                        REFUSE(5, at);
+                        REFUSE_ON(5, at);
                     step = entry < K(DIF_MINUS, 0) ? value : -value;
                     y += step;
                     if (UNLIKELY(!in_range(y)))
-                        REFUSE(9, at);
+                        REFUSE_ON(9, at);
                     if (UNLIKELY(i == points))
-                        REFUSE(11, at);
+                        REFUSE_ON(11, at);
                     if (storing)
                         out[i] = (int32_t)y;
                     i++;
@@ -227,14 +247,14 @@ ALWAYS_INLINE uint64_t pass(const struct frame *f, struct text body, bool storin
             case DUP: {
                 uint64_t count = digits(&p, end, entry & 15);
                 if (p - at > 5)
-                    REFUSE(5, at);
+                    REFUSE_ON(5, at);
                 if (form == NONE || repeated || count < 2)
-                    REFUSE(8, at);
+                    REFUSE_ON(8, at);
                 int64_t more = (int64_t)count - 1, last = y + more * step;
                 if (form == SLOPE && !in_range(last))
-                    REFUSE(9, at);
+                    REFUSE_ON(9, at);
                 if (more > points - i)
-                    REFUSE(11, at);
+                    REFUSE_ON(11, at);
                 if (storing)
                     for (int64_t j = i; j < i + more; j++)
                         out[j] = (int32_t)(y += step);
@@ -246,23 +266,23 @@ ALWAYS_INLINE uint64_t pass(const struct frame *f, struct text body, bool storin
 
             case DIGIT:
                 if (!is_blank(at[-1]))
-                    REFUSE(5, at);
+                    REFUSE_ON(5, at);
                 value = (int64_t)digits(&p, end, entry & 15);
                 if (p - at > 10)
-                    REFUSE(5, at);
+                    REFUSE_ON(5, at);
                 break;
             case PLUS:
             case MINUS:
                 value = (int64_t)digits(&p, end, 0);
                 if (p - at < 2 || p - at > 11)
-                    REFUSE(5, at);
+                    REFUSE_ON(5, at);
                 value = entry >> 4 == MINUS ? -value : value;
                 break;
             case SQZ:
             case SQZ_MINUS:
                 value = (int64_t)digits(&p, end, entry & 15);
                 if (p - at > 10 || (entry == K(SQZ, 0) && p - at > 1))
-                    REFUSE(5, at);
+                    REFUSE_ON(5, at);
                 value = entry >> 4 == SQZ_MINUS ? -value : value;
                 break;
             case MISSING:
@@ -277,25 +297,25 @@ ALWAYS_INLINE uint64_t pass(const struct frame *f, struct text body, bool storin
             case DOLLAR:
                 p = at;
                 if (!line_end(p, end))
-                    REFUSE(3, p);
+                    REFUSE_ON(3, p);
                 goto line_ended;
             default:
-                REFUSE(3, at);
+                REFUSE_ON(3, at);
             }
 
             /* An ordinate by itself, or a missing one. */
             bool gap = entry >> 4 == MISSING;
             if (!gap && !in_range(value))
-                REFUSE(9, at);
+                REFUSE_ON(9, at);
             step = 0;
             if (check && form == NONE) {
                 if (value != y)
-                    REFUSE(10, at);
+                    REFUSE_ON(10, at);
                 form = PLAIN;
                 continue;
             }
             if (i == points)
-                REFUSE(11, at);
+                REFUSE_ON(11, at);
             if (storing)
                 out[i] = (int32_t)value;
             i++;
@@ -305,8 +325,10 @@ ALWAYS_INLINE uint64_t pass(const struct frame *f, struct text body, bool storin
         }
     line_ended:
         if (form == NONE)
-            REFUSE(7, head);
+            REFUSE_ON(7, head);
         p = line_end(p, end);
+        if (UNLIKELY(p - line > LONGEST_LINE) && line_is_long(line, end))
+            REFUSE(16, line);
     }
     if (i < points)
         REFUSE(12, end);
@@ -314,6 +336,7 @@ ALWAYS_INLINE uint64_t pass(const struct frame *f, struct text body, bool storin
         REFUSE(13, end);
     *place = (uint64_t)points;
     return 0;
+#undef REFUSE_ON
 #undef REFUSE
 }
 

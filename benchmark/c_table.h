@@ -62,7 +62,7 @@ bool c_frame_in_limits(int64_t first, int64_t last, size_t points);
 #define ALWAYS_INLINE static inline __attribute__((always_inline))
 #define UNLIKELY(x) __builtin_expect(!!(x), 0)
 
-enum { MOST_POINTS = 65536, MOST_BYTES = 1048576 };
+enum { MOST_POINTS = 65536, MOST_BYTES = 1048576, LONGEST_LINE = 80 };
 #define LARGEST_ORDINATE INT64_C(2147483647)
 #define MISSING_ORDINATE INT32_MIN
 

@@ -3,8 +3,6 @@
 
 #include <string.h>
 
-enum { LONGEST_LINE = 80 };
-
 /* The pseudo-digits for 0 to 9, of numbers that are not negative and of negative ones; a space stands for none. */
 static const char sqz[2][11] = {"@ABCDEFGHI", " abcdefghi"};
 static const char dif[2][11] = {"%JKLMNOPQR", " jklmnopqr"};

@@ -25,6 +25,7 @@ static const char *const words[] = {
     [11] = "there are more points than NPOINTS says",
     [12] = "there are fewer points than NPOINTS says",
     [13] = "the last check line is absent",
+    [16] = "a line of the table has more than 80 bytes",
     [19] = "the file is too long",
     [20] = "a label has no `=`, or is too long",
     [21] = "the file does not start with TITLE",

@@ -87,7 +87,7 @@ struct lastarunc_scales {
 /*
  * Reads the body of an XYDATA table with the frame first, last, points.
  * Accepted: answer->points is the number of points, and out[0] to out[points - 1] are the ordinates.
- * Refused, 1 to 13: place, line and column count in the body, and out is as it was.
+ * Refused, 1 to 13 or 16: place, line and column count in the body, and out is as it was.
  */
 int64_t lastarunc_read_table(int64_t first, int64_t last, size_t points, const uint8_t *body, size_t body_len,
                              int32_t *out, size_t out_len, struct lastarunc_table *answer);
@@ -118,7 +118,7 @@ int64_t lastarunc_write_form(uint64_t form, int64_t first, int64_t last, size_t 
  * Reads a simple JCAMP-DX file, from TITLE to END, with one XYDATA table.
  * Accepted: answer->points, first and last are the table's frame, and out[0] to out[answer->points - 1] are the
  * ordinates.
- * Refused, 1 to 13 or 19 to 29: place, line and column count in the file, and out is as it was.
+ * Refused, 1 to 13, 16 or 19 to 29: place, line and column count in the file, and out is as it was.
  */
 int64_t lastarunc_read_file(const uint8_t *file, size_t file_len, int32_t *out, size_t out_len,
                             struct lastarunc_file *answer);

@@ -1,11 +1,12 @@
 //! Reading the body of a table: lines first, then tokens, then their meaning (01, Spelling of a body).
 
-use crate::frame::{refusal, Frame, Head, Refusal, LARGEST_ORDINATE, LONGEST, MISSING, UNITS};
+use crate::frame::{refusal, Frame, Head, Refusal, LARGEST_ORDINATE, LONGEST, LONGEST_LINE, MISSING, UNITS};
 
-/// A line without its line end and without its comment, and the place where it starts.
+/// A line without its line end and without its comment, the place where it starts, and its length with the comment.
 struct Line<'a> {
     start: usize,
     bytes: &'a [u8],
+    length: usize,
 }
 
 /// What a token is. The last three stand for what is not spelled as it should be.
@@ -52,7 +53,8 @@ fn lines(body: &[u8]) -> Vec<Line<'_>> {
     let mut found = Vec::new();
     for piece in body.split(|byte| *byte == b'\n') {
         let has_line_feed = start + piece.len() < body.len();
-        found.push(Line { start, bytes: content(piece, has_line_feed) });
+        let length = without_line_end(piece, has_line_feed).len();
+        found.push(Line { start, bytes: content(piece, has_line_feed), length });
         start += piece.len() + 1;
     }
     found
@@ -60,9 +62,14 @@ fn lines(body: &[u8]) -> Vec<Line<'_>> {
 
 /// What is left of a line when its comment, or else the CR of its CR LF, is taken away.
 pub fn content(piece: &[u8], has_line_feed: bool) -> &[u8] {
-    if let Some(at) = comment_start(piece) {
-        return &piece[..at];
+    match comment_start(piece) {
+        Some(at) => &piece[..at],
+        None => without_line_end(piece, has_line_feed),
     }
+}
+
+/// What is left of a line when the CR of its CR LF is taken away; a comment stays.
+fn without_line_end(piece: &[u8], has_line_feed: bool) -> &[u8] {
     match piece.split_last() {
         Some((b'\r', rest)) if has_line_feed => rest,
         _ => piece,
@@ -256,6 +263,9 @@ impl Reading {
     /// Reads all lines of a body that keeps its limits.
     fn body(&mut self, body: &[u8]) -> Result<Vec<i32>, Refusal> {
         for line in lines(body) {
+            if line.length > LONGEST_LINE {
+                return Err(refusal(16, line.start));
+            }
             let tokens = tokens(&line);
             if !tokens.is_empty() {
                 self.line(&tokens)?;
@@ -349,7 +359,7 @@ impl Reading {
     }
 }
 
-/// Reads a table body into N ordinates, or refuses with 1 to 13; `room` is the length of the lent ordinate slice.
+/// Reads a table body into N ordinates, or refuses with 1 to 13 or 16; `room` is the length of the lent ordinate slice.
 pub fn read_body(first: i64, last: i64, points: u64, body: &[u8], room: usize) -> Result<Vec<i32>, Refusal> {
     judged_body(&Frame { first, last, points }, body, room).0
 }
@@ -366,4 +376,31 @@ pub fn judged_body(frame: &Frame, body: &[u8], room: usize) -> (Result<Vec<i32>,
         Reading { frame: *frame, given: Vec::new(), line_before_ended_in_difference: false, heads: Vec::new() };
     let answer = reading.body(body);
     (answer, reading.heads)
+}
+
+/// A line as its length is judged, for counting: where it starts, its bytes, and how it ends.
+pub struct LineLength {
+    pub start: usize,
+    pub length: usize,
+    pub has_line_feed: bool,
+    pub has_cr_lf: bool,
+    pub ends_in_cr: bool,
+    pub is_passed_over: bool,
+}
+
+/// The lines of a body with their lengths.
+pub fn line_lengths(body: &[u8]) -> Vec<LineLength> {
+    let of = |line: &Line| {
+        let end = line.start + line.length;
+        let rest = &body[end..];
+        LineLength {
+            start: line.start,
+            length: line.length,
+            has_line_feed: !rest.is_empty(),
+            has_cr_lf: rest.starts_with(b"\r"),
+            ends_in_cr: body[line.start..end].ends_with(b"\r"),
+            is_passed_over: line.bytes.iter().all(|byte| is_blank(*byte)),
+        }
+    };
+    lines(body).iter().map(of).collect()
 }

@@ -8,7 +8,7 @@ pub mod tables;
 pub mod writes;
 pub mod written_files;
 
-use crate::frame::{Frame, LONGEST};
+use crate::frame::{Frame, LONGEST, LONGEST_LINE};
 use crate::random::Random;
 use crate::stream::{put_body_case, put_file_case, put_record_case, put_write_case, put_written_file_case, BodyCase};
 use crate::text::{write_body, TextForm};
@@ -135,7 +135,8 @@ fn large_body_case(random: &mut Random, kind: usize) -> BodyCase {
         0 => pad(random, &mut body, LONGEST),
         1 => pad(random, &mut body, LONGEST + 1),
         3 => damage::damage(random, &mut body),
-        4 | 10 => body
+        4 => drop(body.splice(0..0, lines_of(b"$$", b'$', LONGEST - body.len()))),
+        10 => body
             .splice(0..0, [b"$$".to_vec(), vec![b'$'; LONGEST - 3 - body.len()], b"\n".to_vec()].concat())
             .for_each(drop),
         _ => {}
@@ -143,7 +144,7 @@ fn large_body_case(random: &mut Random, kind: usize) -> BodyCase {
     let (frame, body) = match kind {
         2 => extremes(),
         5 => (rows, b"0AX5536".to_vec()),
-        6 => (rows, [b"0A".to_vec(), vec![b'\t'; LONGEST - 5], b"BCD".to_vec()].concat()),
+        6 => (rows, [b"0A\n".to_vec(), lines_of(b"", b'\t', LONGEST - 7), b"1BCD".to_vec()].concat()),
         7 => (rows, [b"0".to_vec(), vec![b'A'; LONGEST - 1]].concat()),
         8 | 9 => (rows, one_a_line(random, points, kind == 9)),
         11 => (rows, [b"0 ".to_vec(), vec![b'1'; LONGEST - 2]].concat()),
@@ -172,19 +173,33 @@ fn one_a_line(random: &mut Random, points: usize, damaged: bool) -> Vec<u8> {
     body
 }
 
-/// Makes bytes exactly so long, with a comment, blanks or lines of blanks at the end, or cuts them off.
+/// Lines that are passed over, so many bytes in all: each starts with a mark, goes on with a filler up to 80 bytes, and
+/// ends with LF; the last may be shorter.
+fn lines_of(mark: &[u8], filler: u8, length: usize) -> Vec<u8> {
+    let mut lines = Vec::new();
+    while length - lines.len() > mark.len() {
+        let line = (length - lines.len() - 1).min(LONGEST_LINE);
+        lines.extend(mark);
+        lines.extend(vec![filler; line - mark.len()]);
+        lines.push(b'\n');
+    }
+    lines.resize(length, b'\n');
+    lines
+}
+
+/// Makes bytes exactly so long, or cuts them off: with empty lines, lines of blanks or comments of 80 bytes each, or one
+/// line of blanks, which is longer.
 pub fn pad(random: &mut Random, bytes: &mut Vec<u8>, wanted: usize) {
     bytes.truncate(wanted);
-    let filler = random.pick(&[b" ", b"\n", b"c"]);
-    if filler == b"c" && bytes.len() + 3 <= wanted {
-        bytes.extend(b"\n$$");
+    let missing = wanted - bytes.len();
+    match random.below(6) {
+        0 => bytes.resize(wanted, b' '),
+        1 => bytes.resize(wanted, b'\n'),
+        kind if missing > 0 => {
+            let mark: &[u8] = if kind % 2 == 0 { b"$$" } else { b"" };
+            bytes.push(b'\n');
+            bytes.extend(lines_of(mark, if kind % 2 == 0 { b'c' } else { b' ' }, missing - 1));
+        }
+        _ => {}
     }
-    let filler = if bytes.ends_with(b"$$") {
-        b'c'
-    } else if filler == b"c" {
-        b' '
-    } else {
-        filler[0]
-    };
-    bytes.resize(wanted, filler);
 }

@@ -9,6 +9,9 @@ pub const LARGEST_ABSCISSA: i128 = 9_999_999_999;
 /// Longest body, and longest file, in bytes.
 pub const LONGEST: usize = 1_048_576;
 
+/// Most bytes of a body's line, its line end not counted (02, T-06).
+pub const LONGEST_LINE: usize = 80;
+
 /// Largest magnitude of an ordinate.
 pub const LARGEST_ORDINATE: i128 = 2_147_483_647;
 

@@ -8,6 +8,7 @@ mod file_text;
 mod file_tried;
 mod frame;
 mod heads;
+mod lengths;
 mod line;
 mod plain;
 mod random;

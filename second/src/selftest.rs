@@ -3,6 +3,7 @@
 
 mod forms;
 mod heads;
+mod lengths;
 mod written_files;
 
 use crate::body::read_body;
@@ -142,7 +143,7 @@ fn check_bodies(report: &mut Report) {
     report.compare("F too far", plain(read_body(10_000_000_000, 1, 2, b"", 2)), Err((1, 0)));
     report.compare("L too far", plain(read_body(0, i64::MIN, 2, b"", 2)), Err((1, 0)));
     report.compare("room", plain(read_body(0, 3000, 4, b"", 3)), Err((2, 0)));
-    report.compare("longest", plain(read_body(0, 3000, 4, &vec![b' '; 1_048_576], 4)), Err((12, 1_048_576)));
+    report.compare("longest", plain(read_body(0, 3000, 4, &vec![b'\n'; 1_048_576], 4)), Err((12, 1_048_576)));
     report.compare("too long", plain(read_body(0, 3000, 4, &vec![b' '; 1_048_577], 4)), Err((1, 0)));
     report.compare("9 past N", plain(read_body(0, 3000, 4, b"0A000000000Js", 4)), Err((11, 12)));
     report.compare("9 past N", plain(read_body(0, 3000, 4, b"0B147483640Js", 4)), Err((9, 12)));
@@ -545,7 +546,8 @@ fn check_spellings(report: &mut Report, random: &mut Random) {
         let unit = random.pick(&UNITS) as i64;
         let frame = if random.once_in(2) { tables::frame(random, points) } else { coarse::frame(random, points, unit) };
         let list = tables::ordinates(random, points);
-        let style = spell::Style { half_heads: spell::NEVER, slips: spell::NEVER, ..spell::style(random) };
+        let never = spell::NEVER;
+        let style = spell::Style { half_heads: never, slips: never, over: never, ..spell::style(random) };
         let body = spell::body(random, &style, &frame, &list);
         let found = read_body(frame.first, frame.last, frame.points, &body, points);
         report.compare(&format!("{frame:?} {}", body.escape_ascii()), plain(found), Ok(list));
@@ -577,6 +579,7 @@ pub fn run() -> i32 {
     check_texts(report);
     forms::check(report);
     heads::check(report);
+    lengths::check(report);
     check_file_sample(report);
     check_numbers(report);
     check_counts(report);

@@ -6,6 +6,7 @@ use crate::file_text::{write_file, Given, Scales, WrittenFile};
 use crate::file_tried;
 use crate::frame::{Frame, Refusal};
 use crate::heads::{tried, TRIED};
+use crate::lengths;
 use crate::line::Told;
 use crate::text::{write_body, TextForm};
 use std::collections::BTreeMap;
@@ -223,6 +224,8 @@ struct Stream<R: Read> {
     input: R,
     /// How many bodies tried each of `TRIED`.
     tried: [usize; TRIED.len()],
+    /// How many bodies tried each of `lengths::TRIED`.
+    tried_lines: [usize; lengths::TRIED.len()],
     /// How many tables with |L-F| below N-1 were written.
     close: usize,
     /// How many files to be written tried each of `file_tried::TRIED`.
@@ -295,6 +298,10 @@ impl<R: Read> Stream<R> {
         for (times, holds) in self.tried.iter_mut().zip(tried(&frame, &body, room)) {
             *times += usize::from(holds);
         }
+        let answer = read_body(frame.first, frame.last, frame.points, &body, room);
+        for (times, holds) in self.tried_lines.iter_mut().zip(lengths::tried(&body, &answer)) {
+            *times += usize::from(holds);
+        }
         Ok((number, body.len()))
     }
 
@@ -357,10 +364,11 @@ impl<R: Read> Stream<R> {
 }
 
 /// Counts the answers of a stream by kind of case, written ones by form too, and number, and what bodies' heads and
-/// files to be written tried, and prints them.
+/// lines and files to be written tried, and prints them.
 pub fn count(input: impl Read) -> io::Result<()> {
     let tried_files = [0; file_tried::TRIED.len()];
-    let mut stream = Stream { input, tried: [0; TRIED.len()], close: 0, tried_files };
+    let tried_lines = [0; lengths::TRIED.len()];
+    let mut stream = Stream { input, tried: [0; TRIED.len()], tried_lines, close: 0, tried_files };
     let mut counts: BTreeMap<(&str, u32), usize> = BTreeMap::new();
     let mut sizes: BTreeMap<&str, (usize, usize)> = BTreeMap::new();
     while let Some(kind) = stream.kind()? {
@@ -382,6 +390,9 @@ pub fn count(input: impl Read) -> io::Result<()> {
         }
     }
     for (what, times) in TRIED.iter().zip(stream.tried) {
+        println!("bodies, {what}: {times}");
+    }
+    for (what, times) in lengths::TRIED.iter().zip(stream.tried_lines) {
         println!("bodies, {what}: {times}");
     }
     println!("tables with |L-F| below N-1, written: {}", stream.close);

@@ -71,7 +71,8 @@ fn explain_table(number: u64) {
         10 => say(b"the first value of this line does not equal the last ordinate before it"),
         11 => say(b"more points than NPOINTS says"),
         12 => say(b"fewer points than NPOINTS says"),
-        _ => say(b"the last line ends in difference form, and no check line follows"),
+        13 => say(b"the last line ends in difference form, and no check line follows"),
+        _ => say(b"this line has more than 80 bytes"),
     }
 }
 

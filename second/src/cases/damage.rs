@@ -75,9 +75,10 @@ const PIECES: &[&[u8]] = &[
 /// Damages bytes once to three times.
 pub fn damage(random: &mut Random, bytes: &mut Vec<u8>) {
     for _ in 0..random.pick(&[1, 1, 1, 2, 3]) {
-        match random.below(8) {
-            0 => damage_line(random, bytes),
-            1..=3 => put_in(random, bytes),
+        match random.below(16) {
+            0 | 1 => damage_line(random, bytes),
+            2 => lengthen(random, bytes),
+            3..=7 => put_in(random, bytes),
             _ => damage_byte(random, bytes),
         }
     }
@@ -130,6 +131,24 @@ fn damage_line(random: &mut Random, bytes: &mut Vec<u8>) {
         _ => lines.swap(at, other),
     }
     *bytes = lines.concat();
+}
+
+/// Fills a line up with blanks, or puts a line of blanks or a comment in: 80 bytes long, 81, or 82 (02, T-06).
+fn lengthen(random: &mut Random, bytes: &mut Vec<u8>) {
+    let mut lines: Vec<Vec<u8>> = bytes.split(|b| *b == b'\n').map(<[u8]>::to_vec).collect();
+    let at = random.below(lines.len());
+    let length = random.pick(&[80, 81, 81, 82]);
+    match random.below(3) {
+        0 => lines.insert(at, vec![b' '; length]),
+        1 => lines.insert(at, [b"$$".to_vec(), vec![b'c'; length - 2]].concat()),
+        _ => {
+            let line = &mut lines[at];
+            let end = if line.ends_with(b"\r") { line.len() - 1 } else { line.len() };
+            let missing = length.saturating_sub(end);
+            drop(line.splice(end..end, vec![b' '; missing]));
+        }
+    }
+    *bytes = lines.join(&b'\n');
 }
 
 /// A body of pieces and small tokens that may be right or not, with heads that mostly fit F = 0 and spacing 1000.

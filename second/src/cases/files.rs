@@ -3,7 +3,7 @@
 use super::spell::{self, blanks, comment, line_end, passed_over, Style};
 use super::{damage, large_cases, pad, tables};
 use crate::file::{quotient, Decimal};
-use crate::frame::{Frame, LARGEST_ORDINATE, LONGEST, MISSING};
+use crate::frame::{Frame, LARGEST_ORDINATE, LONGEST, LONGEST_LINE, MISSING};
 use crate::random::Random;
 use crate::stream::{FileCase, RecordCase};
 
@@ -344,7 +344,8 @@ fn after_end(random: &mut Random, file: &mut Vec<u8>) {
     }
 }
 
-/// The seven needed records and some that are passed over.
+/// The seven needed records and some that are passed over; now and then 80 blanks or 81 stand after the table, before
+/// the next `##` (02, T-06).
 fn entries(random: &mut Random, style: &Style, numbers: &Numbers, points: usize, body: Vec<u8>) -> Vec<Entry> {
     let mut entries = Vec::new();
     let decimals = [
@@ -361,7 +362,11 @@ fn entries(random: &mut Random, style: &Style, numbers: &Numbers, points: usize,
     let zeros = if random.once_in(8) { "000000" } else { "" };
     let count = around(random, style, format!("{zeros}{points}").as_bytes());
     entries.push(Entry { name: b"NPOINTS".to_vec(), text: count, equals: b"=" });
-    entries.push(Entry { name: b"XYDATA".to_vec(), text: table(random, style, b"(X++(Y..Y))", &body), equals: b"=" });
+    let mut text = table(random, style, b"(X++(Y..Y))", &body);
+    if random.once_in(30) {
+        text.extend(vec![b' '; LONGEST_LINE + random.below(2)]);
+    }
+    entries.push(Entry { name: b"XYDATA".to_vec(), text, equals: b"=" });
     let mut names: Vec<Vec<u8>> = Vec::new();
     for _ in 0..random.pick(&[0, 0, 1, 3]) {
         let name = if random.once_in(8) {

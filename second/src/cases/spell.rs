@@ -1,7 +1,7 @@
 //! Right spellings of a table, in every form that 01 lets pass, mixed at random.
 
 use super::coarse;
-use crate::frame::{nearest, Frame, MISSING, UNITS};
+use crate::frame::{nearest, Frame, LONGEST_LINE, MISSING, UNITS};
 use crate::random::Random;
 
 /// How a body is spelled: odds (once in so many times) and forms that one body keeps to.
@@ -18,6 +18,9 @@ pub struct Style {
     /// To how many places after the point heads are rounded, if they are (02, T-03).
     pub places: Option<usize>,
     pub slips: usize,
+    /// How often a line is filled up to 80 bytes, and how often beyond (02, T-06).
+    pub full: usize,
+    pub over: usize,
 }
 
 /// The ways to spell a value.
@@ -50,10 +53,13 @@ pub fn style(random: &mut Random) -> Style {
         half_heads: random.pick(&[40, 1_000_000, 1_000_000]),
         places: random.pick(&[None, None, None, None, Some(0), Some(1), Some(2)]),
         slips: random.pick(&[20, NEVER, NEVER]),
+        full: random.pick(&[4, 40, NEVER]),
+        over: random.pick(&[12, NEVER, NEVER, NEVER]),
     }
 }
 
-/// A spelling of a table in this frame. It is right unless the style takes heads at half a spacing or slips.
+/// A spelling of a table in this frame. It is right unless the style takes heads at half a spacing, slips, or makes
+/// lines over 80 bytes.
 pub fn body(random: &mut Random, style: &Style, frame: &Frame, ordinates: &[i32]) -> Vec<u8> {
     let mut body = Vec::new();
     let mut next = 0;
@@ -91,26 +97,72 @@ fn line(
     body: &mut Vec<u8>,
 ) -> (usize, bool) {
     let mut next = if check { from - 1 } else { from };
+    let start = body.len();
     blanks(random, style, body);
     body.extend(head(random, style, frame, next));
     let mut form = None;
     while form.is_none() || (next < ordinates.len() && !random.once_in(style.new_line)) {
-        blanks(random, style, body);
-        if random.once_in(if check && form.is_none() { style.slips / 4 } else { style.slips }) {
-            slip(random, ordinates[next], body);
+        let before = body.len();
+        let (here, after) = group(random, style, ordinates, next, form.is_none().then_some(check), body);
+        if form.is_some() && body.len() - start > LONGEST_LINE {
+            body.truncate(before);
+            break;
         }
-        let here = value(random, style, ordinates, next, form.is_some(), body);
-        next += 1;
-        if random.once_in(style.duplicates) {
-            next += duplicate(random, style, ordinates, next, here, body);
-        }
-        form = Some(here);
+        (form, next) = (Some(here), after);
     }
+    let end = body.len();
     blanks(random, style, body);
     if random.once_in(style.comments) {
         comment(random, body);
     }
+    fit(random, style, start, end, body);
     (next, form == Some(Form::Difference))
+}
+
+/// A value and perhaps a DUP after it, its form, and the point after them. `first` says whether a line's first value is
+/// a check line's.
+fn group(
+    random: &mut Random,
+    style: &Style,
+    ordinates: &[i32],
+    next: usize,
+    first: Option<bool>,
+    body: &mut Vec<u8>,
+) -> (Form, usize) {
+    blanks(random, style, body);
+    if random.once_in(if first == Some(true) { style.slips / 4 } else { style.slips }) {
+        slip(random, ordinates[next], body);
+    }
+    let form = value(random, style, ordinates, next, first.is_none(), body);
+    let mut after = next + 1;
+    if random.once_in(style.duplicates) {
+        after += duplicate(random, style, ordinates, after, form, body);
+    }
+    (form, after)
+}
+
+/// Makes the line from `start` on, whose tokens end at `end`, at most 80 bytes long, if it can, and now and then fills
+/// it up to 80 bytes or beyond, with blanks or with a comment.
+fn fit(random: &mut Random, style: &Style, start: usize, end: usize, body: &mut Vec<u8>) {
+    if body.len() - start > LONGEST_LINE {
+        body.truncate(end);
+    }
+    let length = if random.once_in(style.over) {
+        LONGEST_LINE + random.pick(&[1, 1, 1, 2, 20])
+    } else if random.once_in(style.full) {
+        LONGEST_LINE
+    } else {
+        return;
+    };
+    let missing = (start + length).saturating_sub(body.len());
+    let has_comment = body[start..].windows(2).any(|pair| pair == b"$$");
+    if !has_comment && missing >= 2 && random.once_in(2) {
+        body.extend(b"$$");
+    }
+    let in_comment = body[start..].windows(2).any(|pair| pair == b"$$");
+    while body.len() < start + length {
+        body.push(if in_comment { random.pick(b"c$\r\xff ") } else { random.pick(b"  \t") });
+    }
 }
 
 /// A value too many: one that is seldom allowed, a neighbour of the right one, or steps that come near the range's end.
@@ -316,10 +368,12 @@ pub fn line_end(random: &mut Random, style: &Style, body: &mut Vec<u8>) {
 /// Lines that are passed over, now and then.
 pub fn passed_over(random: &mut Random, style: &Style, body: &mut Vec<u8>) {
     while random.once_in(style.passed_over) {
+        let start = body.len();
         blanks(random, style, body);
         if random.once_in(2) {
             comment(random, body);
         }
+        fit(random, style, start, start, body);
         line_end(random, style, body);
     }
 }
