@@ -49,7 +49,7 @@ fn refused_in(r: Fault, start: usize) -> FileStaged
     refused(number, start + r.place)
 }
 
-// The table, in the frame that was found: 1 to 13, then 29, and only then its ordinates are stored.
+// The table, in the frame that was found: 1 to 13 and 16, then 29, and only then its ordinates are stored.
 fn read_body(
     file: &[u8],
     out: &mut [i32],

@@ -45,7 +45,7 @@ module _ (s : List ℕ) (space : ℕ) where
       pick (agrees (getD ys 0 0) (ratio 0 (n .firsty) (n .yfactor) .rounded))
       (accept-file (record { points = n .npoints; first = f; last = l }) ys) (refuse-file 29 (markOf s (t .firsty)))
 
-  -- 1 to 13 on the body: "from the line after the list to the next label's `##`", so the text of XYDATA from its start on
+  -- 1 to 13, and 16 (02, T-06), on the body: "from the line after the list to the next label's `##`", so the text of XYDATA from its start on
   unfoldable pub byTable : Needed → Numbers → ℕ → ℤ → ℤ → FileAnswer
   byTable t n start f l = byFirst t n f l (t .xydata .from + start) (readTable f l (n .npoints) (drop start (textIn s (t .xydata))) space)
 

@@ -185,7 +185,7 @@ fn store_body(body: &[u8], fr: Frame, out: &mut [i32])
     pass(body, fr, out);
 }
 
-// What a body says in a frame, with room for so many ordinates: its first ordinate, or a refusal (01, "Refusal numbers" 1 to 13). Nothing lent is written to.
+// What a body says in a frame, with room for so many ordinates: its first ordinate, or a refusal (01, "Refusal numbers" 1 to 13; 02, T-06, 16). Nothing lent is written to.
 pub fn check_table(first: i64, last: i64, points: usize, body: &[u8], room: usize) -> Checked
     ensures { λ r. ⌜ r ≡ toldFirst (readTable first last points (now (body .entry)) room) ⌝ }
 {
