@@ -1,14 +1,14 @@
 -- What the writing of values on lines needs. No place of the code is named here. Assumes nothing.
 use mathlib.Core.Path.{_≡_, refl, sym, ap, _∙_}
 use mathlib.Core.List.{List, [], _∷_, _++_}
-use Prim.Native.Nat.{ℕ, _+_, _-_, _*_, _^_, _≤_, _<_}
+use Prim.Native.Nat.{ℕ, _+_, _-_, _≤_, _<_}
 use native.Mathlib.Omega.{arith}
 use native.Mathlib.Numerals.{add-one}
 use lib.Dec.{ltb}
-use lib.ListN.{length, getD, drop, drop-of-length-le, length-append}
-use lib.Seq.{sets, drop-cons, length-sets}
+use lib.ListN.{length, getD, drop-of-length-le, length-append}
+use lib.Seq.{sets, drop-cons}
 use borrow.Author.Tests.{le-leb, lt-leb, lt-ltb, le-ltb, ltb-true, ltb-false}
-use Rattle.terms.specs.Logic.{pick, by-case}
+use Rattle.terms.specs.Logic.{by-case}
 use Rattle.table_write_law.specs.Plain.{values}
 use Rattle.table_text.specs.Pieces.{Put, Ahead, put-length, ahead-of, sets-past}
 use Rattle.text_values.specs.declared.State.{State}
@@ -157,6 +157,14 @@ module _ (shown : ℕ → List ℕ) (hd : ℕ → List ℕ) (ys : List ℕ) wher
       -- what is left of the text is lent
       pub room-left : length (lines-left shown hd ys 0) ≤ length o₀ → Room shown ys (record { given = i; at = p; column = c }) (length o₁)
       room-left few = let b = opened-left _ _ left-is in record { heads = hd; lent = omega (arith, b .ends, put-length h, g .same) }
+
+      -- and so is the end of the line after the values that fit
+      pub end-lent : {o₂ : List ℕ} {r : State} → ((k : ℕ) → k < length ys → length (hd k) + length (shown (getD ys k 0)) ≤ 80) → length (lines-left shown hd ys 0) ≤ length o₀
+          → Filled shown ys (record { given = i; at = p; column = c }) o₁ o₂ r → r .at + 2 ≤ length o₂
+      end-lent {r = r} fits few f =
+          let b = f .law hd _ _ (opened-left _ _ left-is) in
+          let e = ap length (line-ends shown hd ys (r .given) (r .column) (f .full) (fits (r .given))) in
+          omega (arith, b .ends, e, f .same, put-length h, g .same)
 
       -- the line is written
       pub goes : {o₂ o₃ : List ℕ} {a : ℕ} {r : State} → ((k : ℕ) → k < length ys → length (hd k) + length (shown (getD ys k 0)) ≤ 80) → c ≤ 15

@@ -15,10 +15,10 @@ ghost use Rattle.text_values.specs.Shows.{Based};
 ghost use Rattle.text_values.specs.Lines.{whole};
 use crate::lines::count_line;
 use crate::lines::fill_line;
+use crate::lines::store_end;
 use crate::shows::marks_of;
 use frame::Frame;
 use table_spec::Style;
-use table_text::digits::put_end;
 use table_text::heads::head_bytes;
 use table_text::heads::put_head;
 use text_digits::COUNTS;
@@ -63,7 +63,7 @@ fn pass(t: &[u8; 200], d: &[u64; 32], m: Marks, ys: &[i32], text: &mut [u8], fr:
             column: head - at,
         };
         let r = fill_line(t, d, m, ys, text, s);
-        at = put_end(text, r.at);
+        at = store_end(text, r.at);
         i = r.given;
     }
     at

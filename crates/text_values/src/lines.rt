@@ -1,8 +1,10 @@
 // Values on lines (02, T-02: "at most 80 bytes a line, as many values as fit"): stored, or only counted.
 ghost use mathlib.Core.Path.{_≡_};
-ghost use mathlib.Core.List.{[], map};
+ghost use mathlib.Core.List.{[], _∷_, map};
+ghost use Prim.Native.Nat.{_+_, _^_, _≤_, _<_};
 ghost use lib.ListN.{length};
 ghost use Rattle.table_spec.specs.Frame.{ordinate-of};
+ghost use Rattle.table_text.specs.Pieces.{Put};
 ghost use Rattle.text_digits.specs.Pairs.{pairs};
 ghost use Rattle.text_digits.specs.Counts.{counts};
 ghost use Rattle.text_values.specs.Shows.{shown, Based};
@@ -80,4 +82,15 @@ pub fn count_line(d: &[u64; 32], m: Marks, ys: &[i32], s: State) -> State
         at,
         column: at - line,
     }
+}
+
+// CR LF, both of which are lent. The place after it.
+pub fn store_end(out: &mut [u8], at: usize) -> usize
+    requires { ⌜ (at + 2 ≤ length (now out)) × (at < 2 ^ 61) ⌝ }
+    ensures { λ r. ⌜ Put (now (out .entry)) at (now (out .exit)) r (13 ∷ 10 ∷ []) ⌝ }
+{
+    let next = at + 1;
+    out[at] = b'\r';
+    out[next] = b'\n';
+    at + 2
 }

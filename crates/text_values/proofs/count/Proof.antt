@@ -4,7 +4,6 @@ use mathlib.Core.List.{[], _∷_, map}
 use Prim.Native.Nat.{_-_}
 use native.Mathlib.Omega.{arith}
 use lib.ListN.{length, length-map}
-use borrow.Author.Needs.{needs}
 use Rattle.table_spec.specs.Frame.{ordinate-of}
 use Rattle.table_text.specs.Pieces.{headOf}
 use Rattle.text_values.specs.Shows.{shown}

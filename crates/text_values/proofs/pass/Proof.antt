@@ -4,13 +4,12 @@ use mathlib.Core.List.{map}
 use Prim.Native.Nat.{_-_}
 use native.Mathlib.Omega.{arith}
 use lib.ListN.{length, length-map}
-use borrow.Author.Needs.{needs}
 use Rattle.table_spec.specs.Frame.{ordinate-of}
 use Rattle.table_text.specs.Pieces.{headOf, put-as}
 use Rattle.text_values.specs.Shows.{shown}
 use Rattle.text_values.specs.Lines.{Going}
 use Rattle.text_values.proofs.FormSteps.{fits-new}
-use Rattle.text_values.proofs.LineSteps.{starts, opens, room-left, goes, ends, whole-is}
+use Rattle.text_values.proofs.LineSteps.{starts, opens, room-left, end-lent, goes, ends, whole-is}
 use Rattle.text_values.proofs.pass.Statement.{statement}
 use Rattle.text_values.proofs.pass.Tie as tie
 
@@ -57,16 +56,27 @@ fill-line-requires c κs =
       room-left (shown (a .m)) (headOf (a .fr)) (map ordinate-of (a .ys .now)) (l .loop .inv) _ (omega (arith, t .loop-test .taken, same)) (put .0) (omega arith) (omega (arith, whole, p .5)),
     )
 
-put-end-requires : tie.Need-put-end-requires Inv-loop μ-loop
-put-end-requires c κs =
+store-end-requires : tie.Need-store-end-requires Inv-loop μ-loop
+store-end-requires c κs =
     let f = c .before .before .before in
     let h = f .before .before .before .before in
     let t = h .before .before in
     let l = t .before in
+    let z = l .before .before in
+    let p = z .pre in
+    let a = z .args in
+    let same = length-map (a .ys .now) ordinate-of in
+    let put = h .put-head .ensures in
+    let next = put .0 .next in
     let most = l .loop .inv .most in
     let far = f .fill-line .ensures .most in
-    let few = l .before .before .pre .3 .few in
-    omega (arith, h .put-head .ensures .1, t .loop-test .taken, l .before .before .pre .4)
+    let few = p .3 .few in
+    let some = p .3 .some in
+    let whole = ap length (whole-is (shown (a .m)) (headOf (a .fr)) (map ordinate-of (a .ys .now)) (omega (arith, same, p .4))) in (
+      end-lent (shown (a .m)) (headOf (a .fr)) (map ordinate-of (a .ys .now)) (l .loop .inv) _ (omega (arith, t .loop-test .taken, same)) (put .0) (omega arith)
+          (fits-new (a .m) (a .fr) (p .3) (map ordinate-of (a .ys .now)) (same ∙ p .4)) (omega (arith, whole, p .5)) (f .fill-line .ensures),
+      omega (arith, put .1, t .loop-test .taken, p .4),
+    )
 
 loop-less : tie.Need-loop-less Inv-loop μ-loop
 loop-less c =
@@ -87,7 +97,7 @@ loop-again c =
     let put = h .put-head .ensures in
     let next = put .0 .next in
     goes (shown (a .m)) (headOf (a .fr)) (map ordinate-of (a .ys .now)) (l .loop .inv) _ (omega (arith, t .loop-test .taken, same)) (put .0) (omega arith)
-    (fits-new (a .m) (a .fr) (z .pre .3) (map ordinate-of (a .ys .now)) (same ∙ z .pre .4)) (omega (arith, put .1)) (f .fill-line .ensures) (e .put-end .ensures)
+    (fits-new (a .m) (a .fr) (z .pre .3) (map ordinate-of (a .ys .now)) (same ∙ z .pre .4)) (omega (arith, put .1)) (f .fill-line .ensures) (e .store-end .ensures)
 
 same-length : tie.Need-same-length Inv-loop μ-loop
 same-length c = c .before .loop .inv .same
@@ -112,7 +122,7 @@ pass-spec =
     put-head-requires
     sub-t16
     fill-line-requires
-    put-end-requires
+    store-end-requires
     loop-less
     loop-again
     same-length

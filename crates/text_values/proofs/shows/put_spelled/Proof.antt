@@ -2,7 +2,6 @@
 use mathlib.Core.Path.{_∙_}
 use native.Mathlib.Omega.{arith}
 use lib.ListN.{length-set}
-use lib.Seq.{length-sets}
 use Rattle.table_text.specs.Pieces.{put-length}
 use Rattle.text_values.proofs.ShowSteps.{parts-length, number-over}
 use borrow.Author.Needs.{needs}

@@ -5,7 +5,6 @@ use Prim.Native.Nat.{ℕ, _+_}
 use native.Mathlib.Omega.{arith}
 use lib.Dec.{lit≤, lit<}
 use lib.ListN.{length}
-use lib.Seq.{sets}
 use Rattle.text_values.proofs.ShowSteps.{shown-missing, shown-up, shown-down}
 use borrow.Author.Needs.{needs}
 use Rattle.text_values.proofs.shows.put_value.Statement.{statement}
