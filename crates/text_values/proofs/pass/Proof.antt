@@ -52,7 +52,8 @@ fill-line-requires c κs =
       p .1,
       p .2,
       rw (← same)
-          (opens (shown (a .m)) (headOf (a .fr)) (map ordinate-of (a .ys .now)) (l .loop .inv) _ (omega (arith, t .loop-test .taken, same)) (put .0) (omega arith) (omega (arith, same, p .4)) (omega (arith, put .1))),
+          (opens (shown (a .m)) (headOf (a .fr)) (map ordinate-of (a .ys .now)) (l .loop .inv) _ (omega (arith, t .loop-test .taken, same)) (put .0) (omega arith)
+          (omega (arith, same, p .4)) (omega (arith, put .1))),
       room-left (shown (a .m)) (headOf (a .fr)) (map ordinate-of (a .ys .now)) (l .loop .inv) _ (omega (arith, t .loop-test .taken, same)) (put .0) (omega arith) (omega (arith, whole, p .5)),
     )
 
