@@ -1,2 +1,3 @@
 pub mod Pairs
 pub mod Counts
+pub mod Lent

@@ -6,6 +6,7 @@ ghost use Rattle.table_text.specs.Digits.{further, Digits};
 ghost use Rattle.table_text.specs.Pieces.{Put, number};
 ghost use Rattle.text_digits.specs.Pairs.{pairs};
 ghost use Rattle.text_digits.specs.Counts.{counts};
+ghost use Rattle.text_digits.specs.Lent.{Storable};
 use table_text::digits::DIGIT;
 
 // The numbers 0 to 99 in two digits each. A constant table is copied at each use, so it is copied once and lent.
@@ -301,7 +302,7 @@ fn store_pairs(t: &[u8; 200], out: &mut [u8], at: usize, v: u64, n: usize) -> u3
 
 // A number with n further digits, its first digit written as `base` plus the digit.
 pub fn store_number(t: &[u8; 200], out: &mut [u8], at: usize, base: u64, v: u64, n: usize)
-    requires { ⌜ (now t ≡ pairs) × (48 ≤ base) × (base ≤ 105) × (n ≡ further 9 v) × (v < 4294967296) × (at + n < length (now out)) ⌝ }
+    requires { ⌜ (now t ≡ pairs) × Storable base v n at (length (now out)) ⌝ }
     ensures { λ r. ⌜ Put (now (out .entry)) at (now (out .exit)) (at + 1 + n) (number base v) ⌝ }
 {
     let next = at + 1;

@@ -62,10 +62,10 @@ module _ (o : List ℕ) (at b : ℕ) (vs : List ℕ) where
   marks-over false false = rw (add-zero at, add-zero at) (set-over (set o at 32) at 45 b vs ∙ set-over o at 32 b vs)
 
 -- a number after its marks is a value
-pub number-over : (o : List ℕ) (at : ℕ) (space signed : Bool) (base size : ℕ) {a b : ℕ} → a ≡ pick space 1 0 → b ≡ pick signed 1 0
-    → sets (set (set o at 32) (at + a) 45) (at + a + b) (number base size) ≡ sets o at (spelled space signed base size)
+pub number-over : (o : List ℕ) {o' : List ℕ} (at : ℕ) (space signed : Bool) (base size : ℕ) {a b : ℕ} → a ≡ pick space 1 0 → b ≡ pick signed 1 0
+    → o' ≡ sets (set (set o at 32) (at + a) 45) (at + a + b) (number base size) → o' ≡ sets o at (spelled space signed base size)
 unfolding number spelled
-number-over o at space signed base size e f = rw (e, f) (marks-over o at (base + top 9 size) (low 9 size []) space signed)
+number-over o at space signed base size e f k = (rw (e, f) at k) ∙ marks-over o at (base + top 9 size) (low 9 size []) space signed
 
 -- ---- the value of an ordinate
 

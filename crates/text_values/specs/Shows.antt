@@ -41,7 +41,7 @@ shown m u =
     (pick (leb zero-ordinate u) (spelled (m .up) false (m .plus) (u - zero-ordinate)) (spelled (m .down) (m .signed) (m .minus) (zero-ordinate - u)))
 
 -- a value of these parts stands from a place to the next, within the bytes that are lent
-pub record Spells (space signed : Bool) (base size at next room : ℕ) : Type 0 where
+pub record Stands (space signed : Bool) (base size at next room : ℕ) : Type 0 where
   pub least : 48 ≤ base
   pub most : base ≤ 105
   pub small : size < 4294967296

@@ -9,8 +9,8 @@ ghost use Rattle.table_spec.specs.Groups.{in-full};
 ghost use Rattle.table_spec.specs.Writing.{lines-of};
 ghost use Rattle.frame.specs.Legal.{Sound};
 ghost use Rattle.table_text.specs.Pieces.{Put, headOf};
-ghost use Rattle.text_digits.specs.Pairs.{pairs};
 ghost use Rattle.text_digits.specs.Counts.{counts};
+ghost use Rattle.text_digits.specs.Lent.{Tables};
 ghost use Rattle.text_values.specs.Shows.{Based};
 ghost use Rattle.text_values.specs.Lines.{whole};
 use crate::lines::count_line;
@@ -49,7 +49,7 @@ struct State {
 
 // The whole text from the start of the lent bytes, which hold it, a line at a time. Its length.
 fn pass(t: &[u8; 200], d: &[u64; 32], m: Marks, ys: &[i32], text: &mut [u8], fr: Frame) -> usize
-    requires { ⌜ (now t ≡ pairs) × (now d ≡ counts) × Based m × Sound fr × (length (now ys) ≡ fr .points) × (length (whole m fr (map ordinate-of (now ys))) ≤ length (now text)) ⌝ }
+    requires { ⌜ Tables (now t) (now d) × Based m × Sound fr × (length (now ys) ≡ fr .points) × (length (whole m fr (map ordinate-of (now ys))) ≤ length (now text)) ⌝ }
     ensures { λ r. ⌜ Put (now (text .entry)) 0 (now (text .exit)) r (whole m fr (map ordinate-of (now (ys .entry)))) ⌝ }
 {
     let n = ys.len();

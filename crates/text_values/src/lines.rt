@@ -5,8 +5,8 @@ ghost use Prim.Native.Nat.{_+_, _^_, _≤_, _<_};
 ghost use lib.ListN.{length};
 ghost use Rattle.table_spec.specs.Frame.{ordinate-of};
 ghost use Rattle.table_text.specs.Pieces.{Put};
-ghost use Rattle.text_digits.specs.Pairs.{pairs};
 ghost use Rattle.text_digits.specs.Counts.{counts};
+ghost use Rattle.text_digits.specs.Lent.{Tables};
 ghost use Rattle.text_values.specs.Shows.{shown, Based};
 ghost use Rattle.text_values.specs.Lines.{Opened, Room, Filled};
 use crate::LONGEST_LINE;
@@ -25,7 +25,7 @@ pub fn fill_line(
     out: &mut [u8],
     s: State,
 ) -> State
-    requires { ⌜ (now t ≡ pairs) × (now d ≡ counts) × Based m × Opened (length (now ys)) s × Room (shown m) (map ordinate-of (now ys)) s (length (now out)) ⌝ }
+    requires { ⌜ Tables (now t) (now d) × Based m × Opened (length (now ys)) s × Room (shown m) (map ordinate-of (now ys)) s (length (now out)) ⌝ }
     ensures { λ r. ⌜ Filled (shown m) (map ordinate-of (now (ys .entry))) s (now (out .entry)) (now (out .exit)) r ⌝ }
 {
     let n = ys.len();

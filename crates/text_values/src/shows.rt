@@ -6,7 +6,7 @@ ghost use lib.Seq.{sets};
 ghost use Rattle.terms.specs.Logic.{pick};
 ghost use Rattle.text_digits.specs.Pairs.{pairs};
 ghost use Rattle.text_digits.specs.Counts.{counts};
-ghost use Rattle.text_values.specs.Shows.{spelled, shown, marks-of, Based, Spells};
+ghost use Rattle.text_values.specs.Shows.{spelled, shown, marks-of, Based, Stands};
 use crate::Marks;
 use signed::ZERO_ORDINATE;
 use table_spec::Style;
@@ -98,7 +98,7 @@ fn put_spelled(
     base: u64,
     size: u64,
 )
-    requires { ⌜ (now t ≡ pairs) × Spells space signed base size at next (length (now out)) ⌝ }
+    requires { ⌜ (now t ≡ pairs) × Stands space signed base size at next (length (now out)) ⌝ }
     ensures { λ r. ⌜ now (out .exit) ≡ sets (now (out .entry)) at (spelled space signed base size) ⌝ }
 {
     let first = mark_width(space);

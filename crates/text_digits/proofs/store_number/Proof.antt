@@ -31,7 +31,7 @@ returns : tie.Need-returns
 returns c =
     let b = c .before .before .before in
     let p = b .before .before .before .pre in
-    number-even _ _ _ _ _ (p .3) (b .store-pairs .ensures .0) (c .if1 .taken) refl
+    number-even _ _ _ _ _ (p .1 .digits) (b .store-pairs .ensures .0) (c .if1 .taken) refl
 
 tens-requires : tie.Need-tens-requires
 tens-requires c κs = search needs
@@ -65,7 +65,7 @@ returns-2 c =
     let i = c .before .before in
     let b = i .before .before .before in
     let p = b .before .before .before .pre in
-    number-odd _ _ _ _ _ (p .3) (b .store-pairs .ensures .0) (i .if1 .left) (p .1) (c .before .tens .ensures) (c .ones .ensures) refl
+    number-odd _ _ _ _ _ (p .1 .digits) (b .store-pairs .ensures .0) (i .if1 .left) (p .1 .least) (c .before .tens .ensures) (c .ones .ensures) refl
 
 pub store-number-spec : {M : Type 1} → statement M
 store-number-spec =

@@ -22,7 +22,7 @@ pass-requires c κs =
     let a = z .args in
     let p = z .pre in
     let e = form-whole (a .style) (p .0) (a .fr) (p .1) (map ordinate-of (a .ys .now)) (length-map (a .ys .now) ordinate-of ∙ p .2) in
-    rw (b .marks-of .ensures, ← e) (refl, refl, marks-based (a .style), p .1, p .2, p .3)
+    rw (b .marks-of .ensures, ← e) (record { pairs-are = refl; counts-are = refl }, marks-based (a .style), p .1, p .2, p .3)
 
 same-length : tie.Need-same-length
 same-length c = search needs

@@ -28,8 +28,8 @@ put-head-requires c κs =
     let l = t .before in
     let p = l .before .before .pre in
     let most = l .loop .inv .most in
-    let few = p .3 .few in
-    (p .3, omega (arith, t .loop-test .taken, p .4), omega (arith, t .loop-test .taken, p .4))
+    let few = p .2 .few in
+    (p .2, omega (arith, t .loop-test .taken, p .3), omega (arith, t .loop-test .taken, p .3))
 
 sub-t16 : tie.Need-sub-t16 Inv-loop μ-loop
 sub-t16 c = let next = c .before .before .put-head .ensures .0 .next in omega arith
@@ -45,16 +45,15 @@ fill-line-requires c κs =
     let same = length-map (a .ys .now) ordinate-of in
     let put = h .put-head .ensures in
     let next = put .0 .next in
-    let few = p .3 .few in
-    let some = p .3 .some in
-    let whole = ap length (whole-is (shown (a .m)) (headOf (a .fr)) (map ordinate-of (a .ys .now)) (omega (arith, same, p .4))) in (
+    let few = p .2 .few in
+    let some = p .2 .some in
+    let whole = ap length (whole-is (shown (a .m)) (headOf (a .fr)) (map ordinate-of (a .ys .now)) (omega (arith, same, p .3))) in (
       p .0,
       p .1,
-      p .2,
       rw (← same)
           (opens (shown (a .m)) (headOf (a .fr)) (map ordinate-of (a .ys .now)) (l .loop .inv) _ (omega (arith, t .loop-test .taken, same)) (put .0) (omega arith)
-          (omega (arith, same, p .4)) (omega (arith, put .1))),
-      room-left (shown (a .m)) (headOf (a .fr)) (map ordinate-of (a .ys .now)) (l .loop .inv) _ (omega (arith, t .loop-test .taken, same)) (put .0) (omega arith) (omega (arith, whole, p .5)),
+          (omega (arith, same, p .3)) (omega (arith, put .1))),
+      room-left (shown (a .m)) (headOf (a .fr)) (map ordinate-of (a .ys .now)) (l .loop .inv) _ (omega (arith, t .loop-test .taken, same)) (put .0) (omega arith) (omega (arith, whole, p .4)),
     )
 
 store-end-requires : tie.Need-store-end-requires Inv-loop μ-loop
@@ -71,12 +70,12 @@ store-end-requires c κs =
     let next = put .0 .next in
     let most = l .loop .inv .most in
     let far = f .fill-line .ensures .most in
-    let few = p .3 .few in
-    let some = p .3 .some in
-    let whole = ap length (whole-is (shown (a .m)) (headOf (a .fr)) (map ordinate-of (a .ys .now)) (omega (arith, same, p .4))) in (
+    let few = p .2 .few in
+    let some = p .2 .some in
+    let whole = ap length (whole-is (shown (a .m)) (headOf (a .fr)) (map ordinate-of (a .ys .now)) (omega (arith, same, p .3))) in (
       end-lent (shown (a .m)) (headOf (a .fr)) (map ordinate-of (a .ys .now)) (l .loop .inv) _ (omega (arith, t .loop-test .taken, same)) (put .0) (omega arith)
-          (fits-new (a .m) (a .fr) (p .3) (map ordinate-of (a .ys .now)) (same ∙ p .4)) (omega (arith, whole, p .5)) (f .fill-line .ensures),
-      omega (arith, put .1, t .loop-test .taken, p .4),
+          (fits-new (a .m) (a .fr) (p .2) (map ordinate-of (a .ys .now)) (same ∙ p .3)) (omega (arith, whole, p .4)) (f .fill-line .ensures),
+      omega (arith, put .1, t .loop-test .taken, p .3),
     )
 
 loop-less : tie.Need-loop-less Inv-loop μ-loop
@@ -98,7 +97,7 @@ loop-again c =
     let put = h .put-head .ensures in
     let next = put .0 .next in
     goes (shown (a .m)) (headOf (a .fr)) (map ordinate-of (a .ys .now)) (l .loop .inv) _ (omega (arith, t .loop-test .taken, same)) (put .0) (omega arith)
-    (fits-new (a .m) (a .fr) (z .pre .3) (map ordinate-of (a .ys .now)) (same ∙ z .pre .4)) (omega (arith, put .1)) (f .fill-line .ensures) (e .store-end .ensures)
+    (fits-new (a .m) (a .fr) (z .pre .2) (map ordinate-of (a .ys .now)) (same ∙ z .pre .3)) (omega (arith, put .1)) (f .fill-line .ensures) (e .store-end .ensures)
 
 same-length : tie.Need-same-length Inv-loop μ-loop
 same-length c = c .before .loop .inv .same
@@ -109,8 +108,8 @@ returns c =
     let z = l .before .before in
     let a = z .args in
     let same = length-map (a .ys .now) ordinate-of in
-    let some = z .pre .3 .some in
-    put-as (whole-is (shown (a .m)) (headOf (a .fr)) (map ordinate-of (a .ys .now)) (omega (arith, same, z .pre .4)))
+    let some = z .pre .2 .some in
+    put-as (whole-is (shown (a .m)) (headOf (a .fr)) (map ordinate-of (a .ys .now)) (omega (arith, same, z .pre .3)))
     (ends (shown (a .m)) (headOf (a .fr)) (map ordinate-of (a .ys .now)) (l .loop .inv) (omega (arith, c .loop-test .left, same)))
 
 pub pass-spec : {M : Type 1} → statement M

@@ -27,7 +27,7 @@ loop-holds : tie.Need-loop-holds Inv-loop μ-loop
 loop-holds c =
     let z = c .before .before in
     let a = z .args in
-    filling-starts (shown (a .m)) (map ordinate-of (a .ys .now)) _ (a .s) (rw (length-map (a .ys .now) ordinate-of) (z .pre .3))
+    filling-starts (shown (a .m)) (map ordinate-of (a .ys .now)) _ (a .s) (rw (length-map (a .ys .now) ordinate-of) (z .pre .2))
 
 ordinate-at-requires : tie.Need-ordinate-at-requires Inv-loop μ-loop
 ordinate-at-requires c κs = search needs
@@ -39,7 +39,7 @@ add-next : tie.Need-add-next Inv-loop μ-loop
 add-next c =
     let l = c .before .before .before in
     let within = l .loop .inv .within in
-    let near = l .before .before .before .pre .3 .near in
+    let near = l .before .before .before .pre .2 .near in
     omega (arith, c .width-of .ensures .1)
 
 sub-t16 : tie.Need-sub-t16 Inv-loop μ-loop
@@ -55,7 +55,7 @@ returns c =
     let l = o .before .before in
     let z = l .before .before .before in
     let a = z .args in
-    filled-full (shown (a .m)) (map ordinate-of (a .ys .now)) (a .s) (rw (length-map (a .ys .now) ordinate-of) (z .pre .3)) (l .loop .inv)
+    filled-full (shown (a .m)) (map ordinate-of (a .ys .now)) (a .s) (rw (length-map (a .ys .now) ordinate-of) (z .pre .2)) (l .loop .inv)
     (o .ordinate-at .ensures .0) (w .width-of .ensures .0) (w .width-of .ensures .1) (c .if1 .taken)
 
 put-value-requires : tie.Need-put-value-requires Inv-loop μ-loop
@@ -69,12 +69,12 @@ put-value-requires c κs =
     let p = z .pre in
     let a = z .args in
     let width = w .width-of .ensures .0 in (
-      p .0,
-      p .2,
+      p .0 .pairs-are,
+      p .1,
       o .ordinate-at .ensures .1,
       omega (arith, width),
-      filling-room (shown (a .m)) (map ordinate-of (a .ys .now)) (a .s) (rw (length-map (a .ys .now) ordinate-of) (p .3)) (l .loop .inv)
-          (omega (arith, t .loop-test .taken, length-map (a .ys .now) ordinate-of)) (o .ordinate-at .ensures .0) width (e .if1 .left) (p .4),
+      filling-room (shown (a .m)) (map ordinate-of (a .ys .now)) (a .s) (rw (length-map (a .ys .now) ordinate-of) (p .2)) (l .loop .inv)
+          (omega (arith, t .loop-test .taken, length-map (a .ys .now) ordinate-of)) (o .ordinate-at .ensures .0) width (e .if1 .left) (p .3),
     )
 
 add-i : tie.Need-add-i Inv-loop μ-loop
@@ -106,7 +106,7 @@ returns-2 c =
     let l = c .before in
     let z = l .before .before .before in
     let a = z .args in
-    filled-end (shown (a .m)) (map ordinate-of (a .ys .now)) (a .s) (rw (length-map (a .ys .now) ordinate-of) (z .pre .3)) (l .loop .inv)
+    filled-end (shown (a .m)) (map ordinate-of (a .ys .now)) (a .s) (rw (length-map (a .ys .now) ordinate-of) (z .pre .2)) (l .loop .inv)
     (omega (arith, c .loop-test .left, length-map (a .ys .now) ordinate-of))
 
 pub fill-line-spec : {M : Type 1} → statement M

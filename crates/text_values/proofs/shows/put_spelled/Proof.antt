@@ -60,7 +60,7 @@ store-number-requires c κs =
     let a = z .args in
     let ends = p .ends in let lent = p .lent in
     let e = parts-length (a .space) (a .signed) (a .base) (a .size) (b .before .mark-width .ensures .0) (b .mark-width2 .ensures .0) in
-    (z .pre .0, p .least, p .most, omega (arith, e), p .small, simp length-set (omega (arith, e)))
+    (z .pre .0, record { least = p .least; most = p .most; digits = omega (arith, e); small = p .small; lent = simp length-set (omega (arith, e)) })
 
 same-length : tie.Need-same-length
 same-length c = put-length (c .before .before .store-number .ensures) ∙ simp length-set (search needs)
@@ -70,7 +70,7 @@ returns c =
     let n = c .before .before in
     let b = n .before .before in
     let a = b .before .before .before .args in
-    n .store-number .ensures .stored ∙ number-over _ (a .at) (a .space) (a .signed) (a .base) (a .size) (b .before .mark-width .ensures .0) (b .mark-width2 .ensures .0)
+    number-over _ (a .at) (a .space) (a .signed) (a .base) (a .size) (b .before .mark-width .ensures .0) (b .mark-width2 .ensures .0) (n .store-number .ensures .stored)
 
 pub put-spelled-spec : {M : Type 1} → statement M
 put-spelled-spec =
