@@ -6,7 +6,7 @@ use Prim.Native.Nat.{ℕ, suc, _+_, _-_, _≤_, _<_}
 use native.Mathlib.Omega.{arith}
 use native.Mathlib.Nat.{not-suc-le-zero}
 use lib.Dec.{lit≤}
-use lib.ListN.{length}
+use lib.ListN.{length, getD}
 use borrow.Author.Tests.{eq-eqb, ne-eqb}
 use Rattle.table_spec.specs.declared.Style.{Style}
 use Rattle.table_spec.specs.declared.Style.the-variants.{Affn, Pac, Sqz, Difdup}
@@ -23,15 +23,17 @@ use Rattle.table_spec.specs.Frame.{nearest}
 use Rattle.table_write_law.specs.Abscissas.{nearest-range}
 use Rattle.table_write_law.specs.Heads.{head-length}
 use Rattle.table_text.specs.Pieces.{number, headOf}
+use Rattle.text_values.specs.declared.Marks.{Marks}
 use Rattle.text_values.specs.Shows.{spelled, marks-of, Based, shown}
 use Rattle.text_values.specs.Lines.{whole}
+use Rattle.text_values.proofs.ShowSteps.{shown-most}
 
 pub marks-based : (st : Style) → Based (marks-of st)
 unfolding marks-of
-marks-based Affn = record { plus = lit≤ tt; minus = lit≤ tt }
-marks-based Pac = record { plus = lit≤ tt; minus = lit≤ tt }
-marks-based Sqz = record { plus = lit≤ tt; minus = lit≤ tt }
-marks-based Difdup = record { plus = lit≤ tt; minus = lit≤ tt }
+marks-based Affn = record { plus-least = lit≤ tt; plus = lit≤ tt; minus-least = lit≤ tt; minus = lit≤ tt }
+marks-based Pac = record { plus-least = lit≤ tt; plus = lit≤ tt; minus-least = lit≤ tt; minus = lit≤ tt }
+marks-based Sqz = record { plus-least = lit≤ tt; plus = lit≤ tt; minus-least = lit≤ tt; minus = lit≤ tt }
+marks-based Difdup = record { plus-least = lit≤ tt; plus = lit≤ tt; minus-least = lit≤ tt; minus = lit≤ tt }
 
 module _ (u : ℕ) where
   missing : (st : Style) → u ≡ 0 → tokenText st Gap u ≡ shown (marks-of st) u
@@ -69,13 +71,17 @@ form-text st full hd (y ∷ ys) h l =
     ∙ ap (λ (t : List ℕ). hd 0 ++ t) (values-same (valueText st) (shown (marks-of st)) (marks-show st) hd (y ∷ ys) 0 (length (hd 0)))
 
 -- a head is short
-first-head : (fr : Frame) → Sound fr → length (headOf fr 0) ≤ 15
+pub short-head : (fr : Frame) → Sound fr → (i : ℕ) → i < fr .points → length (headOf fr i) ≤ 15
 unfolding headOf
-first-head fr s =
-    let low-first = s .low-first in let low-last = s .low-last in let first = s .first in let last = s .last in let some = s .some in
-    let z = nearest-range (fr .first) (fr .last) (fr .points) 0 1 19999999999 (omega arith) (omega arith) (omega arith) (omega arith) (omega arith) in
-    omega (arith, head-length (nearest (fr .first) (fr .last) (fr .points) 0) (omega (arith, z .0)) (omega (arith, z .1)))
+short-head fr s i l =
+    let low-first = s .low-first in let low-last = s .low-last in let first = s .first in let last = s .last in
+    let z = nearest-range (fr .first) (fr .last) (fr .points) i 1 19999999999 l (omega arith) (omega arith) (omega arith) (omega arith) in
+    omega (arith, head-length (nearest (fr .first) (fr .last) (fr .points) i) (omega (arith, z .0)) (omega (arith, z .1)))
+
+-- a value fits on a new line
+pub fits-new : (m : Marks) (fr : Frame) → Sound fr → (ys : List ℕ) → length ys ≡ fr .points → (k : ℕ) → k < length ys → length (headOf fr k) + length (shown m (getD ys k 0)) ≤ 80
+fits-new m fr s ys e k l = omega (arith, short-head fr s k (omega arith), shown-most m (getD ys k 0))
 
 -- the text of a form in a frame
 pub form-whole : (st : Style) → in-full st ≡ true → (fr : Frame) → Sound fr → (ys : List ℕ) → length ys ≡ fr .points → lines-of st (headOf fr) ys ≡ whole (marks-of st) fr ys
-form-whole st full fr s ys e = let some = s .some in form-text st full (headOf fr) ys (omega arith) (first-head fr s)
+form-whole st full fr s ys e = let some = s .some in form-text st full (headOf fr) ys (omega arith) (short-head fr s 0 (omega arith))

@@ -9,17 +9,21 @@ ghost use Rattle.table_spec.specs.Groups.{in-full};
 ghost use Rattle.table_spec.specs.Writing.{lines-of};
 ghost use Rattle.frame.specs.Legal.{Sound};
 ghost use Rattle.table_text.specs.Pieces.{Put, headOf};
+ghost use Rattle.text_digits.specs.Counts.{counts};
+ghost use Rattle.text_digits.specs.Lent.{Tables};
 ghost use Rattle.text_values.specs.Shows.{Based};
 ghost use Rattle.text_values.specs.Lines.{whole};
-use crate::lines::count_turn;
-use crate::lines::turn;
+use crate::lines::count_line;
+use crate::lines::fill_line;
+use crate::lines::store_end;
 use crate::shows::marks_of;
 use frame::Frame;
 use table_spec::Style;
-use table_text::digits::put_end;
+use table_text::heads::head_bytes;
 use table_text::heads::put_head;
+use text_digits::COUNTS;
+use text_digits::PAIRS;
 
-mod digits;
 mod lines;
 mod shows;
 
@@ -36,16 +40,6 @@ struct Marks {
     minus: u64,
 }
 
-// A value to be written: is there a space, and a minus; its number, the byte that its first digit is added to, how many digits follow that, and the bytes of all.
-struct Shown {
-    space: bool,
-    signed: bool,
-    base: u64,
-    size: u64,
-    digits: usize,
-    width: usize,
-}
-
 // How far the writing has come: points given, the place after the last byte, and the bytes of the line so far.
 struct State {
     given: usize,
@@ -53,46 +47,48 @@ struct State {
     column: usize,
 }
 
-// The whole text from the start of the lent bytes, which hold it. Its length.
-fn pass(m: Marks, ys: &[i32], text: &mut [u8], fr: Frame) -> usize
-    requires { ⌜ Based m × Sound fr × (length (now ys) ≡ fr .points) × (length (whole m fr (map ordinate-of (now ys))) ≤ length (now text)) ⌝ }
+// The whole text from the start of the lent bytes, which hold it, a line at a time. Its length.
+fn pass(t: &[u8; 200], d: &[u64; 32], m: Marks, ys: &[i32], text: &mut [u8], fr: Frame) -> usize
+    requires { ⌜ Tables (now t) (now d) × Based m × Sound fr × (length (now ys) ≡ fr .points) × (length (whole m fr (map ordinate-of (now ys))) ≤ length (now text)) ⌝ }
     ensures { λ r. ⌜ Put (now (text .entry)) 0 (now (text .exit)) r (whole m fr (map ordinate-of (now (ys .entry)))) ⌝ }
 {
     let n = ys.len();
-    let head = put_head(text, 0, fr, 0);
-    let mut s = State {
-        given: 0,
-        at: head,
-        column: head,
-    };
     let mut i = 0;
+    let mut at = 0;
     while i < n {
-        s = turn(m, ys, text, fr, s);
-        i = s.given;
+        let head = put_head(text, at, fr, i);
+        let s = State {
+            given: i,
+            at: head,
+            column: head - at,
+        };
+        let r = fill_line(t, d, m, ys, text, s);
+        at = store_end(text, r.at);
+        i = r.given;
     }
-    let at = s.at;
-    put_end(text, at)
+    at
 }
 
-// The same where nothing is lent: the length of the text.
-fn count(m: Marks, ys: &[i32], none: &mut [u8], fr: Frame) -> usize
-    requires { ⌜ Based m × Sound fr × (length (now ys) ≡ fr .points) × (length (now none) ≡ 0) ⌝ }
-    ensures { λ r. ⌜ Put (now (none .entry)) 0 (now (none .exit)) r (whole m fr (map ordinate-of (now (ys .entry)))) ⌝ }
+// The same with nothing lent: the length of the text.
+fn count(d: &[u64; 32], m: Marks, ys: &[i32], fr: Frame) -> usize
+    requires { ⌜ (now d ≡ counts) × Sound fr × (length (now ys) ≡ fr .points) ⌝ }
+    ensures { λ r. ⌜ r ≡ length (whole m fr (map ordinate-of (now (ys .entry)))) ⌝ }
 {
     let n = ys.len();
-    let head = put_head(none, 0, fr, 0);
-    let mut s = State {
-        given: 0,
-        at: head,
-        column: head,
-    };
     let mut i = 0;
+    let mut at = 0;
     while i < n {
-        s = count_turn(m, ys, none, fr, s);
-        i = s.given;
+        let column = head_bytes(fr, i);
+        let s = State {
+            given: i,
+            at: at + column,
+            column,
+        };
+        let r = count_line(d, m, ys, s);
+        at = r.at + 2;
+        i = r.given;
     }
-    let at = s.at;
-    put_end(none, at)
+    at
 }
 
 // The text of a form whose values are written in full, from the start of the lent bytes, which hold it. Its length.
@@ -101,7 +97,9 @@ pub fn lay(style: Style, ys: &[i32], text: &mut [u8], fr: Frame) -> usize
     ensures { λ r. ⌜ Put (now (text .entry)) 0 (now (text .exit)) r (lines-of style (headOf fr) (map ordinate-of (now (ys .entry)))) ⌝ }
 {
     let m = marks_of(style);
-    pass(m, ys, text, fr)
+    let t = PAIRS;
+    let d = COUNTS;
+    pass(&t, &d, m, ys, text, fr)
 }
 
 // The length of that text.
@@ -110,5 +108,6 @@ pub fn measure(style: Style, ys: &[i32], none: &mut [u8], fr: Frame) -> usize
     ensures { λ r. ⌜ r ≡ length (lines-of style (headOf fr) (map ordinate-of (now (ys .entry)))) ⌝ }
 {
     let m = marks_of(style);
-    count(m, ys, none, fr)
+    let d = COUNTS;
+    count(&d, m, ys, fr)
 }

@@ -1,80 +1,96 @@
 // Values on lines (02, T-02: "at most 80 bytes a line, as many values as fit"): stored, or only counted.
 ghost use mathlib.Core.Path.{_≡_};
-ghost use mathlib.Core.List.{map};
-ghost use Prim.Native.Nat.{_+_, _≤_};
+ghost use mathlib.Core.List.{[], _∷_, map};
+ghost use Prim.Native.Nat.{_+_, _^_, _≤_, _<_};
 ghost use lib.ListN.{length};
 ghost use Rattle.table_spec.specs.Frame.{ordinate-of};
-ghost use Rattle.table_text.specs.Pieces.{headOf};
-ghost use Rattle.text_values.specs.Shows.{shown};
-ghost use Rattle.text_values.specs.Lines.{from, Ready, Wrote};
+ghost use Rattle.table_text.specs.Pieces.{Put};
+ghost use Rattle.text_digits.specs.Counts.{counts};
+ghost use Rattle.text_digits.specs.Lent.{Tables};
+ghost use Rattle.text_values.specs.Shows.{shown, Based};
+ghost use Rattle.text_values.specs.Lines.{Opened, Room, Filled};
 use crate::LONGEST_LINE;
 use crate::Marks;
 use crate::State;
-use crate::shows::put_shown;
-use crate::shows::show;
-use frame::Frame;
+use crate::shows::put_value;
+use crate::shows::width_of;
 use signed::ordinate_at;
-use table_text::digits::put_end;
-use table_text::heads::put_head;
 
-// One value more, on this line if it fits, else on a new one. What is left of the text is lent.
-pub fn turn(m: Marks, ys: &[i32], out: &mut [u8], fr: Frame, s: State) -> State
-    requires { ⌜ Ready m fr (length (now ys)) s × (s .at + length (from (shown m) (headOf fr) (map ordinate-of (now ys)) s) ≤ length (now out)) ⌝ }
-    ensures { λ r. ⌜ Wrote (shown m) (headOf fr) (map ordinate-of (now (ys .entry))) s (now (out .entry)) (now (out .exit)) r ⌝ }
+// The values that fit on the line. What is left of the text is lent.
+pub fn fill_line(
+    t: &[u8; 200],
+    d: &[u64; 32],
+    m: Marks,
+    ys: &[i32],
+    out: &mut [u8],
+    s: State,
+) -> State
+    requires { ⌜ Tables (now t) (now d) × Based m × Opened (length (now ys)) s × Room (shown m) (map ordinate-of (now ys)) s (length (now out)) ⌝ }
+    ensures { λ r. ⌜ Filled (shown m) (map ordinate-of (now (ys .entry))) s (now (out .entry)) (now (out .exit)) r ⌝ }
 {
-    let i = s.given;
-    let at = s.at;
-    let column = s.column;
-    let u = ordinate_at(ys, i);
-    let v = show(m, u);
-    let width = v.width;
-    let all = column + width;
-    let given = i + 1;
-    if all <= LONGEST_LINE {
-        let next = put_shown(out, at, v);
-        return State {
-            given,
-            at: next,
-            column: all,
-        };
+    let n = ys.len();
+    let line = s.at - s.column;
+    let full = line + LONGEST_LINE;
+    let mut i = s.given;
+    let mut at = s.at;
+    while i < n {
+        let u = ordinate_at(ys, i);
+        let next = at + width_of(d, m, u);
+        if full < next {
+            return State {
+                given: i,
+                at,
+                column: at - line,
+            };
+        }
+        put_value(t, m, out, at, next, u);
+        at = next;
+        i = i + 1;
     }
-    let a = put_end(out, at);
-    let b = put_head(out, a, fr, i);
-    let next = put_shown(out, b, v);
-    let bytes = next - a;
     State {
-        given,
-        at: next,
-        column: bytes,
+        given: i,
+        at,
+        column: at - line,
     }
 }
 
-// The same where nothing is lent: the value is counted.
-pub fn count_turn(m: Marks, ys: &[i32], none: &mut [u8], fr: Frame, s: State) -> State
-    requires { ⌜ Ready m fr (length (now ys)) s × (length (now none) ≡ 0) ⌝ }
-    ensures { λ r. ⌜ Wrote (shown m) (headOf fr) (map ordinate-of (now (ys .entry))) s (now (none .entry)) (now (none .exit)) r ⌝ }
+// The same with nothing lent: the values are counted.
+pub fn count_line(d: &[u64; 32], m: Marks, ys: &[i32], s: State) -> State
+    requires { ⌜ (now d ≡ counts) × Opened (length (now ys)) s ⌝ }
+    ensures { λ r. ⌜ Filled (shown m) (map ordinate-of (now (ys .entry))) s [] [] r ⌝ }
 {
-    let i = s.given;
-    let at = s.at;
-    let column = s.column;
-    let u = ordinate_at(ys, i);
-    let width = show(m, u).width;
-    let all = column + width;
-    let given = i + 1;
-    if all <= LONGEST_LINE {
-        return State {
-            given,
-            at: at + width,
-            column: all,
-        };
+    let n = ys.len();
+    let line = s.at - s.column;
+    let full = line + LONGEST_LINE;
+    let mut i = s.given;
+    let mut at = s.at;
+    while i < n {
+        let u = ordinate_at(ys, i);
+        let next = at + width_of(d, m, u);
+        if full < next {
+            return State {
+                given: i,
+                at,
+                column: at - line,
+            };
+        }
+        at = next;
+        i = i + 1;
     }
-    let a = put_end(none, at);
-    let b = put_head(none, a, fr, i);
-    let next = b + width;
-    let bytes = next - a;
     State {
-        given,
-        at: next,
-        column: bytes,
+        given: i,
+        at,
+        column: at - line,
     }
+}
+
+// CR LF, both of which are lent. The place after it.
+pub fn store_end(out: &mut [u8], at: usize) -> usize
+    requires { ⌜ (at + 2 ≤ length (now out)) × (at < 2 ^ 61) ⌝ }
+    ensures { λ r. ⌜ Put (now (out .entry)) at (now (out .exit)) r (13 ∷ 10 ∷ []) ⌝ }
+{
+    let next = at + 1;
+    out[at] = b'\r';
+    out[next] = b'\n';
+    at + 2
 }

@@ -2,19 +2,20 @@
 ghost use mathlib.Core.Path.{_≡_};
 ghost use Prim.Native.Nat.{_+_, _≤_, _<_};
 ghost use lib.ListN.{length};
+ghost use lib.Seq.{sets};
 ghost use Rattle.terms.specs.Logic.{pick};
-ghost use Rattle.table_text.specs.Pieces.{Put};
-ghost use Rattle.text_values.specs.Shows.{mark, spelled, shown, marks-of, Based, Shows};
+ghost use Rattle.text_digits.specs.Pairs.{pairs};
+ghost use Rattle.text_digits.specs.Counts.{counts};
+ghost use Rattle.text_values.specs.Shows.{spelled, shown, marks-of, Based, Stands};
 use crate::Marks;
-use crate::Shown;
-use crate::digits::digits_after;
-use crate::digits::store_number;
 use signed::ZERO_ORDINATE;
 use table_spec::Style;
 use table_text::digits::DIGIT;
 use table_text::digits::MISSING;
 use table_text::digits::SQZ;
 use table_text::digits::SQZ_MINUS;
+use text_digits::digits_in;
+use text_digits::store_number;
 
 // The marks of a form. DIFDUP writes its values in full as SQZ does.
 pub fn marks_of(style: Style) -> Marks
@@ -66,64 +67,63 @@ fn mark_width(yes: bool) -> usize
     0
 }
 
-// A value of these parts, measured.
-fn measured(space: bool, signed: bool, base: u64, size: u64) -> Shown
-    requires { ⌜ (base ≤ 105) × (size < 4294967296) ⌝ }
-    ensures { λ r. ⌜ Shows (spelled space signed base size) r ⌝ }
+// The bytes of the value that an ordinate is.
+pub fn width_of(d: &[u64; 32], m: Marks, u: u64) -> usize
+    requires { ⌜ (now d ≡ counts) × (u < 4294967296) ⌝ }
+    ensures { λ r. ⌜ (r ≡ length (shown m u)) × (r ≤ 12) ⌝ }
 {
-    let digits = digits_after(size);
+    if ZERO_ORDINATE <= u {
+        let space = mark_width(m.up);
+        let digits = digits_in(d, u - ZERO_ORDINATE);
+        return space + digits;
+    }
+    if u == 0 {
+        let space = mark_width(m.gap);
+        return space + 1;
+    }
+    let space = mark_width(m.down);
+    let minus = mark_width(m.signed);
+    let digits = digits_in(d, ZERO_ORDINATE - u);
+    space + minus + digits
+}
+
+// A value up to a place, all of whose bytes are lent. Marks are stored whether they are to be or not: what follows is stored over one that is not.
+fn put_spelled(
+    t: &[u8; 200],
+    out: &mut [u8],
+    at: usize,
+    next: usize,
+    space: bool,
+    signed: bool,
+    base: u64,
+    size: u64,
+)
+    requires { ⌜ (now t ≡ pairs) × Stands space signed base size at next (length (now out)) ⌝ }
+    ensures { λ r. ⌜ now (out .exit) ≡ sets (now (out .entry)) at (spelled space signed base size) ⌝ }
+{
     let first = mark_width(space);
     let second = mark_width(signed);
-    let width = first + second + 1 + digits;
-    Shown {
-        space,
-        signed,
-        base,
-        size,
-        digits,
-        width,
-    }
+    let minus = at + first;
+    let lead = minus + second;
+    out[at] = b' ';
+    out[minus] = b'-';
+    let further = next - lead - 1;
+    store_number(t, out, lead, base, size, further);
 }
 
-// The value that an ordinate is.
-pub fn show(m: Marks, u: u64) -> Shown
-    requires { ⌜ Based m × (u < 4294967296) ⌝ }
-    ensures { λ r. ⌜ Shows (shown m u) r ⌝ }
+// The value that an ordinate is, up to a place, all of whose bytes are lent.
+pub fn put_value(t: &[u8; 200], m: Marks, out: &mut [u8], at: usize, next: usize, u: u64)
+    requires { ⌜ (now t ≡ pairs) × Based m × (u < 4294967296) × (next ≡ at + length (shown m u)) × (next ≤ length (now out)) ⌝ }
+    ensures { λ r. ⌜ now (out .exit) ≡ sets (now (out .entry)) at (shown m u) ⌝ }
 {
-    if u == 0 {
-        return measured(m.gap, false, MISSING, 0);
-    }
     if ZERO_ORDINATE <= u {
-        let size = u - ZERO_ORDINATE;
-        return measured(m.up, false, m.plus, size);
+        put_spelled(t, out, at, next, m.up, false, m.plus, u - ZERO_ORDINATE);
+        return;
+    }
+    if u == 0 {
+        put_spelled(t, out, at, next, m.gap, false, MISSING, 0);
+        return;
     }
     let below = ZERO_ORDINATE - u;
-    measured(m.down, m.signed, m.minus, below)
-}
-
-// A byte, if there is to be one. The place after it.
-fn put_mark(out: &mut [u8], at: usize, yes: bool, b: u8) -> usize
-    requires { ⌜ at < length (now out) ⌝ }
-    ensures { λ r. ⌜ Put (now (out .entry)) at (now (out .exit)) r (mark yes b) × (r ≤ at + 1) ⌝ }
-{
-    if yes {
-        out[at] = b;
-        return at + 1;
-    }
-    at
-}
-
-// A value, all of whose bytes are lent. The place after it.
-pub fn put_shown(out: &mut [u8], at: usize, v: Shown) -> usize
-    requires { ⌜ Shows (spelled (v .space) (v .signed) (v .base) (v .size)) v × (at + v .width ≤ length (now out)) ⌝ }
-    ensures { λ r. ⌜ Put (now (out .entry)) at (now (out .exit)) r (spelled (v .space) (v .signed) (v .base) (v .size)) × (r ≤ at + 12) ⌝ }
-{
-    let space = v.space;
-    let signed = v.signed;
-    let base = v.base;
-    let size = v.size;
-    let digits = v.digits;
-    let a = put_mark(out, at, space, b' ');
-    let b = put_mark(out, a, signed, b'-');
-    store_number(out, b, base, size, digits)
+    put_spelled(t, out, at, next, m.down, m.signed, m.minus, below);
 }

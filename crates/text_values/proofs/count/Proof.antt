@@ -1,75 +1,89 @@
--- `text_values::count` meets its contract: the first head, each value in its turn, and the last line's end, with nothing stored.
-use native.Mathlib.Omega.{arith}
+-- `text_values::count` meets its contract: one line after the other, each its head, the values that fit, and its end, with nothing stored.
+use mathlib.Core.Path.{refl, ap, _∙_}
+use mathlib.Core.List.{[], _∷_, map}
 use Prim.Native.Nat.{_-_}
-use mathlib.Core.List.{map}
+use native.Mathlib.Omega.{arith}
 use lib.ListN.{length, length-map}
-use borrow.Author.Needs.{needs}
 use Rattle.table_spec.specs.Frame.{ordinate-of}
-use Rattle.table_text.specs.Pieces.{headOf, put-length}
+use Rattle.table_text.specs.Pieces.{headOf}
 use Rattle.text_values.specs.Shows.{shown}
 use Rattle.text_values.specs.Lines.{Going}
-use Rattle.text_values.proofs.LineSteps.{starts, goes, going-near, finish}
+use Rattle.text_values.proofs.FormSteps.{fits-new}
+use Rattle.text_values.proofs.LineSteps.{put-nothing, starts, opens, goes, ends, whole-is}
 use Rattle.text_values.proofs.count.Statement.{statement}
 use Rattle.text_values.proofs.count.Tie as tie
 
 abbrev Inv-loop : tie.InvT-loop
-Inv-loop m ys none₀ fr n head s₀ i₀ none s i = Going (shown m) (headOf fr) (map ordinate-of ys) none₀ s₀ none s i
+Inv-loop d m ys fr n i₀ at₀ i at = Going (shown m) (headOf fr) (map ordinate-of ys) [] [] i at
 
 abbrev μ-loop : tie.MeasureT-loop
-μ-loop m ys none₀ fr n head s₀ i₀ none s i = length ys - i
-
-put-head-requires : tie.Need-put-head-requires Inv-loop μ-loop
-put-head-requires c κs = let p = c .before .before .pre in let some = p .1 .some in (p .1, omega arith, omega arith)
+μ-loop d m ys fr n i₀ at₀ i at = length ys - i
 
 loop-holds : tie.Need-loop-holds Inv-loop μ-loop
-loop-holds c =
-    let a = c .before .before .before .before .before .args in
-    starts (shown (a .m)) (headOf (a .fr)) (map ordinate-of (a .ys .now)) _ _ (omega (arith, c .before .before .put-head .ensures .1))
+loop-holds c = let a = c .args in starts (shown (a .m)) (headOf (a .fr)) (map ordinate-of (a .ys .now)) []
 
-count-turn-requires : tie.Need-count-turn-requires Inv-loop μ-loop
-count-turn-requires c κs =
-    let l = c .before .before in
-    let z = l .before .before .before .before .before .before in
-    let p = z .pre in
-    let g = l .loop .inv in
-    let h = l .before .before .before .put-head .ensures .0 in
-    let is = g .is in
-    let few = p .1 .few in
-    let same = g .same in
-    let near = going-near _ _ _ g (omega (arith, p .2, length-map (z .args .ys .now) ordinate-of)) in
-    (record { based = p .0; sound = p .1; all = p .2; left = omega (arith, c .before .loop-test .taken); near = omega (arith, near); column = g .column-most }, omega (arith, p .3, put-length h))
+head-bytes-requires : tie.Need-head-bytes-requires Inv-loop μ-loop
+head-bytes-requires c κs = let p = c .before .before .pre in (p .1, omega (arith, c .loop-test .taken, p .2))
+
+add-t12 : tie.Need-add-t12 Inv-loop μ-loop
+add-t12 c =
+    let t = c .before in
+    let l = t .before in
+    let most = l .loop .inv .most in
+    let few = l .before .pre .1 .few in
+    omega (arith, c .head-bytes .ensures .1, t .loop-test .taken, l .before .pre .2)
+
+count-line-requires : tie.Need-count-line-requires Inv-loop μ-loop
+count-line-requires c κs =
+    let t = c .before in
+    let l = t .before in
+    let z = l .before in
+    let a = z .args in
+    let same = length-map (a .ys .now) ordinate-of in
+    let head = c .head-bytes .ensures in
+    let few = z .pre .1 .few in (
+      z .pre .0,
+      rw (← same)
+          (opens (shown (a .m)) (headOf (a .fr)) (map ordinate-of (a .ys .now)) (l .loop .inv) _ (omega (arith, t .loop-test .taken, same)) (put-nothing [] _ _ _ refl (head .0)) refl
+          (omega (arith, same, z .pre .2)) (head .1)),
+    )
+
+add-at : tie.Need-add-at Inv-loop μ-loop
+add-at c =
+    let f = c .before in
+    let h = f .before in
+    let t = h .before in
+    let l = t .before in
+    let most = l .loop .inv .most in
+    let far = f .count-line .ensures .most in
+    let few = l .before .pre .1 .few in
+    omega (arith, h .head-bytes .ensures .1, t .loop-test .taken, l .before .pre .2)
 
 loop-less : tie.Need-loop-less Inv-loop μ-loop
-loop-less c =
-    let b = c .before .before .before .before in
-    let on = c .before .before .count-turn .ensures .on in
-    let is = b .before .loop .inv .is in
-    omega (arith, b .loop-test .taken)
+loop-less c = let on = c .before .count-line .ensures .on in omega (arith, c .before .before .before .loop-test .taken)
 
 loop-again : tie.Need-loop-again Inv-loop μ-loop
 loop-again c =
-    let b = c .before .before .before .before in
-    let a = b .before .before .before .before .before .before .before .args in
-    goes _ _ (map ordinate-of (a .ys .now)) (b .before .loop .inv) (omega (arith, b .loop-test .taken, length-map (a .ys .now) ordinate-of))
-    (c .before .before .count-turn .ensures)
-
-put-end-requires : tie.Need-put-end-requires Inv-loop μ-loop
-put-end-requires c κs =
-    let z = c .before .before .before .before .before .before .before .before in
-    let few = z .pre .1 .few in
-    omega (arith, going-near _ _ _ (c .before .before .loop .inv) (omega (arith, z .pre .2, length-map (z .args .ys .now) ordinate-of)))
-
-same-length : tie.Need-same-length Inv-loop μ-loop
-same-length c = search needs
+    let f = c .before in
+    let h = f .before in
+    let t = h .before in
+    let l = t .before in
+    let z = l .before in
+    let a = z .args in
+    let same = length-map (a .ys .now) ordinate-of in
+    let head = h .head-bytes .ensures in
+    goes (shown (a .m)) (headOf (a .fr)) (map ordinate-of (a .ys .now)) (l .loop .inv) _ (omega (arith, t .loop-test .taken, same)) (put-nothing [] _ _ _ refl (head .0)) refl
+    (fits-new (a .m) (a .fr) (z .pre .1) (map ordinate-of (a .ys .now)) (same ∙ z .pre .2)) (head .1) (f .count-line .ensures) (put-nothing [] _ 2 (13 ∷ 10 ∷ []) refl refl)
 
 returns : tie.Need-returns Inv-loop μ-loop
 returns c =
-    let b = c .before .before .before .before in
-    let h = b .before .before .before .before .put-head .ensures in
-    let a = b .before .before .before .before .before .before .before .args in
-    let n = h .0 .next in
-    finish (shown (a .m)) (headOf (a .fr)) (map ordinate-of (a .ys .now)) (h .0) (b .before .loop .inv)
-    (omega (arith, b .loop-test .left, length-map (a .ys .now) ordinate-of)) (c .before .before .put-end .ensures)
+    let l = c .before in
+    let z = l .before in
+    let a = z .args in
+    let same = length-map (a .ys .now) ordinate-of in
+    let some = z .pre .1 .some in
+    let whole = ap length (whole-is (shown (a .m)) (headOf (a .fr)) (map ordinate-of (a .ys .now)) (omega (arith, same, z .pre .2))) in
+    omega (arith, whole, ends (shown (a .m)) (headOf (a .fr)) (map ordinate-of (a .ys .now)) (l .loop .inv) (omega (arith, c .loop-test .left, same)) .next)
 
 pub count-spec : {M : Type 1} → statement M
 count-spec =
@@ -77,11 +91,11 @@ count-spec =
     (tie.spec
     Inv-loop
     μ-loop
-    put-head-requires
     loop-holds
-    count-turn-requires
+    head-bytes-requires
+    add-t12
+    count-line-requires
+    add-at
     loop-less
     loop-again
-    put-end-requires
-    same-length
     returns)

@@ -1,77 +1,116 @@
--- `text_values::pass` meets its contract: the first head, each value in its turn, and the last line's end.
-use native.Mathlib.Omega.{arith}
-use Prim.Native.Nat.{_-_}
+-- `text_values::pass` meets its contract: one line after the other, each its head, the values that fit, and its end.
+use mathlib.Core.Path.{_∙_, ap}
 use mathlib.Core.List.{map}
+use Prim.Native.Nat.{_-_}
+use native.Mathlib.Omega.{arith}
 use lib.ListN.{length, length-map}
-use borrow.Author.Needs.{needs}
 use Rattle.table_spec.specs.Frame.{ordinate-of}
-use Rattle.table_text.specs.Pieces.{headOf, put-length}
+use Rattle.table_text.specs.Pieces.{headOf, put-as}
 use Rattle.text_values.specs.Shows.{shown}
 use Rattle.text_values.specs.Lines.{Going}
-use Rattle.text_values.proofs.LineSteps.{starts, goes, going-near, left-of, finish}
+use Rattle.text_values.proofs.FormSteps.{fits-new}
+use Rattle.text_values.proofs.LineSteps.{starts, opens, room-left, end-lent, goes, ends, whole-is}
 use Rattle.text_values.proofs.pass.Statement.{statement}
 use Rattle.text_values.proofs.pass.Tie as tie
 
 abbrev Inv-loop : tie.InvT-loop
-Inv-loop m ys text₀ fr n head s₀ i₀ text s i = Going (shown m) (headOf fr) (map ordinate-of ys) text₀ s₀ text s i
+Inv-loop t d m ys text₀ fr n i₀ at₀ text i at = Going (shown m) (headOf fr) (map ordinate-of ys) text₀ text i at
 
 abbrev μ-loop : tie.MeasureT-loop
-μ-loop m ys text₀ fr n head s₀ i₀ text s i = length ys - i
-
-put-head-requires : tie.Need-put-head-requires Inv-loop μ-loop
-put-head-requires c κs = let p = c .before .before .pre in let some = p .1 .some in (p .1, omega arith, omega arith)
+μ-loop t d m ys text₀ fr n i₀ at₀ text i at = length ys - i
 
 loop-holds : tie.Need-loop-holds Inv-loop μ-loop
-loop-holds c =
-    let a = c .before .before .before .before .before .args in
-    starts (shown (a .m)) (headOf (a .fr)) (map ordinate-of (a .ys .now)) _ _ (omega (arith, c .before .before .put-head .ensures .1))
+loop-holds c = let a = c .before .args in starts (shown (a .m)) (headOf (a .fr)) (map ordinate-of (a .ys .now)) _
 
-turn-requires : tie.Need-turn-requires Inv-loop μ-loop
-turn-requires c κs =
-    let l = c .before .before in
-    let z = l .before .before .before .before .before .before in
+put-head-requires : tie.Need-put-head-requires Inv-loop μ-loop
+put-head-requires c κs =
+    let t = c .before in
+    let l = t .before in
+    let p = l .before .before .pre in
+    let most = l .loop .inv .most in
+    let few = p .2 .few in
+    (p .2, omega (arith, t .loop-test .taken, p .3), omega (arith, t .loop-test .taken, p .3))
+
+sub-t16 : tie.Need-sub-t16 Inv-loop μ-loop
+sub-t16 c = let next = c .before .before .put-head .ensures .0 .next in omega arith
+
+fill-line-requires : tie.Need-fill-line-requires Inv-loop μ-loop
+fill-line-requires c κs =
+    let h = c .before .before .before in
+    let t = h .before .before in
+    let l = t .before in
+    let z = l .before .before in
     let p = z .pre in
-    let g = l .loop .inv in
-    let h = l .before .before .before .put-head .ensures .0 in
-    let is = g .is in
-    let few = p .1 .few in
-    let same = g .same in
-    let near = going-near _ _ _ g (omega (arith, p .2, length-map (z .args .ys .now) ordinate-of)) in (
-      record { based = p .0; sound = p .1; all = p .2; left = omega (arith, c .before .loop-test .taken); near = omega (arith, near); column = g .column-most },
-      omega (arith, p .3, left-of _ _ _ h g, put-length h),
+    let a = z .args in
+    let same = length-map (a .ys .now) ordinate-of in
+    let put = h .put-head .ensures in
+    let next = put .0 .next in
+    let few = p .2 .few in
+    let some = p .2 .some in
+    let whole = ap length (whole-is (shown (a .m)) (headOf (a .fr)) (map ordinate-of (a .ys .now)) (omega (arith, same, p .3))) in (
+      p .0,
+      p .1,
+      rw (← same)
+          (opens (shown (a .m)) (headOf (a .fr)) (map ordinate-of (a .ys .now)) (l .loop .inv) _ (omega (arith, t .loop-test .taken, same)) (put .0) (omega arith)
+          (omega (arith, same, p .3)) (omega (arith, put .1))),
+      room-left (shown (a .m)) (headOf (a .fr)) (map ordinate-of (a .ys .now)) (l .loop .inv) _ (omega (arith, t .loop-test .taken, same)) (put .0) (omega arith) (omega (arith, whole, p .4)),
+    )
+
+store-end-requires : tie.Need-store-end-requires Inv-loop μ-loop
+store-end-requires c κs =
+    let f = c .before .before .before in
+    let h = f .before .before .before .before in
+    let t = h .before .before in
+    let l = t .before in
+    let z = l .before .before in
+    let p = z .pre in
+    let a = z .args in
+    let same = length-map (a .ys .now) ordinate-of in
+    let put = h .put-head .ensures in
+    let next = put .0 .next in
+    let most = l .loop .inv .most in
+    let far = f .fill-line .ensures .most in
+    let few = p .2 .few in
+    let some = p .2 .some in
+    let whole = ap length (whole-is (shown (a .m)) (headOf (a .fr)) (map ordinate-of (a .ys .now)) (omega (arith, same, p .3))) in (
+      end-lent (shown (a .m)) (headOf (a .fr)) (map ordinate-of (a .ys .now)) (l .loop .inv) _ (omega (arith, t .loop-test .taken, same)) (put .0) (omega arith)
+          (fits-new (a .m) (a .fr) (p .2) (map ordinate-of (a .ys .now)) (same ∙ p .3)) (omega (arith, whole, p .4)) (f .fill-line .ensures),
+      omega (arith, put .1, t .loop-test .taken, p .3),
     )
 
 loop-less : tie.Need-loop-less Inv-loop μ-loop
 loop-less c =
-    let b = c .before .before .before .before in
-    let on = c .before .before .turn .ensures .on in
-    let is = b .before .loop .inv .is in
-    omega (arith, b .loop-test .taken)
+    let f = c .before .before .before .before .before .before in
+    let on = f .fill-line .ensures .on in
+    omega (arith, f .before .before .before .before .before .before .loop-test .taken)
 
 loop-again : tie.Need-loop-again Inv-loop μ-loop
 loop-again c =
-    let b = c .before .before .before .before in
-    let a = b .before .before .before .before .before .before .before .args in
-    goes _ _ (map ordinate-of (a .ys .now)) (b .before .loop .inv) (omega (arith, b .loop-test .taken, length-map (a .ys .now) ordinate-of))
-    (c .before .before .turn .ensures)
-
-put-end-requires : tie.Need-put-end-requires Inv-loop μ-loop
-put-end-requires c κs =
-    let z = c .before .before .before .before .before .before .before .before in
-    let few = z .pre .1 .few in
-    omega (arith, going-near _ _ _ (c .before .before .loop .inv) (omega (arith, z .pre .2, length-map (z .args .ys .now) ordinate-of)))
+    let e = c .before .before in
+    let f = e .before .before .before .before in
+    let h = f .before .before .before .before in
+    let t = h .before .before in
+    let l = t .before in
+    let z = l .before .before in
+    let a = z .args in
+    let same = length-map (a .ys .now) ordinate-of in
+    let put = h .put-head .ensures in
+    let next = put .0 .next in
+    goes (shown (a .m)) (headOf (a .fr)) (map ordinate-of (a .ys .now)) (l .loop .inv) _ (omega (arith, t .loop-test .taken, same)) (put .0) (omega arith)
+    (fits-new (a .m) (a .fr) (z .pre .2) (map ordinate-of (a .ys .now)) (same ∙ z .pre .3)) (omega (arith, put .1)) (f .fill-line .ensures) (e .store-end .ensures)
 
 same-length : tie.Need-same-length Inv-loop μ-loop
-same-length c = search needs
+same-length c = c .before .loop .inv .same
 
 returns : tie.Need-returns Inv-loop μ-loop
 returns c =
-    let b = c .before .before .before .before in
-    let h = b .before .before .before .before .put-head .ensures in
-    let a = b .before .before .before .before .before .before .before .args in
-    let n = h .0 .next in
-    finish (shown (a .m)) (headOf (a .fr)) (map ordinate-of (a .ys .now)) (h .0) (b .before .loop .inv)
-    (omega (arith, b .loop-test .left, length-map (a .ys .now) ordinate-of)) (c .before .before .put-end .ensures)
+    let l = c .before in
+    let z = l .before .before in
+    let a = z .args in
+    let same = length-map (a .ys .now) ordinate-of in
+    let some = z .pre .2 .some in
+    put-as (whole-is (shown (a .m)) (headOf (a .fr)) (map ordinate-of (a .ys .now)) (omega (arith, same, z .pre .3)))
+    (ends (shown (a .m)) (headOf (a .fr)) (map ordinate-of (a .ys .now)) (l .loop .inv) (omega (arith, c .loop-test .left, same)))
 
 pub pass-spec : {M : Type 1} → statement M
 pass-spec =
@@ -79,11 +118,12 @@ pass-spec =
     (tie.spec
     Inv-loop
     μ-loop
-    put-head-requires
     loop-holds
-    turn-requires
+    put-head-requires
+    sub-t16
+    fill-line-requires
+    store-end-requires
     loop-less
     loop-again
-    put-end-requires
     same-length
     returns)

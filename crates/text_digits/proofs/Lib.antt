@@ -1,0 +1,2 @@
+pub mod DigitSteps
+pub mod CountSteps
