@@ -48,6 +48,8 @@ impl Frame {
 
     pub const LONGEST_BODY: usize = 1048576;
 
+    pub const LONGEST_LINE: usize = 80;
+
     // The frame of any F, L and N, or that they are outside their limits.
     pub fn new(f: i64, l: i64, n: usize) -> Framed
         ensures { λ r. ⌜ r ≡ framed f l n ⌝ }

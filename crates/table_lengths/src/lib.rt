@@ -7,10 +7,8 @@ ghost use lib.ListN.{length};
 ghost use Rattle.table_spec.specs.Frame.{longest-line};
 ghost use Rattle.table_spec.specs.Reading.{longLine};
 ghost use Rattle.table_lengths.specs.Lengths.{LastLf, endsThere, NextLine, shownLong};
+use frame::Frame;
 use text::byte_at;
-
-// The most bytes of a line, its end not counted.
-const LONGEST_LINE: usize = 80;
 
 // Where the first line over 80 bytes begins, if there is one.
 pub enum LongLine {
@@ -23,7 +21,7 @@ fn past_last_lf(s: &[u8], at: usize) -> usize
     requires { ⌜ at + longest-line < length (now s) ⌝ }
     ensures { λ r. ⌜ LastLf (now (s .entry)) at r ⌝ }
 {
-    let mut i = at + LONGEST_LINE + 1;
+    let mut i = at + Frame::LONGEST_LINE + 1;
     while i > at {
         if s[i - 1] == b'\n' {
             return i;
@@ -38,10 +36,10 @@ fn ends_at_80(s: &[u8], at: usize) -> bool
     requires { ⌜ at + longest-line < length (now s) ⌝ }
     ensures { λ r. ⌜ r ≡ endsThere (now (s .entry)) at ⌝ }
 {
-    if s[at + LONGEST_LINE] != b'\r' {
+    if s[at + Frame::LONGEST_LINE] != b'\r' {
         return false;
     }
-    byte_at(s, at + LONGEST_LINE + 1) == b'\n'
+    byte_at(s, at + Frame::LONGEST_LINE + 1) == b'\n'
 }
 
 // From a line's first byte, with at least 81 bytes left: the first byte of a later line, where all lines before that one are short enough; the line's own if it is too long.
@@ -50,7 +48,7 @@ fn next_line(s: &[u8], at: usize) -> usize
     ensures { λ r. ⌜ NextLine (now (s .entry)) at r ⌝ }
 {
     if ends_at_80(s, at) {
-        return at + LONGEST_LINE + 2;
+        return at + Frame::LONGEST_LINE + 2;
     }
     past_last_lf(s, at)
 }
@@ -60,7 +58,7 @@ pub fn long_line(s: &[u8]) -> LongLine
     ensures { λ r. ⌜ r ≡ shownLong (longLine true 0 (now (s .entry))) ⌝ }
 {
     let mut at: usize = 0;
-    while s.len() - at > LONGEST_LINE {
+    while s.len() - at > Frame::LONGEST_LINE {
         let next = next_line(s, at);
         if next == at {
             return LongLine::At(at);

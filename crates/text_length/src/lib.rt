@@ -15,7 +15,6 @@ use signed::ordinate_at;
 use table_text::digits::further_digits;
 use text_groups::Group;
 use text_groups::find;
-use text_lines::LONGEST_LINE;
 use text_lines::State;
 use text_lines::begin;
 use text_lines::finish;
@@ -67,7 +66,7 @@ fn lone_differences(ys: &[i32], s: State) -> State
     while next < n {
         let z = ordinate_at(ys, next);
         let all = column + lone_width(p, y, z);
-        if all > LONGEST_LINE {
+        if all > Frame::LONGEST_LINE {
             return state_after(s, i, p, column);
         }
         i = next;
@@ -128,7 +127,7 @@ fn count_line(ys: &[i32], s: State) -> State
         let g = find(ys, t.given, t.last);
         let column = t.column;
         let width = g.width;
-        if column + width > LONGEST_LINE {
+        if column + width > Frame::LONGEST_LINE {
             return t;
         }
         r = count_group(ys, t, g);

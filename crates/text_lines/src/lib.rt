@@ -24,9 +24,6 @@ use text_groups::find;
 use text_groups::put_group;
 ghost use Rattle.table_spec.specs.declared.Style.the-variants.{Difdup};
 
-// The most bytes of a line.
-pub const LONGEST_LINE: usize = 80;
-
 // How far the writing has come: points given, the place after the last byte, the bytes of the line so far, the last ordinate, and whether its form is DIF.
 pub struct State {
     pub given: usize,
@@ -177,7 +174,7 @@ pub fn turn(ys: &[i32], out: &mut [u8], fr: Frame, s: State) -> State
     let g = find(ys, i, p);
     let group = g.width;
     let all = column + group;
-    if all <= LONGEST_LINE {
+    if all <= Frame::LONGEST_LINE {
         return fill(ys, out, fr, i, p, g, at, column);
     }
     break_line(ys, out, fr, s, g)

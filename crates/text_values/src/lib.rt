@@ -27,9 +27,6 @@ use text_digits::PAIRS;
 mod lines;
 mod shows;
 
-// The most bytes of a line.
-const LONGEST_LINE: usize = 80;
-
 // How a form writes its values: is there a space before a missing one, before one that is not negative, before one that is; has the last a minus; and to what their first digits are added.
 struct Marks {
     gap: bool,

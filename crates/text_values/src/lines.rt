@@ -9,11 +9,11 @@ ghost use Rattle.text_digits.specs.Counts.{counts};
 ghost use Rattle.text_digits.specs.Lent.{Tables};
 ghost use Rattle.text_values.specs.Shows.{shown, Based};
 ghost use Rattle.text_values.specs.Lines.{Opened, Room, Filled};
-use crate::LONGEST_LINE;
 use crate::Marks;
 use crate::State;
 use crate::shows::put_value;
 use crate::shows::width_of;
+use frame::Frame;
 use signed::ordinate_at;
 
 // The values that fit on the line. What is left of the text is lent.
@@ -30,7 +30,7 @@ pub fn fill_line(
 {
     let n = ys.len();
     let line = s.at - s.column;
-    let full = line + LONGEST_LINE;
+    let full = line + Frame::LONGEST_LINE;
     let mut i = s.given;
     let mut at = s.at;
     while i < n {
@@ -61,7 +61,7 @@ pub fn count_line(d: &[u64; 32], m: Marks, ys: &[i32], s: State) -> State
 {
     let n = ys.len();
     let line = s.at - s.column;
-    let full = line + LONGEST_LINE;
+    let full = line + Frame::LONGEST_LINE;
     let mut i = s.given;
     let mut at = s.at;
     while i < n {
