@@ -45,8 +45,8 @@ fn mantissa(s: &[u8], at: usize) -> Mantissa
     let whole = alphabet::digits(s, at, 0, MOST_DIGITS);
     let v = whole.v;
     let point = whole.at;
-    let after = whole.e;
-    if after < PAST_DIGITS {
+    let after = whole.b;
+    if alphabet::is_digit(after) {
         return Mantissa::Misspelled;
     }
     let n = point - at;
@@ -58,8 +58,8 @@ fn mantissa(s: &[u8], at: usize) -> Mantissa
     let all = alphabet::digits(s, first, v, left);
     let w = all.v;
     let end = all.at;
-    let beyond = all.e;
-    if beyond < PAST_DIGITS {
+    let beyond = all.b;
+    if alphabet::is_digit(beyond) {
         return Mantissa::Misspelled;
     }
     let f = end - first;
@@ -75,8 +75,8 @@ fn power_digits(s: &[u8], at: usize, minus: bool) -> Exponent
     let all = alphabet::digits(s, at, 0, 3);
     let x = all.v;
     let end = all.at;
-    let after = all.e;
-    if after < PAST_DIGITS {
+    let after = all.b;
+    if alphabet::is_digit(after) {
         return Exponent::Misspelled;
     }
     if end - at < 2 {
@@ -166,8 +166,8 @@ pub fn count(s: &[u8], at: usize) -> Count
     let all = alphabet::digits(s, at, 0, MOST_DIGITS);
     let v = all.v;
     let end = all.at;
-    let after = all.e;
-    if after < PAST_DIGITS {
+    let after = all.b;
+    if alphabet::is_digit(after) {
         return Count::Misspelled;
     }
     if end == at {

@@ -21,6 +21,9 @@ use alphabet::POINT;
 use alphabet::Run;
 use alphabet::digits;
 use alphabet::entry_at;
+use alphabet::is_blank;
+use alphabet::is_digit;
+use alphabet::standing;
 
 // Where a line's end stands: the place of the next line, or that none stands there.
 pub enum Ending {
@@ -37,7 +40,7 @@ pub enum Start {
 
 // A head: its abscissa plus 10,000,000,000, what its last written place is worth in thousandths, the place after it and the entry there; or what is no head.
 pub enum HeadRead {
-    Abscissa(u64, u64, usize, u64),
+    Abscissa(u64, u64, usize),
     NoHead,
 }
 
@@ -47,7 +50,7 @@ pub fn blanks(s: &[u8], from: usize) -> usize
     ensures { λ r. ⌜ Blanked (now (s .entry)) from r ⌝ }
 {
     let mut i = from;
-    while entry_at(s, i) == BLANK {
+    while is_blank(standing(s, i)) {
         i += 1;
     }
     i
@@ -152,14 +155,14 @@ fn worth(n: usize) -> u64
 }
 
 // A head of so many thousandths, with its unit.
-fn abscissa(minus: bool, size: u64, unit: u64, at: usize, e: u64) -> HeadRead
+fn abscissa(minus: bool, size: u64, unit: u64, at: usize) -> HeadRead
     requires { ⌜ size ≤ 9999999999 ⌝ }
-    ensures { λ r. ⌜ r ≡ HeadRead.Abscissa (headed-at minus size) unit at e ⌝ }
+    ensures { λ r. ⌜ r ≡ HeadRead.Abscissa (headed-at minus size) unit at ⌝ }
 {
     if minus {
-        return HeadRead::Abscissa(10000000000 - size, unit, at, e);
+        return HeadRead::Abscissa(10000000000 - size, unit, at);
     }
-    HeadRead::Abscissa(10000000000 + size, unit, at, e)
+    HeadRead::Abscissa(10000000000 + size, unit, at)
 }
 
 // After the whole number of a head, which was read as w: perhaps a point and at most three digits.
@@ -169,18 +172,18 @@ fn fraction(s: &[u8], w: Run, minus: bool) -> HeadRead
 {
     let at = w.at;
     let v = w.v;
-    if w.e != POINT {
-        return abscissa(minus, v * 1000, 1000, at, w.e);
+    if w.b != 46 {
+        return abscissa(minus, v * 1000, 1000, at);
     }
     let next = at + 1;
     let f = digits(s, next, v, 3);
-    if f.e < PAST_DIGITS {
+    if is_digit(f.b) {
         return HeadRead::NoHead;
     }
     let end = f.at;
     let unit = worth(end - next);
     let size = f.v * unit;
-    abscissa(minus, size, unit, end, f.e)
+    abscissa(minus, size, unit, end)
 }
 
 // The head at a place whose entry is e.
@@ -191,7 +194,7 @@ pub fn head(s: &[u8], at: usize, e: u64) -> HeadRead
     let next = at + 1;
     if e < PAST_DIGITS {
         let w = digits(s, next, e, 6);
-        if w.e < PAST_DIGITS {
+        if is_digit(w.b) {
             return HeadRead::NoHead;
         }
         return fraction(s, w, false);
@@ -203,7 +206,7 @@ pub fn head(s: &[u8], at: usize, e: u64) -> HeadRead
     if w.at == next {
         return HeadRead::NoHead;
     }
-    if w.e < PAST_DIGITS {
+    if is_digit(w.b) {
         return HeadRead::NoHead;
     }
     fraction(s, w, e >= MINUS)

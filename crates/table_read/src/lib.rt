@@ -76,7 +76,7 @@ fn read_line(
     let q = r.q;
     match head(s, at, e) {
         HeadRead::NoHead => LineRead::Refused(4, at),
-        HeadRead::Abscissa(h, unit, j, f) => {
+        HeadRead::Abscissa(h, unit, j) => {
             if !fr.passes(h, unit, index_of(dif, k)) {
                 return LineRead::Refused(6, at);
             }
@@ -85,7 +85,7 @@ fn read_line(
             }
             let want = wanted(dif, q);
             let n = fr.points;
-            values(s, n, out, j, f, k, want)
+            values(s, n, out, j, k, want)
         }
     }
 }

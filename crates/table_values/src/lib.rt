@@ -11,14 +11,17 @@ use alphabet::DIF_MINUS;
 use alphabet::KIND;
 use alphabet::MISSING;
 use alphabet::POINT;
+use alphabet::digits;
 use alphabet::entry_at;
+use alphabet::is_blank;
+use alphabet::is_digit;
+use alphabet::standing;
 use signed::ZERO_ORDINATE;
 use table_lines::Ending;
 use table_lines::blanks;
 use table_lines::line_end;
 use table_numbers::NumberRead;
 use table_numbers::number;
-use table_numbers::packed;
 use table_ordinates::moved_by;
 use table_ordinates::put;
 use table_ordinates::repeat;
@@ -28,7 +31,6 @@ use table_ordinates::shifted;
 // asked); the size of the last difference; and the form of the value before: 0 none, or a DUP that is not DIF; 1 a DUP that is; 2 a value of its own; from DIF on a difference, its first byte's entry.
 struct Cur {
     at: usize,
-    e: u64,
     k: usize,
     q: u64,
     want: u64,
@@ -59,46 +61,77 @@ pub enum LineRead {
 
 // ---- one value
 
+// Does a difference that is not 0 begin with the byte b?
+fn difference_letter(b: u64) -> bool
+{
+    let up = b >= 74 && b <= 82;
+    let down = b >= 106 && b <= 114;
+    up || down
+}
+
+fn letter_digit(b: u64) -> u64
+{
+    (b + 7) % 16
+}
+
+fn difference_entry(b: u64) -> u64
+{
+    let x = if b < 106 { b - 41 } else { b - 57 };
+    if b == 37 { DIF } else { x }
+}
+
 // THE HOT LOOP. As many differences as stand here one after the other and are right. It stops before anything else.
 fn differences(s: &[u8], points: usize, out: &mut [i32], c: Cur) -> Cur
     requires { ⌜ Sits points (now s) c ⌝ }
     ensures { λ r. ⌜ Went points (now (s .entry)) c r (now (out .entry)) (now (out .exit)) ⌝ }
 {
     let mut at = c.at;
-    let mut e = c.e;
     let mut k = c.k;
     let mut q = c.q;
     let mut step = c.step;
-    let mut form = c.form;
     if q == 0 {
         return c;
     }
-    while e / DIF == 1 {
-        if points <= k {
-            break;
-        }
-        match packed(s, at, e) {
-            NumberRead::Misspelled => {
+    let mut b = standing(s, at);
+    let mut last: u64 = 0;
+    while k < points {
+        let next = at + 1;
+        if difference_letter(b) {
+            let r = digits(s, next, letter_digit(b), 9);
+            let f = r.b;
+            if is_digit(f) {
                 break;
             }
-            NumberRead::Read(v, j, f) => {
-                let u = shifted(q, e >= DIF_MINUS, v);
-                if u == 0 {
-                    break;
-                }
-                put(out, k, u);
-                k += 1;
-                q = u;
-                step = v;
-                form = e;
-                at = j;
-                e = f;
+            let v = r.v;
+            let u = shifted(q, b >= 106, v);
+            if u == 0 {
+                break;
             }
+            put(out, k, u);
+            q = u;
+            step = v;
+            at = r.at;
+            last = b;
+            b = f;
+        } else {
+            if b != 37 {
+                break;
+            }
+            let f = standing(s, next);
+            if is_digit(f) {
+                break;
+            }
+            put(out, k, q);
+            step = 0;
+            at = next;
+            last = b;
+            b = f;
         }
+        k += 1;
     }
+    let form = if last == 0 { c.form } else { difference_entry(last) };
     Cur {
         at,
-        e,
         k,
         q,
         want: c.want,
@@ -123,10 +156,8 @@ fn missing(s: &[u8], points: usize, out: &mut [i32], c: Cur) -> Step
         return Step::Refused(11);
     }
     put(out, k, 0);
-    let f = entry_at(s, next);
     Step::Go(Cur {
         at: next,
-        e: f,
         k: k + 1,
         q: 0,
         want: 0,
@@ -144,7 +175,6 @@ fn own_value(
     minus: bool,
     v: u64,
     j: usize,
-    f: u64,
 ) -> Step
     requires { ⌜ Sits points (now s) c × Token (now s) (c .at) (own minus v) j f ⌝ }
     ensures { λ r. ⌜ Stepped points (now (s .entry)) c (now (out .entry)) (now (out .exit)) r ⌝ }
@@ -161,8 +191,7 @@ fn own_value(
         }
         return Step::Go(Cur {
             at: j,
-            e: f,
-            k,
+                k,
             q: u,
             want: 0,
             step: 0,
@@ -175,7 +204,6 @@ fn own_value(
     put(out, k, u);
     Step::Go(Cur {
         at: j,
-        e: f,
         k: k + 1,
         q: u,
         want: 0,
@@ -185,12 +213,11 @@ fn own_value(
 }
 
 // A difference.
-fn difference(s: &[u8], points: usize, out: &mut [i32], c: Cur, v: u64, j: usize, f: u64) -> Step
+fn difference(s: &[u8], points: usize, out: &mut [i32], c: Cur, e: u64, v: u64, j: usize) -> Step
     requires { ⌜ Sits points (now s) c × (v < 10000000000) × (32 ≤ c .e) × (c .e < 64) × Token (now s) (c .at) (by (leb 48 (c .e)) v) j f ⌝ }
     ensures { λ r. ⌜ Stepped points (now (s .entry)) c (now (out .entry)) (now (out .exit)) r ⌝ }
 {
     let k = c.k;
-    let e = c.e;
     let q = c.q;
     if q == 0 {
         return Step::Refused(8);
@@ -205,7 +232,6 @@ fn difference(s: &[u8], points: usize, out: &mut [i32], c: Cur, v: u64, j: usize
     put(out, k, u);
     Step::Go(Cur {
         at: j,
-        e: f,
         k: k + 1,
         q: u,
         want: 0,
@@ -215,7 +241,7 @@ fn difference(s: &[u8], points: usize, out: &mut [i32], c: Cur, v: u64, j: usize
 }
 
 // A DUP of a value of its own, or of a missing one: n further copies of the ordinate.
-fn same_again(s: &[u8], points: usize, out: &mut [i32], c: Cur, n: usize, j: usize, f: u64) -> Step
+fn same_again(s: &[u8], points: usize, out: &mut [i32], c: Cur, n: usize, j: usize) -> Step
     requires { ⌜ Again points (now s) c n j f × (2 ≤ c .form) × (c .form < 32) ⌝ }
     ensures { λ r. ⌜ Stepped points (now (s .entry)) c (now (out .entry)) (now (out .exit)) r ⌝ }
 {
@@ -228,7 +254,6 @@ fn same_again(s: &[u8], points: usize, out: &mut [i32], c: Cur, n: usize, j: usi
     repeat(out, k, q, false, 0, n);
     Step::Go(Cur {
         at: j,
-        e: f,
         k: end,
         q,
         want: 0,
@@ -238,7 +263,7 @@ fn same_again(s: &[u8], points: usize, out: &mut [i32], c: Cur, n: usize, j: usi
 }
 
 // A DUP of a difference: n further steps.
-fn steps_again(s: &[u8], points: usize, out: &mut [i32], c: Cur, n: usize, j: usize, f: u64) -> Step
+fn steps_again(s: &[u8], points: usize, out: &mut [i32], c: Cur, n: usize, j: usize) -> Step
     requires { ⌜ Again points (now s) c n j f × (32 ≤ c .form) ⌝ }
     ensures { λ r. ⌜ Stepped points (now (s .entry)) c (now (out .entry)) (now (out .exit)) r ⌝ }
 {
@@ -259,7 +284,6 @@ fn steps_again(s: &[u8], points: usize, out: &mut [i32], c: Cur, n: usize, j: us
     repeat(out, k, q, minus, d, n);
     Step::Go(Cur {
         at: j,
-        e: f,
         k: end,
         q: u,
         want: 0,
@@ -269,7 +293,7 @@ fn steps_again(s: &[u8], points: usize, out: &mut [i32], c: Cur, n: usize, j: us
 }
 
 // A DUP with the count v (01, "c is at least 2").
-fn dup_value(s: &[u8], points: usize, out: &mut [i32], c: Cur, v: u64, j: usize, f: u64) -> Step
+fn dup_value(s: &[u8], points: usize, out: &mut [i32], c: Cur, v: u64, j: usize) -> Step
     requires { ⌜ Sits points (now s) c × (points ≤ 65536) × (v < 100000) × Token (now s) (c .at) (times v) j f ⌝ }
     ensures { λ r. ⌜ Stepped points (now (s .entry)) c (now (out .entry)) (now (out .exit)) r ⌝ }
 {
@@ -282,25 +306,24 @@ fn dup_value(s: &[u8], points: usize, out: &mut [i32], c: Cur, v: u64, j: usize,
     }
     let n = (v - 1) as usize;
     if form < DIF {
-        return same_again(s, points, out, c, n, j, f);
+        return same_again(s, points, out, c, n, j);
     }
-    steps_again(s, points, out, c, n, j, f)
+    steps_again(s, points, out, c, n, j)
 }
 
 // The value at the place, whose number is v.
-fn value(s: &[u8], points: usize, out: &mut [i32], c: Cur, v: u64, j: usize, f: u64) -> Step
+fn value(s: &[u8], points: usize, out: &mut [i32], c: Cur, e: u64, v: u64, j: usize) -> Step
     requires { ⌜ Valued points (now s) c v j f ⌝ }
     ensures { λ r. ⌜ Stepped points (now (s .entry)) c (now (out .entry)) (now (out .exit)) r ⌝ }
 {
-    let e = c.e;
     let kind = e / KIND;
     if kind == 1 {
-        return dup_value(s, points, out, c, v, j, f);
+        return dup_value(s, points, out, c, v, j);
     }
     if e / DIF == 1 {
-        return difference(s, points, out, c, v, j, f);
+        return difference(s, points, out, c, e, v, j);
     }
-    own_value(s, points, out, c, kind % 4 == 1, v, j, f)
+    own_value(s, points, out, c, kind % 4 == 1, v, j)
 }
 
 // Whatever stands next on a line.
@@ -309,19 +332,10 @@ fn token(s: &[u8], points: usize, out: &mut [i32], c: Cur) -> Step
     ensures { λ r. ⌜ Stepped points (now (s .entry)) c (now (out .entry)) (now (out .exit)) r ⌝ }
 {
     let at = c.at;
-    let e = c.e;
-    if e >= POINT {
-        return match line_end(s, at, e) {
-            Ending::Next(j) => Step::Line(j),
-            Ending::Bad => Step::Refused(3),
-        };
-    }
-    if e == BLANK {
+    if is_blank(standing(s, at)) {
         let j = blanks(s, at);
-        let f = entry_at(s, j);
         return Step::Go(Cur {
             at: j,
-            e: f,
             k: c.k,
             q: c.q,
             want: c.want,
@@ -329,12 +343,19 @@ fn token(s: &[u8], points: usize, out: &mut [i32], c: Cur) -> Step
             form: c.form,
         });
     }
+    let e = entry_at(s, at);
+    if e >= POINT {
+        return match line_end(s, at, e) {
+            Ending::Next(j) => Step::Line(j),
+            Ending::Bad => Step::Refused(3),
+        };
+    }
     if e == MISSING {
         return missing(s, points, out, c);
     }
     match number(s, at, e) {
         NumberRead::Misspelled => Step::Refused(5),
-        NumberRead::Read(v, j, f) => value(s, points, out, c, v, j, f),
+        NumberRead::Read(v, j) => value(s, points, out, c, e, v, j),
     }
 }
 
@@ -367,7 +388,6 @@ pub fn values(
     points: usize,
     out: &mut [i32],
     at: usize,
-    e: u64,
     k: usize,
     want: u64,
 ) -> LineRead
@@ -376,7 +396,6 @@ pub fn values(
 {
     let mut c = Cur {
         at,
-        e,
         k,
         q: 0,
         want,
