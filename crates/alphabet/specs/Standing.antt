@@ -77,6 +77,13 @@ byte-off b w = off (kind tabs-too b) (sym (kind-digit tabs-too b) ∙ w)
 pub digit-stands-not : (s : List ℕ) (i : ℕ) → within 48 10 (standing s i) ≡ false → 16 ≤ entryAt s i
 digit-stands-not = stood (λ b e. within 48 10 b ≡ false → 16 ≤ e) byte-off (λ w. omega arith)
 
+-- what a test of the byte b says, where b stands
+pub digit-seen : (s : List ℕ) (i : ℕ) {b : ℕ} {t : Bool} → b ≡ standing s i → t ≡ within 48 10 b → t ≡ true → entryAt s i < 16
+digit-seen s i g e h = digit-stands s i (rw g at (sym e ∙ h)) .0
+
+pub digit-seen-not : (s : List ℕ) (i : ℕ) {b : ℕ} {t : Bool} → b ≡ standing s i → t ≡ within 48 10 b → t ≡ false → 16 ≤ entryAt s i
+digit-seen-not s i g e h = digit-stands-not s i (rw g at (sym e ∙ h))
+
 -- ---- a blank, a point
 
 byte-blank : (b : ℕ) → blanking b ≡ true → entry b ≡ 112
@@ -108,3 +115,9 @@ pub point-stood : (s : List ℕ) (i : ℕ) → entryAt s i ≡ 160 → standing 
 point-stood s i e =
     let h = entry-in s i (λ x. omega arith) in
     rw (stands-in s i h) (subst (Back tabs-too (getD s i 0)) (at-kind s i h ∙ ap kindOf e) (kind-back tabs-too (getD s i 0)))
+
+pub blank-seen : (s : List ℕ) (i : ℕ) {b : ℕ} {t : Bool} → b ≡ standing s i → t ≡ blanking b → t ≡ true → entryAt s i ≡ 112
+blank-seen s i g e h = blank-stands s i (rw g at (sym e ∙ h))
+
+pub blank-seen-not : (s : List ℕ) (i : ℕ) {b : ℕ} {t : Bool} → b ≡ standing s i → t ≡ blanking b → t ≡ false → entryAt s i ≡ 112 → ⊥
+blank-seen-not s i g e h k = no-way (sym h ∙ e ∙ rw g (blank-stood s i k))

@@ -3,13 +3,13 @@ ghost use mathlib.Core.Path.{_≡_};
 ghost use Prim.Native.Nat.{_<_, _≤_};
 ghost use lib.ListN.{length};
 ghost use Rattle.alphabet_spec.specs.Entries.{entryAt};
+ghost use Rattle.alphabet.specs.Standing.{«standing»};
 ghost use Rattle.table_spec.specs.Values.{headed-at};
 ghost use Rattle.table_spec.specs.Reading.{bare, unit};
 ghost use Rattle.table_lines.specs.declared.HeadRead.{HeadRead};
 ghost use Rattle.table_lines.specs.Seen.{here};
 ghost use Rattle.table_lines.specs.Ends.{Blanked, Commented, Ended, LineOpens, Started};
 ghost use Rattle.table_lines.specs.Heads.{Pointed, Headed};
-use alphabet::BLANK;
 use alphabet::CR;
 use alphabet::DOLLAR;
 use alphabet::END;
@@ -38,7 +38,7 @@ pub enum Start {
     Bad(usize),
 }
 
-// A head: its abscissa plus 10,000,000,000, what its last written place is worth in thousandths, the place after it and the entry there; or what is no head.
+// A head: its abscissa plus 10,000,000,000, what its last written place is worth in thousandths, and the place after it; or what is no head.
 pub enum HeadRead {
     Abscissa(u64, u64, usize),
     NoHead,
@@ -165,14 +165,17 @@ fn abscissa(minus: bool, size: u64, unit: u64, at: usize) -> HeadRead
     HeadRead::Abscissa(10000000000 + size, unit, at)
 }
 
+// The byte of a point.
+const FULL_STOP: u64 = 46;
+
 // After the whole number of a head, which was read as w: perhaps a point and at most three digits.
 fn fraction(s: &[u8], w: Run, minus: bool) -> HeadRead
-    requires { ⌜ (w .at ≤ length (now s)) × (w .e ≡ entryAt (now s) (w .at)) × (w .v < 10000000) × (16 ≤ w .e) ⌝ }
+    requires { ⌜ (w .at ≤ length (now s)) × (w .b ≡ standing (now s) (w .at)) × (w .v < 10000000) × (16 ≤ entryAt (now s) (w .at)) ⌝ }
     ensures { λ r. ⌜ Pointed (now (s .entry)) (w .at) (w .v) minus r ⌝ }
 {
     let at = w.at;
     let v = w.v;
-    if w.b != 46 {
+    if w.b != FULL_STOP {
         return abscissa(minus, v * 1000, 1000, at);
     }
     let next = at + 1;
