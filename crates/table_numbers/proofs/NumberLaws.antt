@@ -143,7 +143,7 @@ module _ (s : List ℕ) (i e : ℕ) (g : e ≡ entryAt s i) (l : 16 ≤ e) (h : 
     packed-long : f < 16 → Numbered s i e Misspelled
     packed-long = run-long s i (lead (leadOf e) (e % 16)) (valueOf (leadOf e)) lead-in lead-here (λ x. omega arith) (omega arith) r lead-opens
 
-    packed-token : 16 ≤ f → Numbered s i e (Read w j)
+    pub packed-token : 16 ≤ f → Numbered s i e (Read w j)
     packed-token k =
         let b = lead-fits m z in let y = ran-below r in
         let x = run-token s i (lead (leadOf e) (e % 16)) (valueOf (leadOf e)) lead-in lead-here (λ x. omega arith) (omega arith) r lead-opens k in

@@ -2,10 +2,10 @@
 ghost use mathlib.Core.Path.{_≡_};
 ghost use Prim.Native.Nat.{_<_, _≤_};
 ghost use lib.Dec.{leb};
+ghost use Rattle.alphabet_spec.specs.Entries.{entryAt};
 ghost use Rattle.table_spec.specs.Values.{own, by, times};
 ghost use Rattle.table_numbers.specs.Numbers.{Token};
-ghost use Rattle.table_values.specs.States.{difForm, rowAfter, Sits, Valued, Again, Went, Stepped, FirstValue, Lined};
-use alphabet::BLANK;
+ghost use Rattle.table_values.specs.States.{«lettered», formed, difForm, rowAfter, Sits, Valued, Again, Went, Stepped, FirstValue, Lined};
 use alphabet::DIF;
 use alphabet::DIF_MINUS;
 use alphabet::KIND;
@@ -27,8 +27,8 @@ use table_ordinates::put;
 use table_ordinates::repeat;
 use table_ordinates::shifted;
 
-// Within a line: the place and the entry there; how many points; the ordinate before (0: none on this line, or missing); the ordinate that a check line's first value must equal (0: not
-// asked); the size of the last difference; and the form of the value before: 0 none, or a DUP that is not DIF; 1 a DUP that is; 2 a value of its own; from DIF on a difference, its first byte's entry.
+// Within a line: the place; how many points; the ordinate before (0: none on this line, or missing); the ordinate that a check line's first value must equal (0: not
+// asked); the size of the last difference; and the form of the value before: 0 none, or a DUP that is not DIF; 1 a DUP that is; 2 a value of its own; from DIF on a difference, and from DIF_MINUS on one that is minus.
 struct Cur {
     at: usize,
     k: usize,
@@ -59,28 +59,40 @@ pub enum LineRead {
     Refused(u64, usize),
 }
 
+// The byte of j: from it on the letters are minus.
+const LOWER: u64 = 106;
+
 // ---- one value
 
-// Does a difference that is not 0 begin with the byte b?
-fn difference_letter(b: u64) -> bool
+// Does a difference other than 0 begin with the byte b: J to R, or j to r?
+fn lettered(b: u64) -> bool
+    ensures { λ r. ⌜ r ≡ lettered b ⌝ }
 {
-    let up = b >= 74 && b <= 82;
-    let down = b >= 106 && b <= 114;
-    up || down
+    if b >= 74 {
+        if b < 83 {
+            return true;
+        }
+    }
+    if b < LOWER {
+        return false;
+    }
+    b < 115
 }
 
-fn letter_digit(b: u64) -> u64
+// The form after a run of differences: that before it, if there was none (0), or that of a difference that begins with the byte `last`.
+fn form_after(form: u64, last: u64) -> u64
+    ensures { λ r. ⌜ r ≡ formed form last ⌝ }
 {
-    (b + 7) % 16
+    if last == 0 {
+        return form;
+    }
+    if last >= LOWER {
+        return DIF_MINUS;
+    }
+    DIF
 }
 
-fn difference_entry(b: u64) -> u64
-{
-    let x = if b < 106 { b - 41 } else { b - 57 };
-    if b == 37 { DIF } else { x }
-}
-
-// THE HOT LOOP. As many differences as stand here one after the other and are right. It stops before anything else.
+// THE HOT LOOP. As many differences as stand here one after the other and are right. It asks for nothing but a difference and its digits, and stops before anything else.
 fn differences(s: &[u8], points: usize, out: &mut [i32], c: Cur) -> Cur
     requires { ⌜ Sits points (now s) c ⌝ }
     ensures { λ r. ⌜ Went points (now (s .entry)) c r (now (out .entry)) (now (out .exit)) ⌝ }
@@ -89,47 +101,47 @@ fn differences(s: &[u8], points: usize, out: &mut [i32], c: Cur) -> Cur
     let mut k = c.k;
     let mut q = c.q;
     let mut step = c.step;
+    let mut last: u64 = 0;
     if q == 0 {
         return c;
     }
     let mut b = standing(s, at);
-    let mut last: u64 = 0;
     while k < points {
-        let next = at + 1;
-        if difference_letter(b) {
-            let r = digits(s, next, letter_digit(b), 9);
-            let f = r.b;
-            if is_digit(f) {
+        if lettered(b) {
+            let next = at + 1;
+            let r = digits(s, next, (b + 7) % KIND, 9);
+            if is_digit(r.b) {
                 break;
             }
-            let v = r.v;
-            let u = shifted(q, b >= 106, v);
+            let u = shifted(q, b >= LOWER, r.v);
             if u == 0 {
                 break;
             }
             put(out, k, u);
+            k += 1;
             q = u;
-            step = v;
+            step = r.v;
             at = r.at;
             last = b;
-            b = f;
-        } else {
-            if b != 37 {
-                break;
-            }
-            let f = standing(s, next);
-            if is_digit(f) {
-                break;
-            }
-            put(out, k, q);
-            step = 0;
-            at = next;
-            last = b;
-            b = f;
+            b = r.b;
+            continue;
         }
+        if b != 37 {
+            break;
+        }
+        let next = at + 1;
+        let f = standing(s, next);
+        if is_digit(f) {
+            break;
+        }
+        put(out, k, q);
         k += 1;
+        step = 0;
+        at = next;
+        last = b;
+        b = f;
     }
-    let form = if last == 0 { c.form } else { difference_entry(last) };
+    let form = form_after(c.form, last);
     Cur {
         at,
         k,
@@ -142,7 +154,7 @@ fn differences(s: &[u8], points: usize, out: &mut [i32], c: Cur) -> Cur
 
 // A missing ordinate.
 fn missing(s: &[u8], points: usize, out: &mut [i32], c: Cur) -> Step
-    requires { ⌜ Sits points (now s) c × (c .e ≡ 96) ⌝ }
+    requires { ⌜ Sits points (now s) c × (entryAt (now s) (c .at) ≡ 96) ⌝ }
     ensures { λ r. ⌜ Stepped points (now (s .entry)) c (now (out .entry)) (now (out .exit)) r ⌝ }
 {
     let at = c.at;
@@ -176,7 +188,7 @@ fn own_value(
     v: u64,
     j: usize,
 ) -> Step
-    requires { ⌜ Sits points (now s) c × Token (now s) (c .at) (own minus v) j f ⌝ }
+    requires { ⌜ Sits points (now s) c × Token (now s) (c .at) (own minus v) j ⌝ }
     ensures { λ r. ⌜ Stepped points (now (s .entry)) c (now (out .entry)) (now (out .exit)) r ⌝ }
 {
     let k = c.k;
@@ -191,7 +203,7 @@ fn own_value(
         }
         return Step::Go(Cur {
             at: j,
-                k,
+            k,
             q: u,
             want: 0,
             step: 0,
@@ -212,9 +224,9 @@ fn own_value(
     })
 }
 
-// A difference.
+// A difference that begins with the entry e.
 fn difference(s: &[u8], points: usize, out: &mut [i32], c: Cur, e: u64, v: u64, j: usize) -> Step
-    requires { ⌜ Sits points (now s) c × (v < 10000000000) × (32 ≤ c .e) × (c .e < 64) × Token (now s) (c .at) (by (leb 48 (c .e)) v) j f ⌝ }
+    requires { ⌜ Sits points (now s) c × (v < 10000000000) × (32 ≤ e) × (e < 64) × Token (now s) (c .at) (by (leb 48 e) v) j ⌝ }
     ensures { λ r. ⌜ Stepped points (now (s .entry)) c (now (out .entry)) (now (out .exit)) r ⌝ }
 {
     let k = c.k;
@@ -242,7 +254,7 @@ fn difference(s: &[u8], points: usize, out: &mut [i32], c: Cur, e: u64, v: u64, 
 
 // A DUP of a value of its own, or of a missing one: n further copies of the ordinate.
 fn same_again(s: &[u8], points: usize, out: &mut [i32], c: Cur, n: usize, j: usize) -> Step
-    requires { ⌜ Again points (now s) c n j f × (2 ≤ c .form) × (c .form < 32) ⌝ }
+    requires { ⌜ Again points (now s) c n j × (2 ≤ c .form) × (c .form < 32) ⌝ }
     ensures { λ r. ⌜ Stepped points (now (s .entry)) c (now (out .entry)) (now (out .exit)) r ⌝ }
 {
     let k = c.k;
@@ -264,7 +276,7 @@ fn same_again(s: &[u8], points: usize, out: &mut [i32], c: Cur, n: usize, j: usi
 
 // A DUP of a difference: n further steps.
 fn steps_again(s: &[u8], points: usize, out: &mut [i32], c: Cur, n: usize, j: usize) -> Step
-    requires { ⌜ Again points (now s) c n j f × (32 ≤ c .form) ⌝ }
+    requires { ⌜ Again points (now s) c n j × (32 ≤ c .form) ⌝ }
     ensures { λ r. ⌜ Stepped points (now (s .entry)) c (now (out .entry)) (now (out .exit)) r ⌝ }
 {
     let k = c.k;
@@ -294,7 +306,7 @@ fn steps_again(s: &[u8], points: usize, out: &mut [i32], c: Cur, n: usize, j: us
 
 // A DUP with the count v (01, "c is at least 2").
 fn dup_value(s: &[u8], points: usize, out: &mut [i32], c: Cur, v: u64, j: usize) -> Step
-    requires { ⌜ Sits points (now s) c × (points ≤ 65536) × (v < 100000) × Token (now s) (c .at) (times v) j f ⌝ }
+    requires { ⌜ Sits points (now s) c × (points ≤ 65536) × (v < 100000) × Token (now s) (c .at) (times v) j ⌝ }
     ensures { λ r. ⌜ Stepped points (now (s .entry)) c (now (out .entry)) (now (out .exit)) r ⌝ }
 {
     let form = c.form;
@@ -311,9 +323,9 @@ fn dup_value(s: &[u8], points: usize, out: &mut [i32], c: Cur, v: u64, j: usize)
     steps_again(s, points, out, c, n, j)
 }
 
-// The value at the place, whose number is v.
+// The value at the place, which begins with the entry e and has the number v.
 fn value(s: &[u8], points: usize, out: &mut [i32], c: Cur, e: u64, v: u64, j: usize) -> Step
-    requires { ⌜ Valued points (now s) c v j f ⌝ }
+    requires { ⌜ Valued points (now s) c e v j ⌝ }
     ensures { λ r. ⌜ Stepped points (now (s .entry)) c (now (out .entry)) (now (out .exit)) r ⌝ }
 {
     let kind = e / KIND;
@@ -382,7 +394,7 @@ fn row_after(c: Cur, at: usize) -> Row
     }
 }
 
-// The values of a line, from a place with the entry e on, with k points given; the first must equal `want`, if that is not 0.
+// The values of a line, from a place on, with k points given; the first must equal `want`, if that is not 0.
 pub fn values(
     s: &[u8],
     points: usize,
@@ -391,7 +403,7 @@ pub fn values(
     k: usize,
     want: u64,
 ) -> LineRead
-    requires { ⌜ FirstValue points (now s) at e k ⌝ }
+    requires { ⌜ FirstValue points (now s) at k ⌝ }
     ensures { λ r. ⌜ Lined points (now (s .entry)) at k want (now (out .entry)) (now (out .exit)) r ⌝ }
 {
     let mut c = Cur {
