@@ -4,7 +4,6 @@ ghost use Prim.Native.Nat.{_+_, _-_, _<_, _≤_};
 ghost use lib.ListN.{length};
 ghost use Rattle.decimal_spec.specs.Number.{mantissaOf};
 ghost use Rattle.decimal.specs.Found.{MantissaFound, ExponentFound, PowerFound, UnsignedFound, NumberFound, CountFound};
-use alphabet::PAST_DIGITS;
 use decimal_spec::Count;
 use decimal_spec::Exponent;
 use decimal_spec::Mantissa;
@@ -140,7 +139,7 @@ fn unsigned(s: &[u8], at: usize, minus: bool) -> Number
     }
 }
 
-// The number at a place of a text. An inner function: it is lent the byte table, and the place is one of the text or its end.
+// The number at a place of a text. An inner function: the place is one of the text or its end.
 // What stands after the number is the caller's to judge.
 pub fn number(s: &[u8], at: usize) -> Number
     requires { ⌜ at ≤ length (now s) ⌝ }

@@ -86,12 +86,7 @@ pub fn figures(file: &[u8], x: Needed) -> Figures
 }
 
 // FIRSTX and LASTX, after the factors, and then the rest.
-fn figures_from_firstx(
-    file: &[u8],
-    x: Needed,
-    xfactor: Decimal,
-    yfactor: Decimal,
-) -> Figures
+fn figures_from_firstx(file: &[u8], x: Needed, xfactor: Decimal, yfactor: Decimal) -> Figures
     requires { ⌜ FactorsRead (length (now file)) x xfactor yfactor ⌝ }
     ensures { λ r. ⌜ (r ≡ fromFirstx (now (file .entry)) x xfactor yfactor) × figuresIn r ⌝ }
 {

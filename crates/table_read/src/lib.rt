@@ -60,14 +60,7 @@ fn wanted(dif: bool, q: u64) -> u64
 }
 
 // A line whose head stands at a place with the entry e: 4, 6, 7, then its values.
-fn read_line(
-    s: &[u8],
-    fr: Frame,
-    out: &mut [i32],
-    r: Row,
-    at: usize,
-    e: u64,
-) -> LineRead
+fn read_line(s: &[u8], fr: Frame, out: &mut [i32], r: Row, at: usize, e: u64) -> LineRead
     requires { ⌜ Sound fr × Rests (fr .points) (now s) r × LineOpens (now s) at e ⌝ }
     ensures { λ v. ⌜ LineSays (frame-rules fr) (now (s .entry)) r at (now (out .entry)) (now (out .exit)) v ⌝ }
 {

@@ -395,14 +395,7 @@ fn row_after(c: Cur, at: usize) -> Row
 }
 
 // The values of a line, from a place on, with k points given; the first must equal `want`, if that is not 0.
-pub fn values(
-    s: &[u8],
-    points: usize,
-    out: &mut [i32],
-    at: usize,
-    k: usize,
-    want: u64,
-) -> LineRead
+pub fn values(s: &[u8], points: usize, out: &mut [i32], at: usize, k: usize, want: u64) -> LineRead
     requires { ⌜ FirstValue points (now s) at k ⌝ }
     ensures { λ r. ⌜ Lined points (now (s .entry)) at k want (now (out .entry)) (now (out .exit)) r ⌝ }
 {
