@@ -1,3 +1,4 @@
+pub mod Standing
 pub mod Ranged
 pub mod Ran
 pub mod Unique

@@ -1,5 +1,6 @@
 -- What reading a run of digits ensures, and what that says of the run. Assumes nothing.
 use mathlib.Core.Path.{_≡_, refl, sym, ap, _∙_}
+use mathlib.Core.Bool.{true, false}
 use mathlib.Core.List.{List}
 use Prim.Native.Nat.{ℕ, suc, _+_, _-_, _*_, _^_, _≤_, _<_}
 use native.Mathlib.Omega.{arith}
@@ -9,9 +10,10 @@ use lib.Dec.{ltb, lit<}
 use lib.ListN.{length, drop}
 use borrow.Author.Tests.{ltb-true, ltb-false}
 use Rattle.terms.specs.Logic.{pick, by-case}
-use Rattle.alphabet_spec.specs.Digits.{long, run, digits}
+use Rattle.alphabet_spec.specs.Digits.{within, long, run, digits}
 use Rattle.alphabet_spec.specs.Entries.{entryAt}
 use Rattle.alphabet_spec.specs.DigitLaws.{digits-stop, digits-on, digit-at}
+use Rattle.alphabet.specs.Standing.{standing, within-in, digit-stands, digit-stands-not}
 
 -- reading on from the place i with the number v is reading on from the place j with the number w, after j - i more digits
 abbrev pub Onward : List ℕ → ℕ → ℕ → ℕ → ℕ → Type 0
@@ -105,3 +107,21 @@ step {s} {i} {v} {most} {w} {j} {e} r g f k =
 -- the run has ended: no digit stands there, or as many as may have been taken
 pub stop : {s : List ℕ} {i v most w j e : ℕ} → Running s i v most w j → e ≡ entryAt s j → (e < 16 → j ≡ i + most) → Ran s i v most w j e
 stop r h f = record { low = r .low; high = r .high; few = r .few; stands = h; below = r .below; all = r .all; full = f; onward = r .onward }
+
+-- a digit b stands there, and may be taken: what the code's sums need, and the run with it
+pub record Taken (s : List ℕ) (i v most w j b : ℕ) : Type 0 where
+  pub digit : 48 ≤ b
+  pub fits : w * 10 + 10 ≤ 10000000000000000000
+  pub small : b - 48 < 10
+  pub inside : j < length s
+  pub on : Running s i v most (w * 10 + (b - 48)) (j + 1)
+
+pub taken : {s : List ℕ} {i v most w j b : ℕ} → Running s i v most w j → b ≡ standing s j → within 48 10 b ≡ true → j - i < most → (v + 1) * 10 ^ most ≤ 10000000000000000000
+    → Taken s i v most w j b
+taken {s} {j = j} {b = b} r g t k m =
+    let x = digit-stands s j (rw g at t) in let d = digit-at s j (x .0) in let e : b - 48 ≡ entryAt s j = rw g (sym (x .1)) in let y = within-in 48 10 b t in
+    record { digit = y .0; fits = fits r k m; small = let z = y .1 in omega arith; inside = d .0; on = step r e (omega (arith, d .2)) k }
+
+-- no digit stands there: the run has ended
+pub ended : {s : List ℕ} {i v most w j b : ℕ} → Running s i v most w j → b ≡ standing s j → within 48 10 b ≡ false → Ran s i v most w j (entryAt s j)
+ended {s} {j = j} r g t = stop r refl (λ h. absurd (let x = digit-stands-not s j (rw g at t) in omega arith))

@@ -8,6 +8,7 @@ use Rattle.terms.specs.Logic.{pick, by-case}
 use Rattle.alphabet_spec.specs.Digits.{within, run, digits}
 use Rattle.alphabet_spec.specs.Entries.{entryAt}
 use Rattle.alphabet.specs.Ran.{Ran}
+use Rattle.alphabet.specs.Standing.{standing}
 use Rattle.alphabet.specs.declared.Run.{Run}
 
 -- the place: up to it stand digits, and at it none does, or as many as may have been taken
@@ -29,5 +30,10 @@ ran-same {s} {i} {v} {most} {w} {j} {e} {u} {k} {f} x y =
     let z : digits (drop j s) (length s) w (0 + (j - i)) ≡ digits (drop j s) (length s) u (0 + (j - i)) = sym (x .onward (length s) 0) ∙ rw p (y .onward (length s) 0) in
     (number-back (drop j s) (length s) w u (0 + (j - i)) (omega (arith, length-drop j s)) z, p, x .stands ∙ ap (entryAt s) p ∙ sym (y .stands))
 
-pub digits-unique : {s : List ℕ} {i v most : ℕ} (x y : Run) → Ran s i v most (x .v) (x .at) (x .e) → Ran s i v most (y .v) (y .at) (y .e) → x ≡ y
-digits-unique x y f g = let z = ran-same f g in λ t. record { v = z .0 t; at = z .1 t; e = z .2 t }
+-- what reading a run of digits ensures
+abbrev Answered : List ℕ → ℕ → ℕ → ℕ → Run → Type 0
+Answered s i v most r = Ran s i v most (r .v) (r .at) (entryAt s (r .at)) × (r .b ≡ standing s (r .at))
+
+pub digits-unique : {s : List ℕ} {i v most : ℕ} (x y : Run) → Answered s i v most x → Answered s i v most y → x ≡ y
+digits-unique {s} x y f g =
+    let z = ran-same (f .0) (g .0) in let b : x .b ≡ y .b = f .1 ∙ ap (standing s) (z .1) ∙ sym (g .1) in λ t. record { v = z .0 t; at = z .1 t; b = b t }

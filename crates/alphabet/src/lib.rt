@@ -6,6 +6,8 @@ ghost use lib.ListN.{length};
 ghost use Rattle.alphabet_spec.specs.Entries.{«entry», entryAt};
 ghost use Rattle.alphabet.specs.Ranged.{«either»};
 ghost use Rattle.alphabet.specs.Ran.{Ran};
+ghost use Rattle.alphabet.specs.Standing.{«standing», blanking};
+ghost use Rattle.alphabet_spec.specs.Digits.{within};
 
 // So many entries has a kind: an entry divided by it is the kind, and what is left the digit.
 pub const KIND: u64 = 16;
@@ -49,11 +51,11 @@ const OUTSIDE: u64 = 240;
 // What stands at the end of the text: no byte has this entry.
 pub const END: u64 = 256;
 
-// A run of digits: its number, the place after it, and the entry that stands there.
+// A run of digits: its number, the place after it, and the byte that stands there, END at the end of the text.
 pub struct Run {
     pub v: u64,
     pub at: usize,
-    pub e: u64,
+    pub b: u64,
 }
 
 fn wide(x: u8) -> u64
@@ -87,8 +89,8 @@ pub fn entry_of(b: u8) -> u64
         83..=90 => wide(b) - 66,
         97..=105 => wide(b) - 16,
         115 => 25,
-        63 => MISSING,
-        46 => POINT,
+        58..=63 => either(b, b'.', POINT, b'?', MISSING),
+        46..=47 => either(b, b'.', POINT, b'?', MISSING),
         38..=45 => either(b, b'+', PLUS, b'-', MINUS),
         33..=37 => either(b, b'$', DOLLAR, b'%', DIF),
         11..=32 => either(b, b'\r', CR, b' ', BLANK),
@@ -107,21 +109,53 @@ pub fn entry_at(s: &[u8], i: usize) -> u64
     END
 }
 
+// The byte at a place, END at the end of the text.
+pub fn standing(s: &[u8], i: usize) -> u64
+    ensures { λ r. ⌜ r ≡ standing (now (s .entry)) i ⌝ }
+{
+    if i < s.len() {
+        return wide(s[i]);
+    }
+    END
+}
+
+// Is the byte that stands there a digit?
+pub fn is_digit(b: u64) -> bool
+    ensures { λ r. ⌜ r ≡ within 48 10 b ⌝ }
+{
+    if b < 48 {
+        return false;
+    }
+    b < 58
+}
+
+// Is the byte that stands there a blank: space or tab?
+pub fn is_blank(b: u64) -> bool
+    ensures { λ r. ⌜ r ≡ blanking b ⌝ }
+{
+    if b == 32 {
+        return true;
+    }
+    b == 9
+}
+
 // The digits from a place on, after the number v: at most `most` of them are taken, and as many as there are up to that (01, "A digit run is always as long as it can be").
 pub fn digits(s: &[u8], from: usize, v: u64, most: usize) -> Run
     requires { ⌜ (from ≤ length (now s)) × ((v + 1) * 10 ^ most ≤ 10000000000000000000) ⌝ }
-    ensures { λ r. ⌜ Ran (now (s .entry)) from v most (r .v) (r .at) (r .e) ⌝ }
+    ensures { λ r. ⌜ Ran (now (s .entry)) from v most (r .v) (r .at) (entryAt (now (s .entry)) (r .at)) × (r .b ≡ standing (now (s .entry)) (r .at)) ⌝ }
 {
     let mut w = v;
     let mut i = from;
-    let mut e = entry_at(s, i);
-    while e < PAST_DIGITS {
-        if i - from >= most {
-            return Run { v: w, at: i, e };
+    let mut left = most;
+    let mut b = standing(s, i);
+    while is_digit(b) {
+        if left == 0 {
+            return Run { v: w, at: i, b };
         }
-        w = w * 10 + e;
+        left -= 1;
+        w = w * 10 + (b - 48);
         i += 1;
-        e = entry_at(s, i);
+        b = standing(s, i);
     }
-    Run { v: w, at: i, e }
+    Run { v: w, at: i, b }
 }

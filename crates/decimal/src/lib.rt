@@ -4,7 +4,6 @@ ghost use Prim.Native.Nat.{_+_, _-_, _<_, _≤_};
 ghost use lib.ListN.{length};
 ghost use Rattle.decimal_spec.specs.Number.{mantissaOf};
 ghost use Rattle.decimal.specs.Found.{MantissaFound, ExponentFound, PowerFound, UnsignedFound, NumberFound, CountFound};
-use alphabet::PAST_DIGITS;
 use decimal_spec::Count;
 use decimal_spec::Exponent;
 use decimal_spec::Mantissa;
@@ -45,8 +44,8 @@ fn mantissa(s: &[u8], at: usize) -> Mantissa
     let whole = alphabet::digits(s, at, 0, MOST_DIGITS);
     let v = whole.v;
     let point = whole.at;
-    let after = whole.e;
-    if after < PAST_DIGITS {
+    let after = whole.b;
+    if alphabet::is_digit(after) {
         return Mantissa::Misspelled;
     }
     let n = point - at;
@@ -58,8 +57,8 @@ fn mantissa(s: &[u8], at: usize) -> Mantissa
     let all = alphabet::digits(s, first, v, left);
     let w = all.v;
     let end = all.at;
-    let beyond = all.e;
-    if beyond < PAST_DIGITS {
+    let beyond = all.b;
+    if alphabet::is_digit(beyond) {
         return Mantissa::Misspelled;
     }
     let f = end - first;
@@ -75,8 +74,8 @@ fn power_digits(s: &[u8], at: usize, minus: bool) -> Exponent
     let all = alphabet::digits(s, at, 0, 3);
     let x = all.v;
     let end = all.at;
-    let after = all.e;
-    if after < PAST_DIGITS {
+    let after = all.b;
+    if alphabet::is_digit(after) {
         return Exponent::Misspelled;
     }
     if end - at < 2 {
@@ -140,7 +139,7 @@ fn unsigned(s: &[u8], at: usize, minus: bool) -> Number
     }
 }
 
-// The number at a place of a text. An inner function: it is lent the byte table, and the place is one of the text or its end.
+// The number at a place of a text. An inner function: the place is one of the text or its end.
 // What stands after the number is the caller's to judge.
 pub fn number(s: &[u8], at: usize) -> Number
     requires { ⌜ at ≤ length (now s) ⌝ }
@@ -166,8 +165,8 @@ pub fn count(s: &[u8], at: usize) -> Count
     let all = alphabet::digits(s, at, 0, MOST_DIGITS);
     let v = all.v;
     let end = all.at;
-    let after = all.e;
-    if after < PAST_DIGITS {
+    let after = all.b;
+    if alphabet::is_digit(after) {
         return Count::Misspelled;
     }
     if end == at {

@@ -48,14 +48,13 @@ powers (suc (suc (suc zero))) h = (refl, lit< tt, lit≤ tt)
 powers (suc (suc (suc (suc k)))) h = absurd (omega arith)
 
 pub whole-only : {s : List ℕ} {i w e : ℕ} (minus : Bool) → i ≤ length s → e ≡ entryAt s i → w < 10000000 → (e ≡ 160 → ⊥)
-    → Pointed s i w minus (Abscissa (headed-at minus (w * 1000)) 1000 i e)
+    → Pointed s i w minus (Abscissa (headed-at minus (w * 1000)) 1000 i)
 unfolding pointed entry kind
 whole-only {s} {i} {w} {e} minus h g l n =
     let z : i - i ≡ 0 = omega arith in
     record {
       low = omega arith;
       high = h;
-      stands = g;
       clear = λ x. x;
       size = w * 1000;
       small = omega arith;
@@ -85,14 +84,13 @@ module _ {s : List ℕ} (i : ℕ) {w f j e : ℕ} (g : entryAt s i ≡ 160) (r :
       let q = mul-lt-mul-of-pos-right b (powers k x .1) in
       omega arith
 
-  pub fraction-read : (minus : Bool) → w < 10000000 → 16 ≤ e → Pointed s i w minus (Abscissa (headed-at minus (f * unit (j - (i + 1)))) (unit (j - (i + 1))) j e)
+  pub fraction-read : (minus : Bool) → w < 10000000 → 16 ≤ e → Pointed s i w minus (Abscissa (headed-at minus (f * unit (j - (i + 1)))) (unit (j - (i + 1))) j)
   unfolding scaled
   fraction-read minus l h =
       let low = r .low in let few = r .few in
       record {
         low = omega arith;
         high = r .high;
-        stands = r .stands;
         clear = λ x. clear-after r (not-behind s i (λ y. omega arith));
         size = f * unit (j - (i + 1));
         small = fraction-small l;
@@ -124,21 +122,20 @@ module _ {s : List ℕ} (i : ℕ) {v most w j e : ℕ} (minus : Bool) (c : Byte)
   no-fraction l p = seen-kind s i fresh c h k ∙ f _ ∙ rw (thousandths-at l, p (j - (i + 1))) refl
 
   -- its bytes, whatever follows them
-  head-bytes : {x u n d : ℕ} → 16 ≤ e → Scaled s j w minus x u n d
+  head-bytes : {x u n : ℕ} → 16 ≤ e → Scaled s j w minus x u n
       → (K : Rest) → opening K i (drop (suc i) s) (kind tabs-too (getD s i 0)) ≡ head i x u (K (n - suc i) (inner false))
-  head-bytes {x} {u} {n} {d} l p K =
+  head-bytes {x} {u} {n} l p K =
       let low = r .low in let a = p .low in
       let z : j - (i + 1) + (n - j) ≡ n - suc i = omega arith in
       rw (at-kind s i h ∙ k) (f K ∙ rw (thousandths-at l, p .law (j - (i + 1)), z, ← p .is) refl)
 
-  pub topped : {x u n d : ℕ} → 16 ≤ e → Scaled s j w minus x u n d → Topped s i x u n d
+  pub topped : {x u n : ℕ} → 16 ≤ e → Scaled s j w minus x u n → Topped s i x u n
   unfolding step
-  topped {x} {u} {n} {d} l p =
+  topped {x} {u} {n} l p =
       let low = r .low in let a = p .low in let b = p .small in
       record {
         low = omega arith;
         high = p .high;
-        stands = p .stands;
         clear = p .clear (clear-after r (not-behind s i nb));
         small = small-head minus (p .size) x (p .is) b;
         coarsest = p .coarsest;
@@ -148,7 +145,7 @@ module _ {s : List ℕ} (i : ℕ) {v most w j e : ℕ} (minus : Bool) (c : Byte)
 
   -- whatever follows the whole number
   pub headed-by : 16 ≤ e → (x : HeadRead) → Pointed s j w minus x → Headed s i x
-  headed-by l (Abscissa x u n d) p = topped l p
+  headed-by l (Abscissa x u n) p = topped l p
   headed-by l NoHead p = no-fraction l p
 
 -- ---- the first byte of a line

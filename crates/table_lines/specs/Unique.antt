@@ -97,15 +97,15 @@ row-start-unique s i (start.Bad j) (start.Bad k) a b = ap start.Bad (ap place (s
 
 -- ---- head: its bytes are so many
 
-topped-same : {s : List ℕ} {i h u j e g v k f : ℕ} → Topped s i h u j e → Topped s i g v k f → Abscissa h u j e ≡ Abscissa g v k f
-topped-same {i = i} {h} {u} {j} {e} {g} {v} {k} {f} x y =
+topped-same : {s : List ℕ} {i h u j g v k : ℕ} → Topped s i h u j → Topped s i g v k → Abscissa h u j ≡ Abscissa g v k
+topped-same {i = i} {h} {u} {j} {g} {v} {k} x y =
     let z = sym (x .bytes (λ n m. over n)) ∙ y .bytes (λ n m. over n) in
     let a : h ≡ g = cc in let d : u ≡ v = cc in let b : j - suc i ≡ k - suc i = cc in
     let l = x .low in let m = y .low in let c : j ≡ k = omega arith in
-    rw (x .stands, y .stands, a, d, c) refl
+    rw (a, d, c) refl
 
 pub head-unique : (s : List ℕ) (i : ℕ) (x y : HeadRead) → Headed s i x → Headed s i y → x ≡ y
-head-unique s i (Abscissa h u j e) (Abscissa g v k f) a b = topped-same a b
-head-unique s i (Abscissa h u j e) NoHead a b = let z = sym (a .law) ∙ b in zero-one cc
-head-unique s i NoHead (Abscissa g v k f) a b = let z = sym (b .law) ∙ a in zero-one cc
+head-unique s i (Abscissa h u j) (Abscissa g v k) a b = topped-same a b
+head-unique s i (Abscissa h u j) NoHead a b = let z = sym (a .law) ∙ b in zero-one cc
+head-unique s i NoHead (Abscissa g v k) a b = let z = sym (b .law) ∙ a in zero-one cc
 head-unique s i NoHead NoHead a b = refl

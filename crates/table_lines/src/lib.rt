@@ -3,13 +3,13 @@ ghost use mathlib.Core.Path.{_≡_};
 ghost use Prim.Native.Nat.{_<_, _≤_};
 ghost use lib.ListN.{length};
 ghost use Rattle.alphabet_spec.specs.Entries.{entryAt};
+ghost use Rattle.alphabet.specs.Standing.{«standing»};
 ghost use Rattle.table_spec.specs.Values.{headed-at};
 ghost use Rattle.table_spec.specs.Reading.{bare, unit};
 ghost use Rattle.table_lines.specs.declared.HeadRead.{HeadRead};
 ghost use Rattle.table_lines.specs.Seen.{here};
 ghost use Rattle.table_lines.specs.Ends.{Blanked, Commented, Ended, LineOpens, Started};
 ghost use Rattle.table_lines.specs.Heads.{Pointed, Headed};
-use alphabet::BLANK;
 use alphabet::CR;
 use alphabet::DOLLAR;
 use alphabet::END;
@@ -21,6 +21,9 @@ use alphabet::POINT;
 use alphabet::Run;
 use alphabet::digits;
 use alphabet::entry_at;
+use alphabet::is_blank;
+use alphabet::is_digit;
+use alphabet::standing;
 
 // Where a line's end stands: the place of the next line, or that none stands there.
 pub enum Ending {
@@ -35,9 +38,9 @@ pub enum Start {
     Bad(usize),
 }
 
-// A head: its abscissa plus 10,000,000,000, what its last written place is worth in thousandths, the place after it and the entry there; or what is no head.
+// A head: its abscissa plus 10,000,000,000, what its last written place is worth in thousandths, and the place after it; or what is no head.
 pub enum HeadRead {
-    Abscissa(u64, u64, usize, u64),
+    Abscissa(u64, u64, usize),
     NoHead,
 }
 
@@ -47,7 +50,7 @@ pub fn blanks(s: &[u8], from: usize) -> usize
     ensures { λ r. ⌜ Blanked (now (s .entry)) from r ⌝ }
 {
     let mut i = from;
-    while entry_at(s, i) == BLANK {
+    while is_blank(standing(s, i)) {
         i += 1;
     }
     i
@@ -152,35 +155,38 @@ fn worth(n: usize) -> u64
 }
 
 // A head of so many thousandths, with its unit.
-fn abscissa(minus: bool, size: u64, unit: u64, at: usize, e: u64) -> HeadRead
+fn abscissa(minus: bool, size: u64, unit: u64, at: usize) -> HeadRead
     requires { ⌜ size ≤ 9999999999 ⌝ }
-    ensures { λ r. ⌜ r ≡ HeadRead.Abscissa (headed-at minus size) unit at e ⌝ }
+    ensures { λ r. ⌜ r ≡ HeadRead.Abscissa (headed-at minus size) unit at ⌝ }
 {
     if minus {
-        return HeadRead::Abscissa(10000000000 - size, unit, at, e);
+        return HeadRead::Abscissa(10000000000 - size, unit, at);
     }
-    HeadRead::Abscissa(10000000000 + size, unit, at, e)
+    HeadRead::Abscissa(10000000000 + size, unit, at)
 }
+
+// The byte of a point.
+const FULL_STOP: u64 = 46;
 
 // After the whole number of a head, which was read as w: perhaps a point and at most three digits.
 fn fraction(s: &[u8], w: Run, minus: bool) -> HeadRead
-    requires { ⌜ (w .at ≤ length (now s)) × (w .e ≡ entryAt (now s) (w .at)) × (w .v < 10000000) × (16 ≤ w .e) ⌝ }
+    requires { ⌜ (w .at ≤ length (now s)) × (w .b ≡ standing (now s) (w .at)) × (w .v < 10000000) × (16 ≤ entryAt (now s) (w .at)) ⌝ }
     ensures { λ r. ⌜ Pointed (now (s .entry)) (w .at) (w .v) minus r ⌝ }
 {
     let at = w.at;
     let v = w.v;
-    if w.e != POINT {
-        return abscissa(minus, v * 1000, 1000, at, w.e);
+    if w.b != FULL_STOP {
+        return abscissa(minus, v * 1000, 1000, at);
     }
     let next = at + 1;
     let f = digits(s, next, v, 3);
-    if f.e < PAST_DIGITS {
+    if is_digit(f.b) {
         return HeadRead::NoHead;
     }
     let end = f.at;
     let unit = worth(end - next);
     let size = f.v * unit;
-    abscissa(minus, size, unit, end, f.e)
+    abscissa(minus, size, unit, end)
 }
 
 // The head at a place whose entry is e.
@@ -191,7 +197,7 @@ pub fn head(s: &[u8], at: usize, e: u64) -> HeadRead
     let next = at + 1;
     if e < PAST_DIGITS {
         let w = digits(s, next, e, 6);
-        if w.e < PAST_DIGITS {
+        if is_digit(w.b) {
             return HeadRead::NoHead;
         }
         return fraction(s, w, false);
@@ -203,7 +209,7 @@ pub fn head(s: &[u8], at: usize, e: u64) -> HeadRead
     if w.at == next {
         return HeadRead::NoHead;
     }
-    if w.e < PAST_DIGITS {
+    if is_digit(w.b) {
         return HeadRead::NoHead;
     }
     fraction(s, w, e >= MINUS)

@@ -9,21 +9,21 @@ use native.Mathlib.Nat.{pow-le-pow-right, mul-le-mul-left, lt-of-lt-of-le}
 use lib.Dec.{ltb, leb, eqb, lit<}
 use lib.ListN.{length, getD, drop}
 use borrow.Author.Tests.{eq-eqb, ne-eqb, lt-ltb, le-ltb, lt-leb, le-leb, ltb-true, ltb-false, leb-true, leb-false}
-use mathlib.Core.Logic.{_⊎_, inl, inr}
+use mathlib.Core.Logic.{_⊎_, inl, inr, ⊎-elim}
 use Rattle.terms.specs.Logic.{pick, by-case}
 use Rattle.alphabet_spec.specs.Kinds.{Lead, sqz, dif, dup, tabs-too, Pseudo, sqz-up, sqz-down, dif-zero, dif-up, dif-down, dup-low, dup-nine}
 use Rattle.alphabet_spec.specs.Digits.{long, run}
 use Rattle.alphabet_spec.specs.Bytes.{Byte, digit, lead, sign, quest, blank, point, lf, cr, dollar, other, kind}
 use Rattle.alphabet_spec.specs.KindLaws.{Back, kind-back}
 use Rattle.alphabet_spec.specs.Entries.{code, entry, entryAt, kindOf}
-use Rattle.alphabet_spec.specs.EntryLaws.{entry-in, at-entry}
+use Rattle.alphabet_spec.specs.EntryLaws.{entry-in, at-entry, at-kind}
 use Rattle.alphabet_spec.specs.DigitLaws.{digit-at}
 use Rattle.alphabet.specs.Ran.{AllDigits, Ran, ran-below}
 use Rattle.table_spec.specs.Values.{Value, own, gap, by, times, valueOf, room}
 use Rattle.table_spec.specs.Reading.{Tokens, value, fault, Mode, inner, valued, inside, step}
 use Rattle.table_lines.specs.Seen.{behind, here, later-seen, later-none, seen-kind, byte-back, not-behind}
 use Rattle.table_lines.proofs.HeadLaws.{clear-after, digit-kind, sign-kind, some-more, some-none, run-there}
-use Rattle.table_numbers.specs.Numbers.{leadOf, valueAt, below, Clear, Token, Numbered}
+use Rattle.table_numbers.specs.Numbers.{leadOf, most, valueAt, below, Clear, Token, Numbered}
 use Rattle.table_numbers.specs.declared.NumberRead.the-variants.{Read, Misspelled}
 
 -- ---- entries of pseudo-digits
@@ -100,7 +100,7 @@ module _ (s : List ℕ) (i : ℕ) {v most w j f : ℕ} (c : Byte) (x : ℕ → V
   unfolding step
   run-long l = seen-kind s i (inner (behind s i)) c h k ∙ g _ ∙ rw (lt-ltb f 16 l) refl
 
-  run-token : 16 ≤ f → Token s i (x w) j f
+  run-token : 16 ≤ f → Token s i (x w) j
   unfolding step
   run-token l =
       let low = r .low in let z : j - (i + 1) ≡ j - suc i = omega arith in
@@ -108,7 +108,6 @@ module _ (s : List ℕ) (i : ℕ) {v most w j f : ℕ} (c : Byte) (x : ℕ → V
         low = omega arith;
         clear = clear-run s i j lo (r .all);
         high = r .high;
-        stands = r .stands;
         law = seen-kind s i (inner (behind s i)) c h k ∙ g _
             ∙ rw (le-ltb f 16 l, z, clear-after r (not-behind s i nb)) (ap (value i (x w)) (later-seen s (suc i) j (inner false) (omega arith) (r .high)));
       }
@@ -116,7 +115,7 @@ module _ (s : List ℕ) (i : ℕ) {v most w j f : ℕ} (c : Byte) (x : ℕ → V
 -- ---- a pseudo-digit
 
 module _ (s : List ℕ) (i e : ℕ) (g : e ≡ entryAt s i) (l : 16 ≤ e) (h : e < 96) where
-  pub lead-in : i < length s
+  lead-in : i < length s
   lead-in = entry-in s i (λ x. omega arith)
 
   lead-here : kindOf (entryAt s i) ≡ lead (leadOf e) (e % 16)
@@ -125,7 +124,7 @@ module _ (s : List ℕ) (i e : ℕ) (g : e ≡ entryAt s i) (l : 16 ≤ e) (h : 
   pub lead-digit : e % 16 < 10
   lead-digit = lead-small (byte-back s i (lead (leadOf e) (e % 16)) lead-in lead-here)
 
-  pub lead-fits : (m : ℕ) → m ≡ room (leadOf e) (e % 16) → (e % 16 + 1) * 10 ^ m ≤ below e
+  lead-fits : (m : ℕ) → m ≡ room (leadOf e) (e % 16) → (e % 16 + 1) * 10 ^ m ≤ below e
   lead-fits m z =
       rw (le-ltb e 16 l)
       (by-case (λ t. ltb e 32 ≡ t → (e % 16 + 1) * 10 ^ m ≤ pick t 100000 10000000000) (ltb e 32)
@@ -141,14 +140,14 @@ module _ (s : List ℕ) (i e : ℕ) (g : e ≡ entryAt s i) (l : 16 ≤ e) (h : 
     unfolding inside
     lead-opens K = rw (← z, run-there s i r) refl
 
-    pub packed-long : f < 16 → Numbered s i e Misspelled
+    packed-long : f < 16 → Numbered s i e Misspelled
     packed-long = run-long s i (lead (leadOf e) (e % 16)) (valueOf (leadOf e)) lead-in lead-here (λ x. omega arith) (omega arith) r lead-opens
 
-    pub packed-token : 16 ≤ f → Numbered s i e (Read w j f)
+    pub packed-token : 16 ≤ f → Numbered s i e (Read w j)
     packed-token k =
         let b = lead-fits m z in let y = ran-below r in
         let x = run-token s i (lead (leadOf e) (e % 16)) (valueOf (leadOf e)) lead-in lead-here (λ x. omega arith) (omega arith) r lead-opens k in
-        record { small = lt-of-lt-of-le y b; token = rw (valued-at w) x; digits = r .all; over = k }
+        record { small = lt-of-lt-of-le y b; token = rw (valued-at w) x; digits = r .all; over = rw (r .stands) at k }
 
 -- ---- a sign
 
@@ -166,18 +165,18 @@ module _ (s : List ℕ) (i e : ℕ) (g : e ≡ entryAt s i) (l : 128 ≤ e) (h :
   unfolding inside
   sign-opens n K = let low = r .low in let b : 0 < j - (i + 1) = omega (arith, n) in rw (run-there s i r, some-more (ltb f 16) w (j - (i + 1)) b) refl
 
-  pub sign-alone : j ≡ i + 1 → Numbered s i e Misspelled
+  sign-alone : j ≡ i + 1 → Numbered s i e Misspelled
   unfolding inside step
   sign-alone n = let z : j - (i + 1) ≡ 0 = omega arith in seen-kind s i (inner (behind s i)) (sign (leb 144 e)) sign-in sign-here ∙ rw (run-there s i r, z, some-none (ltb f 16) w) refl
 
-  pub signed-long : (j ≡ i + 1 → ⊥) → f < 16 → Numbered s i e Misspelled
+  signed-long : (j ≡ i + 1 → ⊥) → f < 16 → Numbered s i e Misspelled
   signed-long n = run-long s i (sign (leb 144 e)) (own (leb 144 e)) sign-in sign-here (λ x. omega arith) (omega arith) r (sign-opens n)
 
-  pub signed-token : (j ≡ i + 1 → ⊥) → 16 ≤ f → Numbered s i e (Read w j f)
+  signed-token : (j ≡ i + 1 → ⊥) → 16 ≤ f → Numbered s i e (Read w j)
   signed-token n k =
       let y = ran-below r in
       let x = run-token s i (sign (leb 144 e)) (own (leb 144 e)) sign-in sign-here (λ x. omega arith) (omega arith) r (sign-opens n) k in
-      record { small = rw (le-ltb e 16 (omega arith), le-ltb e 32 (omega arith)) (omega arith); token = rw (own-at w) x; digits = r .all; over = k }
+      record { small = rw (le-ltb e 16 (omega arith), le-ltb e 32 (omega arith)) (omega arith); token = rw (own-at w) x; digits = r .all; over = rw (r .stands) at k }
 
 -- ---- a digit, after a blank or not
 
@@ -201,18 +200,18 @@ module _ (s : List ℕ) (i e : ℕ) (g : e ≡ entryAt s i) (l : e < 16) where
     unfolding inside
     digit-opens K = rw (behind-is true o (eq-eqb (entryAt s (i - 1)) 112 n), run-there s i r) refl
 
-    pub plain-long : f < 16 → Numbered s i e Misspelled
+    plain-long : f < 16 → Numbered s i e Misspelled
     plain-long = run-long s i (digit e) (own false) (digit-here .0) digit-kind-here (λ x. omega arith) (omega arith) r digit-opens
 
-    pub plain-token : 16 ≤ f → Numbered s i e (Read w j f)
+    plain-token : 16 ≤ f → Numbered s i e (Read w j)
     plain-token k =
         let y = ran-below r in let d = digit-here .1 in
         let x = run-token s i (digit e) (own false) (digit-here .0) digit-kind-here (λ x. omega arith) (omega arith) r digit-opens k in
-        record { small = rw (lt-ltb e 16 l) (omega arith); token = rw (lt-ltb e 16 l) x; digits = r .all; over = k }
+        record { small = rw (lt-ltb e 16 l) (omega arith); token = rw (lt-ltb e 16 l) x; digits = r .all; over = rw (r .stands) at k }
 
 -- ---- a missing ordinate
 
-pub gap-token : (s : List ℕ) (i : ℕ) → entryAt s i ≡ 96 → Token s i gap (i + 1) (entryAt s (i + 1))
+pub gap-token : (s : List ℕ) (i : ℕ) → entryAt s i ≡ 96 → Token s i gap (i + 1)
 unfolding step inside
 gap-token s i e =
     let h = entry-in s i (λ x. omega arith) in
@@ -220,16 +219,70 @@ gap-token s i e =
       low = omega arith;
       clear = clear-run s i (i + 1) (omega arith) (λ k a b. absurd (omega arith));
       high = omega arith;
-      stands = refl;
       law = seen-kind s i (inner (behind s i)) quest h (ap kindOf e) ∙ rw (not-behind s i (λ x. omega arith), add-one i) (ap (value i gap) (later-none s (suc i) (inner false)));
     }
-
--- ---- which value it is
 
 pub below-ten : (e : ℕ) → below e ≤ 10000000000
 below-ten e =
     by-case (λ t. pick t 10000000000 (pick (ltb e 32) 100000 10000000000) ≤ 10000000000) (ltb e 16) (λ _. omega arith)
     (λ _. by-case (λ t. pick t 100000 10000000000 ≤ 10000000000) (ltb e 32) (λ _. omega arith) (λ _. omega arith))
+
+-- ---- whatever begins a value
+
+module _ (s : List ℕ) (i e : ℕ) (g : e ≡ entryAt s i) (lo : e < 160) (k : e < 96 ⊎ 128 ≤ e) where
+  -- a digit, a pseudo-digit or a sign
+  kinded : {A : Type 0} → (e < 16 → A) → (16 ≤ e → e < 96 → A) → (128 ≤ e → A) → A
+  kinded {A} x y z =
+      by-case (λ t. ltb e 16 ≡ t → A) (ltb e 16) (λ _ p. x (ltb-true e 16 p)) (λ _ p. ⊎-elim (y (ltb-false e 16 p)) z k) refl
+
+  pub number-in : i < length s
+  number-in = entry-in s i (λ x. omega arith)
+
+  digit-most : e < 16 → most e ≡ 9
+  digit-most l = rw (lt-leb 128 e (omega arith), lt-ltb e 16 l) refl
+
+  lead-most : 16 ≤ e → e < 96 → most e ≡ room (leadOf e) (e % 16)
+  lead-most l h = rw (lt-leb 128 e (omega arith), le-ltb e 16 l) refl
+
+  sign-most : 128 ≤ e → most e ≡ 10
+  sign-most l = rw (le-leb 128 e l) refl
+
+  digit-first : e < 16 → e % 16 ≡ e
+  digit-first l = omega arith
+
+  -- a sign's entry has no digit
+  sign-first : 128 ≤ e → e % 16 ≡ 0
+  unfolding entry
+  sign-first l =
+      let c : kind tabs-too (getD s i 0) ≡ sign (leb 144 e) = at-kind s i number-in ∙ ap kindOf (sym g) ∙ sign-kind e l lo in
+      let z : e ≡ code (sign (leb 144 e)) = g ∙ at-entry s i number-in ∙ ap code c in
+      by-case (λ t. e ≡ code (sign t) → e % 16 ≡ 0) (leb 144 e) (λ _ x. omega arith) (λ _ x. omega arith) z
+
+  pub number-fits : (e % 16 + 1) * 10 ^ most e ≤ 10000000000000000000
+  number-fits =
+      kinded (λ l. let d = digit-here s i e g l .1 in rw (digit-most l, digit-first l) (omega arith))
+      (λ l h. let z = lead-fits s i e g l h (most e) (lead-most l h) in let b = below-ten e in omega arith) (λ l. rw (sign-most l, sign-first l) (omega arith))
+
+  module _ (o : 0 < i) (n : e < 16 → entryAt s (i - 1) ≡ 112) {w j f : ℕ} (r : Ran s (i + 1) (e % 16) (most e) w j f) where
+    plain-run : e < 16 → Ran s (i + 1) e 9 w j f
+    plain-run l = rw (digit-most l, digit-first l) at r
+
+    sign-run : 128 ≤ e → Ran s (i + 1) 0 10 w j f
+    sign-run l = rw (sign-most l, sign-first l) at r
+
+    pub number-long : f < 16 → Numbered s i e Misspelled
+    number-long h =
+        kinded (λ l. plain-long s i e g l o (n l) (plain-run l) h) (λ l u. packed-long s i e g l u (lead-most l u) r h)
+        (λ l. let z = sign-run l .full h in signed-long s i e g l lo (sign-run l) (λ x. omega arith) h)
+
+    pub number-alone : 128 ≤ e → j ≡ i + 1 → Numbered s i e Misspelled
+    number-alone l = sign-alone s i e g l lo (sign-run l)
+
+    pub number-token : 16 ≤ f → (128 ≤ e → j ≡ i + 1 → ⊥) → Numbered s i e (Read w j)
+    number-token h m =
+        kinded (λ l. plain-token s i e g l o (n l) (plain-run l) h) (λ l u. packed-token s i e g l u (lead-most l u) r h) (λ l. signed-token s i e g l lo (sign-run l) (m l) h)
+
+-- ---- which value it is
 
 pub dup-at : (e v : ℕ) → e / 16 ≡ 1 → (valueAt e v ≡ times v) × (below e ≡ 100000)
 dup-at e v z =

@@ -30,20 +30,20 @@ value-size e v =
     (λ _. by-case (λ t. size (pick t (valueOf (leadOf e) v) (own (leb 144 e) v)) ≡ v) (ltb e 96) (λ _. lead-size (leadOf e) v) (λ _. refl))
 
 -- the place after it: digits stand up to it, and none at it
-no-further : {s : List ℕ} {i e v j f u k g : ℕ} → NumberAt s i e v j f → NumberAt s i e u k g → j < k → ⊥
+no-further : {s : List ℕ} {i e v j u k : ℕ} → NumberAt s i e v j → NumberAt s i e u k → j < k → ⊥
 no-further {i = i} {j = j} x y l =
-    let a = x .token .low in let b : i + 1 ≤ j = omega arith in let d = y .digits j b l in let z = x .token .stands in let m = x .over in omega arith
+    let a = x .token .low in let b : i + 1 ≤ j = omega arith in let d = y .digits j b l in let m = x .over in omega arith
 
-number-same : {s : List ℕ} {i e v j f u k g : ℕ} → NumberAt s i e v j f → NumberAt s i e u k g → Read v j f ≡ Read u k g
-number-same {s} {i} {e} {v} {j} {f} {u} {k} {g} x y =
+number-same : {s : List ℕ} {i e v j u k : ℕ} → NumberAt s i e v j → NumberAt s i e u k → Read v j ≡ Read u k
+number-same {s} {i} {e} {v} {j} {u} {k} x y =
     let a : j < k → ⊥ = no-further x y in let b : k < j → ⊥ = no-further y x in let p : j ≡ k = omega (arith, a, b) in
     let z = sym (x .token .law) ∙ y .token .law in
     let q : valueAt e v ≡ valueAt e u = cc in
     let n : v ≡ u = sym (value-size e v) ∙ ap size q ∙ value-size e u in
-    rw (x .token .stands, y .token .stands, n, p) refl
+    rw (n, p) refl
 
 pub number-unique : (s : List ℕ) (i e : ℕ) (x y : NumberRead) → Numbered s i e x → Numbered s i e y → x ≡ y
-number-unique s i e (Read v j f) (Read u k g) a b = number-same a b
-number-unique s i e (Read v j f) Misspelled a b = let z = sym (a .token .law) ∙ b in zero-one cc
-number-unique s i e Misspelled (Read u k g) a b = let z = sym (b .token .law) ∙ a in zero-one cc
+number-unique s i e (Read v j) (Read u k) a b = number-same a b
+number-unique s i e (Read v j) Misspelled a b = let z = sym (a .token .law) ∙ b in zero-one cc
+number-unique s i e Misspelled (Read u k) a b = let z = sym (b .token .law) ∙ a in zero-one cc
 number-unique s i e Misspelled Misspelled a b = refl

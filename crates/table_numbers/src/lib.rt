@@ -1,29 +1,34 @@
 // The numbers of values (01, "Values"): a pseudo-digit, a sign, or a digit directly after a blank, and the digits that follow.
 ghost use mathlib.Core.Path.{_≡_};
 ghost use mathlib.Core.Logic.{_⊎_};
-ghost use Prim.Native.Nat.{_%_, _<_, _≤_};
+ghost use Prim.Native.Nat.{_<_, _≤_};
 ghost use Rattle.alphabet_spec.specs.Entries.{entryAt};
-ghost use Rattle.table_spec.specs.Values.{room};
-ghost use Rattle.table_numbers.specs.Numbers.{leadOf, Numbered};
-use alphabet::BLANK;
+ghost use Rattle.table_numbers.specs.Numbers.{«most», Numbered};
 use alphabet::DIF;
 use alphabet::KIND;
 use alphabet::PAST_DIGITS;
 use alphabet::PLUS;
 use alphabet::digits;
-use alphabet::entry_at;
+use alphabet::is_blank;
+use alphabet::is_digit;
+use alphabet::standing;
 
-// A number: itself, the place after it and the entry there; or one that is misspelled.
+// A number and the place after it; or one that is misspelled.
 pub enum NumberRead {
-    Read(u64, usize, u64),
+    Read(u64, usize),
     Misspelled,
 }
 
-// How many digits may follow the pseudo-digit with the entry e: ten with it, five for DUP, none after @ and %.
+// How many digits may follow the byte with the entry e that begins a value: ten with a digit or a pseudo-digit, ten after a sign, five for DUP, none after @ and %.
 fn further(e: u64) -> usize
-    requires { ⌜ (16 ≤ e) × (e < 96) ⌝ }
-    ensures { λ r. ⌜ r ≡ room (leadOf e) (e % 16) ⌝ }
+    ensures { λ r. ⌜ r ≡ most e ⌝ }
 {
+    if e >= PLUS {
+        return 10;
+    }
+    if e < PAST_DIGITS {
+        return 9;
+    }
     if e < DIF {
         return 4;
     }
@@ -33,61 +38,25 @@ fn further(e: u64) -> usize
     9
 }
 
-// A pseudo-digit and its digits, at a place whose entry is e.
-pub fn packed(s: &[u8], at: usize, e: u64) -> NumberRead
-    requires { ⌜ (e ≡ entryAt (now s) at) × (16 ≤ e) × (e < 96) ⌝ }
-    ensures { λ r. ⌜ Numbered (now (s .entry)) at e r ⌝ }
-{
-    let next = at + 1;
-    let r = digits(s, next, e % KIND, further(e));
-    if r.e < PAST_DIGITS {
-        return NumberRead::Misspelled;
-    }
-    NumberRead::Read(r.v, r.at, r.e)
-}
-
-// A sign and digits, at a place whose entry is e.
-fn signed_number(s: &[u8], at: usize, e: u64) -> NumberRead
-    requires { ⌜ (e ≡ entryAt (now s) at) × (128 ≤ e) × (e < 160) ⌝ }
-    ensures { λ r. ⌜ Numbered (now (s .entry)) at e r ⌝ }
-{
-    let next = at + 1;
-    let r = digits(s, next, 0, 10);
-    if r.at == next {
-        return NumberRead::Misspelled;
-    }
-    if r.e < PAST_DIGITS {
-        return NumberRead::Misspelled;
-    }
-    NumberRead::Read(r.v, r.at, r.e)
-}
-
-// Digits directly after a blank, at a place whose entry is the digit e.
-fn plain_number(s: &[u8], at: usize, e: u64) -> NumberRead
-    requires { ⌜ (e ≡ entryAt (now s) at) × (e < 16) × (0 < at) ⌝ }
-    ensures { λ r. ⌜ Numbered (now (s .entry)) at e r ⌝ }
-{
-    if entry_at(s, at - 1) != BLANK {
-        return NumberRead::Misspelled;
-    }
-    let next = at + 1;
-    let r = digits(s, next, e, 9);
-    if r.e < PAST_DIGITS {
-        return NumberRead::Misspelled;
-    }
-    NumberRead::Read(r.v, r.at, r.e)
-}
-
-// The number of the value at a place whose entry is e, below a point's, and neither `?` nor a blank.
+// The number of the value at a place whose entry is e, below a point's, and neither `?` nor a blank: a digit directly after a blank, a pseudo-digit or a sign, and the digits that follow.
 pub fn number(s: &[u8], at: usize, e: u64) -> NumberRead
     requires { ⌜ (e ≡ entryAt (now s) at) × (e < 160) × (0 < at) × (e < 96 ⊎ 128 ≤ e) ⌝ }
     ensures { λ r. ⌜ Numbered (now (s .entry)) at e r ⌝ }
 {
     if e < PAST_DIGITS {
-        return plain_number(s, at, e);
+        if !is_blank(standing(s, at - 1)) {
+            return NumberRead::Misspelled;
+        }
+    }
+    let next = at + 1;
+    let r = digits(s, next, e % KIND, further(e));
+    if is_digit(r.b) {
+        return NumberRead::Misspelled;
     }
     if e >= PLUS {
-        return signed_number(s, at, e);
+        if r.at == next {
+            return NumberRead::Misspelled;
+        }
     }
-    packed(s, at, e)
+    NumberRead::Read(r.v, r.at)
 }

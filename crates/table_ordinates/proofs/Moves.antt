@@ -2,6 +2,7 @@
 use mathlib.Core.Path.{_≡_, refl, sym, ap, _∙_, subst}
 use mathlib.Core.Bool.{Bool, true, false}
 use mathlib.Core.List.{List, _∷_}
+use mathlib.Core.Logic.{_⊎_, inl, inr}
 use Prim.Native.Nat.{ℕ, zero, suc, _+_, _-_, _*_, _≤_, _<_}
 use native.Mathlib.Omega.{arith}
 use native.Mathlib.Nat.{mul-suc, add-zero, mul-one, mul-le-mul}
@@ -124,16 +125,16 @@ pub reach-up : {m : Bool} (d q : ℕ) → m ≡ false → Reaches m d 1 q → q 
 reach-up {m} d q e h = let g = subst (λ (t : Bool). Reaches t d 1 q) e h in let y : d * 1 ≡ d = mul-one d in omega (arith, g)
 
 -- an ordinate less or more a difference, as the code tests it
-pub shift-down : {m : Bool} (v q : ℕ) → m ≡ true → q ≤ v → 0 ≡ shiftedTo m v q
+shift-down : {m : Bool} (v q : ℕ) → m ≡ true → q ≤ v → 0 ≡ shiftedTo m v q
 shift-down {m} v q e l = rw e (shift-zero true v q (out-low (q - v) (omega arith)))
 
-pub shift-less : {m : Bool} (v q : ℕ) → m ≡ true → q < 4294967296 → v < q → q - v ≡ shiftedTo m v q
+shift-less : {m : Bool} (v q : ℕ) → m ≡ true → q < 4294967296 → v < q → q - v ≡ shiftedTo m v q
 shift-less {m} v q e h l = rw e (shift-is true v q (in-range (q - v) (omega arith) (omega arith)))
 
-pub shift-over : {m : Bool} (v q : ℕ) → m ≡ false → 4294967296 ≤ q + v → 0 ≡ shiftedTo m v q
+shift-over : {m : Bool} (v q : ℕ) → m ≡ false → 4294967296 ≤ q + v → 0 ≡ shiftedTo m v q
 shift-over {m} v q e l = rw e (shift-zero false v q (out-high (q + v) l))
 
-pub shift-more : {m : Bool} (v q : ℕ) → m ≡ false → q + v < 4294967296 → q + v ≡ shiftedTo m v q
+shift-more : {m : Bool} (v q : ℕ) → m ≡ false → q + v < 4294967296 → q + v ≡ shiftedTo m v q
 shift-more {m} v q e l = rw e (sum-in (q + v) l)
   where
     sum-in : (u : ℕ) → u < 4294967296 → u ≡ pick (inRange u) u 0
@@ -152,3 +153,26 @@ own-small false v l = omega arith
 -- the size of the last of many steps holds in 64 bits
 pub far-small : (d n : ℕ) → d < 10000000000 → n < 100000 → d * n < 1000000000000000
 far-small d n h l = let z = mul-le-mul {n₁ = d} {m₁ = n} {n₂ = 9999999999} {m₂ = 99999} (omega arith) (omega arith) in omega arith
+
+-- the raised ordinate and a difference, by the difference's sign
+abbrev pub Raised : Bool → ℕ → ℕ → ℕ → Type 0
+Raised m v q u = ((m ≡ true) × (u ≡ 1000000000000000 + q - v)) ⊎ ((m ≡ false) × (u ≡ 1000000000000000 + q + v))
+
+module _ {m : Bool} (v q u : ℕ) (h : q < 4294967296) (b : v < 1000000000000000) where
+  pub raised-under : Raised m v q u → u < 1000000000000000 → 0 ≡ shiftedTo m v q
+  raised-under (inl x) l = let e = x .1 in shift-down v q (x .0) (omega arith)
+  raised-under (inr x) l = let e = x .1 in absurd (omega arith)
+
+  pub raised-over : Raised m v q u → 4294967296 ≤ u - 1000000000000000 → 0 ≡ shiftedTo m v q
+  raised-over (inl x) l = let e = x .1 in absurd (omega arith)
+  raised-over (inr x) l = let e = x .1 in shift-over v q (x .0) (omega arith)
+
+  less : u ≡ 1000000000000000 + q - v → m ≡ true → 1000000000000000 ≤ u → u - 1000000000000000 ≡ shiftedTo m v q
+  less e t l =
+      let z : u - 1000000000000000 ≡ q - v = omega arith in
+      by-case (λ x. ltb v q ≡ x → u - 1000000000000000 ≡ shiftedTo m v q) (ltb v q) (λ _ x. z ∙ shift-less v q t h (ltb-true v q x))
+      (λ _ x. let y = ltb-false v q x in let w : u - 1000000000000000 ≡ 0 = omega arith in w ∙ shift-down v q t y) refl
+
+  pub raised-in : Raised m v q u → 1000000000000000 ≤ u → u - 1000000000000000 < 4294967296 → u - 1000000000000000 ≡ shiftedTo m v q
+  raised-in (inl x) l k = less (x .1) (x .0) l
+  raised-in (inr x) l k = let e = x .1 in let z : u - 1000000000000000 ≡ q + v = omega arith in z ∙ shift-more v q (x .0) (omega arith)

@@ -21,22 +21,25 @@ pub fn moved_by(q: u64, minus: bool, v: u64) -> u64
     q + v
 }
 
-// An ordinate and a difference, or 0 if that is no ordinate.
+// So much higher an ordinate stands while a difference moves it: no difference is larger.
+const RAISED: u64 = 1000000000000000;
+
+// An ordinate and a difference, or 0 if that is no ordinate. Both sums are made, and the sign picks one: no processor can foresee a jump on it.
 pub fn shifted(q: u64, minus: bool, v: u64) -> u64
     requires { ⌜ (q < 4294967296) × (v < 1000000000000000) ⌝ }
     ensures { λ r. ⌜ r ≡ shiftedTo minus v q ⌝ }
 {
-    if minus {
-        if v >= q {
-            return 0;
-        }
-        return q - v;
-    }
-    let u = q + v;
-    if u >= PAST_ORDINATES {
+    let up = RAISED + q + v;
+    let down = RAISED + q - v;
+    let u = if minus { down } else { up };
+    if u < RAISED {
         return 0;
     }
-    u
+    let w = u - RAISED;
+    if w >= PAST_ORDINATES {
+        return 0;
+    }
+    w
 }
 
 // Stores an ordinate, if there is room for it.

@@ -39,7 +39,7 @@ module _ (fr : Frame) (s : List ℕ) (r : Row) (at : ℕ) where
   unfolding judge
   line-four h out out' p w b = rw h refl
 
-  module _ {h u j f : ℕ} (t : Topped s at h u j f) where
+  module _ {h u j : ℕ} (t : Topped s at h u j) where
     pub bare-here : bare (here s j) ≡ bare (seen s j (inner false))
     bare-here = rw (t .clear) refl
 

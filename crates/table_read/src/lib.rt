@@ -71,7 +71,7 @@ fn read_line(s: &[u8], fr: Frame, out: &mut [i32], r: Row, at: usize, e: u64) ->
     let q = r.q;
     match head(s, at, e) {
         HeadRead::NoHead => LineRead::Refused(4, at),
-        HeadRead::Abscissa(h, unit, j, f) => {
+        HeadRead::Abscissa(h, unit, j) => {
             if !fr.passes(h, unit, index_of(dif, k)) {
                 return LineRead::Refused(6, at);
             }
@@ -80,7 +80,7 @@ fn read_line(s: &[u8], fr: Frame, out: &mut [i32], r: Row, at: usize, e: u64) ->
             }
             let want = wanted(dif, q);
             let n = fr.points;
-            values(s, n, out, j, f, k, want)
+            values(s, n, out, j, k, want)
         }
     }
 }

@@ -31,7 +31,7 @@ stored-then (u ∷ us) vs out k = rw (add-suc k (length us), ← suc-add k (leng
 
 -- ---- a value that was read
 
-module _ (N : ℕ) (s : List ℕ) {at j f : ℕ} {x : Value} (t : Token s at x j f) (k p : ℕ) (w : Spot) where
+module _ (N : ℕ) (s : List ℕ) {at j : ℕ} {x : Value} (t : Token s at x j) (k p : ℕ) (w : Spot) where
   -- it is refused by what it says
   pub value-not : (n : ℕ) → says w p x ≡ refuses n → line-says N (here s at) k p w ≡ broken [] n at
   unfolding line-says taken
@@ -58,7 +58,7 @@ module _ (N : ℕ) (s : List ℕ) {at j f : ℕ} {x : Value} (t : Token s at x j
       }
 
 -- the state after it
-pub value-stepped : {N : ℕ} {s : List ℕ} {c r : Cur} {out out' : List ℤ} {j f : ℕ} {x : Value} → Token s (c .at) x j f → r .at ≡ j → Sits N s r
+pub value-stepped : {N : ℕ} {s : List ℕ} {c r : Cur} {out out' : List ℤ} {j : ℕ} {x : Value} → Token s (c .at) x j → r .at ≡ j → Sits N s r
     → Reads c (λ p w. Gone N s (c .at) (c .k) p w out out' r) → Stepped N s c out out' (step.Go r)
 value-stepped {s = s} {c} t e h f =
     let l = t .low in

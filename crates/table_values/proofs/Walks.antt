@@ -21,9 +21,9 @@ use Rattle.table_values.proofs.Meanings.{dif-adds}
 -- ---- states
 
 -- the state after a value
-pub sits-next : {N : ℕ} {s : List ℕ} {i j f : ℕ} {x : Value} → Token s i x j f → (k q want d form : ℕ) → q < 4294967296 → d < 10000000000 → k ≤ N
-    → Sits N s (record { at = j; e = f; k = k; q = q; want = want; step = d; form = form })
-sits-next t k q want d form a b l = let z = t .low in record { some = omega arith; high = t .high; stands = t .stands; small = a; size = b; few = l }
+pub sits-next : {N : ℕ} {s : List ℕ} {i j : ℕ} {x : Value} → Token s i x j → (k q want d form : ℕ) → q < 4294967296 → d < 10000000000 → k ≤ N
+    → Sits N s (record { at = j; k = k; q = q; want = want; step = d; form = form })
+sits-next t k q want d form a b l = let z = t .low in record { some = omega arith; high = t .high; small = a; size = b; few = l }
 
 -- an ordinate is asked for only before a line's first value
 pub no-want : {q want d form p : ℕ} {w : Spot} → Holds q want d form p w → 0 < q → want ≡ 0
@@ -37,18 +37,18 @@ pub went-none : {N : ℕ} {s : List ℕ} (c : Cur) (out : List ℤ) → Sits N s
 went-none c out h = record { low = omega arith; clear = λ k a b. absurd (omega arith); sits = h; law = λ p w g. gone-same _ _ _ p w out c g refl }
 
 -- one difference more
-pub went-on : {N : ℕ} {s : List ℕ} {c : Cur} (b : Cur) {out mid : List ℤ} (out' : List ℤ) {v j f : ℕ} (u : ℕ) → Went N s c b out mid → 0 < b .q → 32 ≤ b .e → b .e < 64
-    → v < 10000000000 → Token s (b .at) (by (leb 48 (b .e)) v) j f → b .k < N → u ≡ shiftedTo (leb 48 (b .e)) v (b .q) → (u ≡ 0 → ⊥) → out' ≡ set mid (b .k) (entry-for u)
-    → Went N s c (record { at = j; e = f; k = b .k + 1; q = u; want = b .want; step = v; form = b .e }) out out'
-went-on {N} {s} {c} b {out} {mid} out' {v} {j} {f} u g o l h vs t k e n m =
-    let z = shift-some (leb 48 (b .e)) v (b .q) u e n in
+pub went-on : {N : ℕ} {s : List ℕ} {c : Cur} (b : Cur) {out mid : List ℤ} (out' : List ℤ) {v j : ℕ} (e u : ℕ) → Went N s c b out mid → 0 < b .q → 32 ≤ e → e < 64
+    → v < 10000000000 → Token s (b .at) (by (leb 48 e) v) j → b .k < N → u ≡ shiftedTo (leb 48 e) v (b .q) → (u ≡ 0 → ⊥) → out' ≡ set mid (b .k) (entry-for u)
+    → Went N s c (record { at = j; k = b .k + 1; q = u; want = b .want; step = v; form = e }) out out'
+went-on {N} {s} {c} b {out} {mid} out' {v} {j} e u g o l h vs t k d n m =
+    let z = shift-some (leb 48 e) v (b .q) u d n in
     let low = g .low in let tl = t .low in
     record {
       low = omega arith;
       clear = clear-then s (g .clear) (t .clear);
-      sits = sits-next t (b .k + 1) u (b .want) v (b .e) (z .high) vs (omega arith);
+      sits = sits-next t (b .k + 1) u (b .want) v e (z .high) vs (omega arith);
       law = λ p w x. gone-gone N s (c .at) (c .k) p w out mid b (g .law p w x) out' _
-          (λ y i hold. value-adds N s t (b .k) y i (u ∷ []) (By (leb 48 (b .e)) v) mid out' _ (dif-adds (leb 48 (b .e)) v u hold (λ r. omega arith) z) (omega arith) refl refl
+          (λ y i hold. value-adds N s t (b .k) y i (u ∷ []) (By (leb 48 e) v) mid out' _ (dif-adds (leb 48 e) v u hold (λ r. omega arith) z) (omega arith) refl refl
           (rw (no-want hold o) (going (dif l h (z .low)))) m);
     }
 
@@ -60,13 +60,13 @@ went-went {N} {s} {c} {b} {r} {out} {mid} {out'} g h =
     record { low = omega arith; clear = clear-then s (g .clear) (h .clear); sits = h .sits; law = λ p w z. gone-gone N s (c .at) (c .k) p w out mid b (g .law p w z) out' r (h .law) }
 
 -- the state at a line's first value
-abbrev pub first-state : ℕ → ℕ → ℕ → ℕ → Cur
-first-state at e k want = record { at = at; e = e; k = k; q = 0; want = want; step = 0; form = 0 }
+abbrev pub first-state : ℕ → ℕ → ℕ → Cur
+first-state at k want = record { at = at; k = k; q = 0; want = want; step = 0; form = 0 }
 
-module _ {N : ℕ} {s : List ℕ} {at e k want : ℕ} {b : Cur} {out mid : List ℤ} (out' : List ℤ) (g : Went N s (first-state at e k want) b out mid) where
+module _ {N : ℕ} {s : List ℕ} {at k want : ℕ} {b : Cur} {out mid : List ℤ} (out' : List ℤ) (g : Went N s (first-state at k want) b out mid) where
   pub went-line : {j : ℕ} → Stepped N s b mid out' (step.Line j) → Lined N s at k want out out' (linewise.Next (rowAfter b j))
   went-line {j} h =
-      let x = g .low in let y = h .low in let z = g .sits in let l = h .ends in let q = z .stands in
+      let x = g .low in let y = h .low in let z = g .sits in let l = h .ends in
       record {
         low = omega arith;
         high = h .high;

@@ -9,6 +9,7 @@ use lib.IntN.{ℤ}
 use lib.ListN.{length}
 use lib.Seq.{sets}
 use Rattle.terms.specs.Logic.{pick}
+use Rattle.alphabet_spec.specs.Digits.{within}
 use Rattle.alphabet_spec.specs.Entries.{entryAt}
 use Rattle.table_spec.specs.Frame.{entry-for}
 use Rattle.table_spec.specs.Values.{times, Form, Own, Gap, By, Dup, Spot, first, after}
@@ -27,13 +28,24 @@ use Rattle.table_values.specs.declared.LineRead.the-variants as linewise
 
 -- ---- within a line
 
--- how the code keeps the form of the value before, whose ordinate is q: 0 and 1 after a DUP; 2 for one of its own; the entry of its first byte and its size for a difference
+-- how the code keeps the form of the value before, whose ordinate is q: 0 and 1 after a DUP; 2 for one of its own; 32 to 63 and its size for a difference, from 48 on for one that is minus
 pub data Codes : ℕ → ℕ → ℕ → Form → Type 0 where
   own : {q d : ℕ} → Codes 2 d q Own
   gap : {q d : ℕ} → Codes 2 d q Gap
   dif : {e q d : ℕ} → 32 ≤ e → e < 64 → 0 < q → Codes e d q (By (leb 48 e) d)
   dup-not : {q d : ℕ} → Codes 0 d q (Dup false)
   dup-dif : {q d : ℕ} → 0 < q → Codes 1 d q (Dup true)
+
+-- does a difference other than 0 begin with the byte b?
+abbrev pub lettered : ℕ → Bool
+lettered b = pick (within 74 9 b) true (within 106 9 b)
+
+-- how it keeps the form of a difference that begins with the byte b, and the form after a run of differences, the last of which begins with b (0: there was none)
+abbrev pub difFormOf : ℕ → ℕ
+difFormOf b = pick (leb 106 b) 48 32
+
+abbrev pub formed : ℕ → ℕ → ℕ
+formed form b = pick (eqb b 0) form (difFormOf b)
 
 -- is a form, as the code keeps it, DIF?
 abbrev pub difForm : ℕ → Bool
@@ -49,27 +61,26 @@ pub data Holds : ℕ → ℕ → ℕ → ℕ → ℕ → Spot → Type 0 where
 pub record Sits (N : ℕ) (s : List ℕ) (c : Cur) : Type 0 where
   pub some : 0 < c .at
   pub high : c .at ≤ length s
-  pub stands : c .e ≡ entryAt s (c .at)
   pub small : c .q < 4294967296
   pub size : c .step < 10000000000
   pub few : c .k ≤ N
 
--- a value with the number v stands where the state is, within a table of at most 65,536 points: its entry is below a point's, and neither a missing mark's nor a blank's
-pub record Valued (N : ℕ) (s : List ℕ) (c : Cur) (v j f : ℕ) : Type 0 where
+-- a value that begins with the entry e and has the number v stands where the state is, within a table of at most 65,536 points: the entry is below a point's, and neither a missing mark's nor a blank's
+pub record Valued (N : ℕ) (s : List ℕ) (c : Cur) (e v j : ℕ) : Type 0 where
   pub sits : Sits N s c
   pub most : N ≤ 65536
-  pub before-point : c .e < 160
-  pub kind : c .e < 96 ⊎ 128 ≤ c .e
-  pub small : v < below (c .e)
-  pub token : Token s (c .at) (valueAt (c .e) v) j f
+  pub before-point : e < 160
+  pub kind : e < 96 ⊎ 128 ≤ e
+  pub small : v < below e
+  pub token : Token s (c .at) (valueAt e v) j
 
 -- a DUP that adds n copies stands where the state is, within a table of at most 65,536 points
-pub record Again (N : ℕ) (s : List ℕ) (c : Cur) (n j f : ℕ) : Type 0 where
+pub record Again (N : ℕ) (s : List ℕ) (c : Cur) (n j : ℕ) : Type 0 where
   pub sits : Sits N s c
   pub most : N ≤ 65536
   pub some : 1 ≤ n
   pub small : n < 100000
-  pub token : Token s (c .at) (times (n + 1)) j f
+  pub token : Token s (c .at) (times (n + 1)) j
 
 -- what holds for each ordinate before and spot that the state keeps
 abbrev pub Reads : Cur → (ℕ → Spot → Type 0) → Type 0
@@ -97,7 +108,7 @@ pub record AtEnd (s : List ℕ) (c : Cur) (j : ℕ) (out out' : List ℤ) : Type
   pub low : c .at ≤ j
   pub high : j ≤ length s
   pub same : out' ≡ out
-  pub ends : 160 ≤ c .e
+  pub ends : 160 ≤ entryAt s (c .at)
   pub next : endAt s (c .at) ≡ ending.Next j
   pub law : here s (c .at) ≡ line (seen s j fresh)
 
@@ -109,12 +120,11 @@ Stepped N s c out out' (step.Refused n) = (out' ≡ out) × Reads c (λ p w. lin
 
 -- ---- a line
 
--- a line's values may be read from the place `at` on, with the entry e there and k points given, within a table of at most 65,536 points
-pub record FirstValue (N : ℕ) (s : List ℕ) (at e k : ℕ) : Type 0 where
+-- a line's values may be read from the place `at` on, with k points given, within a table of at most 65,536 points
+pub record FirstValue (N : ℕ) (s : List ℕ) (at k : ℕ) : Type 0 where
   pub most : N ≤ 65536
   pub some : 0 < at
   pub high : at ≤ length s
-  pub stands : e ≡ entryAt s at
   pub few : k ≤ N
 
 -- the line that goes on at the place i ends at `stop`, the first place with a line's end, a comment or a byte that cannot stand there, and the next one begins at j

@@ -2,33 +2,35 @@
 ghost use mathlib.Core.Path.{_≡_};
 ghost use Prim.Native.Nat.{_<_, _≤_};
 ghost use lib.Dec.{leb};
+ghost use Rattle.alphabet_spec.specs.Entries.{entryAt};
 ghost use Rattle.table_spec.specs.Values.{own, by, times};
 ghost use Rattle.table_numbers.specs.Numbers.{Token};
-ghost use Rattle.table_values.specs.States.{difForm, rowAfter, Sits, Valued, Again, Went, Stepped, FirstValue, Lined};
-use alphabet::BLANK;
+ghost use Rattle.table_values.specs.States.{«lettered», formed, difForm, rowAfter, Sits, Valued, Again, Went, Stepped, FirstValue, Lined};
 use alphabet::DIF;
 use alphabet::DIF_MINUS;
 use alphabet::KIND;
 use alphabet::MISSING;
 use alphabet::POINT;
+use alphabet::digits;
 use alphabet::entry_at;
+use alphabet::is_blank;
+use alphabet::is_digit;
+use alphabet::standing;
 use signed::ZERO_ORDINATE;
 use table_lines::Ending;
 use table_lines::blanks;
 use table_lines::line_end;
 use table_numbers::NumberRead;
 use table_numbers::number;
-use table_numbers::packed;
 use table_ordinates::moved_by;
 use table_ordinates::put;
 use table_ordinates::repeat;
 use table_ordinates::shifted;
 
-// Within a line: the place and the entry there; how many points; the ordinate before (0: none on this line, or missing); the ordinate that a check line's first value must equal (0: not
-// asked); the size of the last difference; and the form of the value before: 0 none, or a DUP that is not DIF; 1 a DUP that is; 2 a value of its own; from DIF on a difference, its first byte's entry.
+// Within a line: the place; how many points; the ordinate before (0: none on this line, or missing); the ordinate that a check line's first value must equal (0: not
+// asked); the size of the last difference; and the form of the value before: 0 none, or a DUP that is not DIF; 1 a DUP that is; 2 a value of its own; from DIF on a difference, and from DIF_MINUS on one that is minus.
 struct Cur {
     at: usize,
-    e: u64,
     k: usize,
     q: u64,
     want: u64,
@@ -57,48 +59,91 @@ pub enum LineRead {
     Refused(u64, usize),
 }
 
+// The byte of j: from it on the letters are minus.
+const LOWER: u64 = 106;
+
 // ---- one value
 
-// THE HOT LOOP. As many differences as stand here one after the other and are right. It stops before anything else.
+// Does a difference other than 0 begin with the byte b: J to R, or j to r?
+fn lettered(b: u64) -> bool
+    ensures { λ r. ⌜ r ≡ lettered b ⌝ }
+{
+    if b >= 74 {
+        if b < 83 {
+            return true;
+        }
+    }
+    if b < LOWER {
+        return false;
+    }
+    b < 115
+}
+
+// The form after a run of differences: that before it, if there was none (0), or that of a difference that begins with the byte `last`.
+fn form_after(form: u64, last: u64) -> u64
+    ensures { λ r. ⌜ r ≡ formed form last ⌝ }
+{
+    if last == 0 {
+        return form;
+    }
+    if last >= LOWER {
+        return DIF_MINUS;
+    }
+    DIF
+}
+
+// THE HOT LOOP. As many differences as stand here one after the other and are right. It asks for nothing but a difference and its digits, and stops before anything else.
 fn differences(s: &[u8], points: usize, out: &mut [i32], c: Cur) -> Cur
     requires { ⌜ Sits points (now s) c ⌝ }
     ensures { λ r. ⌜ Went points (now (s .entry)) c r (now (out .entry)) (now (out .exit)) ⌝ }
 {
     let mut at = c.at;
-    let mut e = c.e;
     let mut k = c.k;
     let mut q = c.q;
     let mut step = c.step;
-    let mut form = c.form;
+    let mut last: u64 = 0;
     if q == 0 {
         return c;
     }
-    while e / DIF == 1 {
-        if points <= k {
-            break;
-        }
-        match packed(s, at, e) {
-            NumberRead::Misspelled => {
+    let mut b = standing(s, at);
+    while k < points {
+        if lettered(b) {
+            let next = at + 1;
+            let r = digits(s, next, (b + 7) % KIND, 9);
+            if is_digit(r.b) {
                 break;
             }
-            NumberRead::Read(v, j, f) => {
-                let u = shifted(q, e >= DIF_MINUS, v);
-                if u == 0 {
-                    break;
-                }
-                put(out, k, u);
-                k += 1;
-                q = u;
-                step = v;
-                form = e;
-                at = j;
-                e = f;
+            let u = shifted(q, b >= LOWER, r.v);
+            if u == 0 {
+                break;
             }
+            put(out, k, u);
+            k += 1;
+            q = u;
+            step = r.v;
+            at = r.at;
+            last = b;
+            b = r.b;
+            continue;
         }
+        if b != 37 {
+            break;
+        }
+        let next = at + 1;
+        let f = standing(s, next);
+        if is_digit(f) {
+            break;
+        }
+        put(out, k, q);
+        k += 1;
+        step = 0;
+        at = next;
+        last = b;
+        b = f;
     }
+    let form = form_after(c.form, last);
     Cur {
         at,
-        e,
         k,
         q,
         want: c.want,
@@ -109,7 +154,7 @@ fn differences(s: &[u8], points: usize, out: &mut [i32], c: Cur) -> Cur
 
 // A missing ordinate.
 fn missing(s: &[u8], points: usize, out: &mut [i32], c: Cur) -> Step
-    requires { ⌜ Sits points (now s) c × (c .e ≡ 96) ⌝ }
+    requires { ⌜ Sits points (now s) c × (entryAt (now s) (c .at) ≡ 96) ⌝ }
     ensures { λ r. ⌜ Stepped points (now (s .entry)) c (now (out .entry)) (now (out .exit)) r ⌝ }
 {
     let at = c.at;
@@ -123,10 +168,8 @@ fn missing(s: &[u8], points: usize, out: &mut [i32], c: Cur) -> Step
         return Step::Refused(11);
     }
     put(out, k, 0);
-    let f = entry_at(s, next);
     Step::Go(Cur {
         at: next,
-        e: f,
         k: k + 1,
         q: 0,
         want: 0,
@@ -144,9 +187,8 @@ fn own_value(
     minus: bool,
     v: u64,
     j: usize,
-    f: u64,
 ) -> Step
-    requires { ⌜ Sits points (now s) c × Token (now s) (c .at) (own minus v) j f ⌝ }
+    requires { ⌜ Sits points (now s) c × Token (now s) (c .at) (own minus v) j ⌝ }
     ensures { λ r. ⌜ Stepped points (now (s .entry)) c (now (out .entry)) (now (out .exit)) r ⌝ }
 {
     let k = c.k;
@@ -161,7 +203,6 @@ fn own_value(
         }
         return Step::Go(Cur {
             at: j,
-            e: f,
             k,
             q: u,
             want: 0,
@@ -175,7 +216,6 @@ fn own_value(
     put(out, k, u);
     Step::Go(Cur {
         at: j,
-        e: f,
         k: k + 1,
         q: u,
         want: 0,
@@ -184,13 +224,12 @@ fn own_value(
     })
 }
 
-// A difference.
-fn difference(s: &[u8], points: usize, out: &mut [i32], c: Cur, v: u64, j: usize, f: u64) -> Step
-    requires { ⌜ Sits points (now s) c × (v < 10000000000) × (32 ≤ c .e) × (c .e < 64) × Token (now s) (c .at) (by (leb 48 (c .e)) v) j f ⌝ }
+// A difference that begins with the entry e.
+fn difference(s: &[u8], points: usize, out: &mut [i32], c: Cur, e: u64, v: u64, j: usize) -> Step
+    requires { ⌜ Sits points (now s) c × (v < 10000000000) × (32 ≤ e) × (e < 64) × Token (now s) (c .at) (by (leb 48 e) v) j ⌝ }
     ensures { λ r. ⌜ Stepped points (now (s .entry)) c (now (out .entry)) (now (out .exit)) r ⌝ }
 {
     let k = c.k;
-    let e = c.e;
     let q = c.q;
     if q == 0 {
         return Step::Refused(8);
@@ -205,7 +244,6 @@ fn difference(s: &[u8], points: usize, out: &mut [i32], c: Cur, v: u64, j: usize
     put(out, k, u);
     Step::Go(Cur {
         at: j,
-        e: f,
         k: k + 1,
         q: u,
         want: 0,
@@ -215,8 +253,8 @@ fn difference(s: &[u8], points: usize, out: &mut [i32], c: Cur, v: u64, j: usize
 }
 
 // A DUP of a value of its own, or of a missing one: n further copies of the ordinate.
-fn same_again(s: &[u8], points: usize, out: &mut [i32], c: Cur, n: usize, j: usize, f: u64) -> Step
-    requires { ⌜ Again points (now s) c n j f × (2 ≤ c .form) × (c .form < 32) ⌝ }
+fn same_again(s: &[u8], points: usize, out: &mut [i32], c: Cur, n: usize, j: usize) -> Step
+    requires { ⌜ Again points (now s) c n j × (2 ≤ c .form) × (c .form < 32) ⌝ }
     ensures { λ r. ⌜ Stepped points (now (s .entry)) c (now (out .entry)) (now (out .exit)) r ⌝ }
 {
     let k = c.k;
@@ -228,7 +266,6 @@ fn same_again(s: &[u8], points: usize, out: &mut [i32], c: Cur, n: usize, j: usi
     repeat(out, k, q, false, 0, n);
     Step::Go(Cur {
         at: j,
-        e: f,
         k: end,
         q,
         want: 0,
@@ -238,8 +275,8 @@ fn same_again(s: &[u8], points: usize, out: &mut [i32], c: Cur, n: usize, j: usi
 }
 
 // A DUP of a difference: n further steps.
-fn steps_again(s: &[u8], points: usize, out: &mut [i32], c: Cur, n: usize, j: usize, f: u64) -> Step
-    requires { ⌜ Again points (now s) c n j f × (32 ≤ c .form) ⌝ }
+fn steps_again(s: &[u8], points: usize, out: &mut [i32], c: Cur, n: usize, j: usize) -> Step
+    requires { ⌜ Again points (now s) c n j × (32 ≤ c .form) ⌝ }
     ensures { λ r. ⌜ Stepped points (now (s .entry)) c (now (out .entry)) (now (out .exit)) r ⌝ }
 {
     let k = c.k;
@@ -259,7 +296,6 @@ fn steps_again(s: &[u8], points: usize, out: &mut [i32], c: Cur, n: usize, j: us
     repeat(out, k, q, minus, d, n);
     Step::Go(Cur {
         at: j,
-        e: f,
         k: end,
         q: u,
         want: 0,
@@ -269,8 +305,8 @@ fn steps_again(s: &[u8], points: usize, out: &mut [i32], c: Cur, n: usize, j: us
 }
 
 // A DUP with the count v (01, "c is at least 2").
-fn dup_value(s: &[u8], points: usize, out: &mut [i32], c: Cur, v: u64, j: usize, f: u64) -> Step
-    requires { ⌜ Sits points (now s) c × (points ≤ 65536) × (v < 100000) × Token (now s) (c .at) (times v) j f ⌝ }
+fn dup_value(s: &[u8], points: usize, out: &mut [i32], c: Cur, v: u64, j: usize) -> Step
+    requires { ⌜ Sits points (now s) c × (points ≤ 65536) × (v < 100000) × Token (now s) (c .at) (times v) j ⌝ }
     ensures { λ r. ⌜ Stepped points (now (s .entry)) c (now (out .entry)) (now (out .exit)) r ⌝ }
 {
     let form = c.form;
@@ -282,25 +318,24 @@ fn dup_value(s: &[u8], points: usize, out: &mut [i32], c: Cur, v: u64, j: usize,
     }
     let n = (v - 1) as usize;
     if form < DIF {
-        return same_again(s, points, out, c, n, j, f);
+        return same_again(s, points, out, c, n, j);
     }
-    steps_again(s, points, out, c, n, j, f)
+    steps_again(s, points, out, c, n, j)
 }
 
-// The value at the place, whose number is v.
-fn value(s: &[u8], points: usize, out: &mut [i32], c: Cur, v: u64, j: usize, f: u64) -> Step
-    requires { ⌜ Valued points (now s) c v j f ⌝ }
+// The value at the place, which begins with the entry e and has the number v.
+fn value(s: &[u8], points: usize, out: &mut [i32], c: Cur, e: u64, v: u64, j: usize) -> Step
+    requires { ⌜ Valued points (now s) c e v j ⌝ }
     ensures { λ r. ⌜ Stepped points (now (s .entry)) c (now (out .entry)) (now (out .exit)) r ⌝ }
 {
-    let e = c.e;
     let kind = e / KIND;
     if kind == 1 {
-        return dup_value(s, points, out, c, v, j, f);
+        return dup_value(s, points, out, c, v, j);
     }
     if e / DIF == 1 {
-        return difference(s, points, out, c, v, j, f);
+        return difference(s, points, out, c, e, v, j);
     }
-    own_value(s, points, out, c, kind % 4 == 1, v, j, f)
+    own_value(s, points, out, c, kind % 4 == 1, v, j)
 }
 
 // Whatever stands next on a line.
@@ -309,19 +344,10 @@ fn token(s: &[u8], points: usize, out: &mut [i32], c: Cur) -> Step
     ensures { λ r. ⌜ Stepped points (now (s .entry)) c (now (out .entry)) (now (out .exit)) r ⌝ }
 {
     let at = c.at;
-    let e = c.e;
-    if e >= POINT {
-        return match line_end(s, at, e) {
-            Ending::Next(j) => Step::Line(j),
-            Ending::Bad => Step::Refused(3),
-        };
-    }
-    if e == BLANK {
+    if is_blank(standing(s, at)) {
         let j = blanks(s, at);
-        let f = entry_at(s, j);
         return Step::Go(Cur {
             at: j,
-            e: f,
             k: c.k,
             q: c.q,
             want: c.want,
@@ -329,12 +355,19 @@ fn token(s: &[u8], points: usize, out: &mut [i32], c: Cur) -> Step
             form: c.form,
         });
     }
+    let e = entry_at(s, at);
+    if e >= POINT {
+        return match line_end(s, at, e) {
+            Ending::Next(j) => Step::Line(j),
+            Ending::Bad => Step::Refused(3),
+        };
+    }
     if e == MISSING {
         return missing(s, points, out, c);
     }
     match number(s, at, e) {
         NumberRead::Misspelled => Step::Refused(5),
-        NumberRead::Read(v, j, f) => value(s, points, out, c, v, j, f),
+        NumberRead::Read(v, j) => value(s, points, out, c, e, v, j),
     }
 }
 
@@ -361,22 +394,13 @@ fn row_after(c: Cur, at: usize) -> Row
     }
 }
 
-// The values of a line, from a place with the entry e on, with k points given; the first must equal `want`, if that is not 0.
-pub fn values(
-    s: &[u8],
-    points: usize,
-    out: &mut [i32],
-    at: usize,
-    e: u64,
-    k: usize,
-    want: u64,
-) -> LineRead
-    requires { ⌜ FirstValue points (now s) at e k ⌝ }
+// The values of a line, from a place on, with k points given; the first must equal `want`, if that is not 0.
+pub fn values(s: &[u8], points: usize, out: &mut [i32], at: usize, k: usize, want: u64) -> LineRead
+    requires { ⌜ FirstValue points (now s) at k ⌝ }
     ensures { λ r. ⌜ Lined points (now (s .entry)) at k want (now (out .entry)) (now (out .exit)) r ⌝ }
 {
     let mut c = Cur {
         at,
-        e,
         k,
         q: 0,
         want,

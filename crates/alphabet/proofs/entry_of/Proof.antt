@@ -1,4 +1,4 @@
--- `alphabet::entry_of` meets its contract: the entry of a byte, range by range.
+-- `alphabet::entry_of` meets its contract: the entry of a byte, range by range; each byte of a range is tested by computing.
 use mathlib.Core.Path.{refl, ap, _∙_}
 use Prim.Native.Nat.{_-_, _<_}
 use native.Mathlib.Omega.{arith}
@@ -21,11 +21,17 @@ either-requires-3 c κs = search needs
 either-requires-4 : tie.Need-either-requires-4
 either-requires-4 c κs = search needs
 
+either-requires-5 : tie.Need-either-requires-5
+either-requires-5 c κs = search needs
+
 wide-requires : tie.Need-wide-requires
 wide-requires c κs = search needs
 
 sub-result : tie.Need-sub-result
 sub-result c = search needs
+
+either-requires-6 : tie.Need-either-requires-6
+either-requires-6 c κs = search needs
 
 wide-requires-2 : tie.Need-wide-requires-2
 wide-requires-2 c κs = search needs
@@ -60,31 +66,31 @@ returns c = rw (c .match .keys1) refl
 
 returns-2 : tie.Need-returns-2
 unfolding entry kind
-returns-2 c = rw (c .match .keys2) refl
+returns-2 c = c .either .ensures ∙ ruled 0 11 (λ x. either x 9 112 10 176) tt (c .before .before .before .before .args .b) (omega arith) (omega arith)
 
 returns-3 : tie.Need-returns-3
 unfolding entry kind
-returns-3 c = rw (c .match .keys3) refl
+returns-3 c = c .either2 .ensures ∙ ruled 11 22 (λ x. either x 13 192 32 112) tt (c .before .before .before .before .before .args .b) (omega arith) (omega arith)
 
 returns-4 : tie.Need-returns-4
 unfolding entry kind
-returns-4 c = c .either .ensures ∙ ruled 0 11 (λ x. either x 9 112 10 176) tt (c .before .before .before .before .args .b) (omega arith) (omega arith)
+returns-4 c = c .either3 .ensures ∙ ruled 33 5 (λ x. either x 36 208 37 32) tt (c .before .before .before .before .before .before .args .b) (omega arith) (omega arith)
 
 returns-5 : tie.Need-returns-5
 unfolding entry kind
-returns-5 c = c .either2 .ensures ∙ ruled 11 22 (λ x. either x 13 192 32 112) tt (c .before .before .before .before .before .args .b) (omega arith) (omega arith)
+returns-5 c = c .either4 .ensures ∙ ruled 38 8 (λ x. either x 43 128 45 144) tt (c .before .before .before .before .before .before .before .args .b) (omega arith) (omega arith)
 
 returns-6 : tie.Need-returns-6
 unfolding entry kind
-returns-6 c = c .either3 .ensures ∙ ruled 33 5 (λ x. either x 36 208 37 32) tt (c .before .before .before .before .before .before .args .b) (omega arith) (omega arith)
+returns-6 c = c .either5 .ensures ∙ ruled 46 2 (λ x. either x 46 160 63 96) tt (c .before .before .before .before .before .before .before .before .args .b) (omega arith) (omega arith)
 
 returns-7 : tie.Need-returns-7
 unfolding entry kind
-returns-7 c = c .either4 .ensures ∙ ruled 38 8 (λ x. either x 43 128 45 144) tt (c .before .before .before .before .before .before .before .args .b) (omega arith) (omega arith)
+returns-7 c = ap (λ x. x - 48) (c .wide .ensures) ∙ ruled 48 10 (λ x. x - 48) tt (c .before .before .before .before .before .before .before .before .before .args .b) (omega arith) (omega arith)
 
 returns-8 : tie.Need-returns-8
 unfolding entry kind
-returns-8 c = ap (λ x. x - 48) (c .wide .ensures) ∙ ruled 48 10 (λ x. x - 48) tt (c .before .before .before .before .before .before .before .before .before .args .b) (omega arith) (omega arith)
+returns-8 c = c .either6 .ensures ∙ ruled 58 6 (λ x. either x 46 160 63 96) tt (c .before .before .before .before .before .before .before .before .before .args .b) (omega arith) (omega arith)
 
 returns-9 : tie.Need-returns-9
 unfolding entry kind
@@ -108,19 +114,11 @@ returns-13 c = ap (λ x. x - 57) (c .wide6 .ensures) ∙ ruled 106 9 (λ x. x - 
 
 returns-14 : tie.Need-returns-14
 unfolding entry kind
-returns-14 c = let f : (c .before .before .before .before .before .before .before .args .b) < 256 = search needs in ruled 47 1 (λ _. 240) tt (c .before .before .before .before .before .before .before .args .b) (omega (arith, c .before .before .before .before .before .before .match .rest)) (omega arith)
+returns-14 c = let b = c .before .before .before .before .before .before .args .b in let l : b < 256 = search needs in ruled 91 6 (λ _. 240) tt b (omega (arith, c .before .before .before .before .before .match .rest)) (omega arith)
 
 returns-15 : tie.Need-returns-15
 unfolding entry kind
-returns-15 c = let f : (c .before .before .before .before .before .before .before .before .args .b) < 256 = search needs in ruled 58 5 (λ _. 240) tt (c .before .before .before .before .before .before .before .before .args .b) (omega (arith, c .before .before .before .before .before .before .before .match .rest)) (omega arith)
-
-returns-16 : tie.Need-returns-16
-unfolding entry kind
-returns-16 c = let f : (c .before .before .before .before .before .before .args .b) < 256 = search needs in ruled 91 6 (λ _. 240) tt (c .before .before .before .before .before .before .args .b) (omega (arith, c .before .before .before .before .before .match .rest)) (omega arith)
-
-returns-17 : tie.Need-returns-17
-unfolding entry kind
-returns-17 c = let f : (c .before .before .before .before .before .before .before .before .args .b) < 256 = search needs in ruled 116 140 (λ _. 240) tt (c .before .before .before .before .before .before .before .before .args .b) (omega (arith, c .before .before .before .before .before .before .before .match .rest)) (omega arith)
+returns-15 c = let b = c .before .before .before .before .before .before .before .before .args .b in let l : b < 256 = search needs in ruled 116 140 (λ _. 240) tt b (omega (arith, c .before .before .before .before .before .before .before .match .rest)) (omega arith)
 
 pub entry-of-spec : {M : Type 1} → statement M
 entry-of-spec =
@@ -130,8 +128,10 @@ entry-of-spec =
     either-requires-2
     either-requires-3
     either-requires-4
+    either-requires-5
     wide-requires
     sub-result
+    either-requires-6
     wide-requires-2
     wide-requires-3
     sub-result-2
@@ -155,6 +155,4 @@ entry-of-spec =
     returns-12
     returns-13
     returns-14
-    returns-15
-    returns-16
-    returns-17)
+    returns-15)

@@ -1,10 +1,11 @@
 -- `table_lines::blanks` meets its contract: the first place from here on where no blank stands.
-use mathlib.Core.Path.{_≡_, refl, sym, _∙_}
+use mathlib.Core.Path.{_≡_, refl, _∙_}
 use Prim.Native.Nat.{ℕ, _-_, _<_, _≤_}
 use native.Mathlib.Omega.{arith}
 use lib.ListN.{length}
 use borrow.Author.Needs.{needs}
 use Rattle.alphabet_spec.specs.Entries.{entryAt}
+use Rattle.alphabet.specs.Standing.{blank-seen, blank-seen-not}
 use Rattle.table_spec.specs.Reading.{fresh, inner}
 use Rattle.table_lines.specs.Seen.{seen, behind}
 use Rattle.table_lines.proofs.LineEnds.{blank-in, blank-fresh, blank-within, place-more}
@@ -22,28 +23,31 @@ abbrev μ-loop : tie.MeasureT-loop
 loop-holds : tie.Need-loop-holds Inv-loop μ-loop
 loop-holds c = (search needs, search needs, refl, refl, λ k a b. absurd (omega arith))
 
-entry-at-requires : tie.Need-entry-at-requires Inv-loop μ-loop
-entry-at-requires c κs = search needs
+standing-requires : tie.Need-standing-requires Inv-loop μ-loop
+standing-requires c κs = search needs
+
+is-blank-requires : tie.Need-is-blank-requires Inv-loop μ-loop
+is-blank-requires c κs = search needs
 
 add-i : tie.Need-add-i Inv-loop μ-loop
-add-i c = let e = blank-in _ _ (sym (c .before .entry-at .ensures) ∙ c .if1 .taken) in omega arith
+add-i c = let e = blank-in _ _ (blank-seen _ _ (c .before .before .standing .ensures) (c .before .is-blank .ensures) (c .if1 .taken)) in omega arith
 
 loop-less : tie.Need-loop-less Inv-loop μ-loop
-loop-less c = let e = blank-in _ _ (sym (c .before .entry-at .ensures) ∙ c .if1 .taken) in omega arith
+loop-less c = let e = blank-in _ _ (blank-seen _ _ (c .before .before .standing .ensures) (c .before .is-blank .ensures) (c .if1 .taken)) in omega arith
 
 loop-again : tie.Need-loop-again Inv-loop μ-loop
 loop-again c =
-    let l = c .before .before .loop .inv in
-    let e = sym (c .before .entry-at .ensures) ∙ c .if1 .taken in
+    let l = c .before .before .before .loop .inv in
+    let e = blank-seen _ _ (c .before .before .standing .ensures) (c .before .is-blank .ensures) (c .if1 .taken) in
     let h = blank-in _ _ e in
     (omega arith, omega arith, l .2 ∙ blank-fresh _ _ e, l .3 ∙ blank-within _ _ _ e, place-more _ (l .4) e)
 
 returns : tie.Need-returns Inv-loop μ-loop
 returns c =
-    let l = c .before .before .loop .inv in
-    record { low = l .0; high = l .1; all = l .4; before = l .2; within = l .3; stops = λ e. c .if1 .left (c .before .entry-at .ensures ∙ e) }
+    let l = c .before .before .before .loop .inv in
+    record { low = l .0; high = l .1; all = l .4; before = l .2; within = l .3; stops = blank-seen-not _ _ (c .before .before .standing .ensures) (c .before .is-blank .ensures) (c .if1 .left) }
 
 pub blanks-spec : {M : Type 1} → statement M
 blanks-spec =
     tie.close
-    (tie.spec Inv-loop μ-loop loop-holds entry-at-requires add-i loop-less loop-again returns)
+    (tie.spec Inv-loop μ-loop loop-holds standing-requires is-blank-requires add-i loop-less loop-again returns)

@@ -1,12 +1,18 @@
 -- `table_lines::fraction` meets its contract: after the whole number of a head, which was read as w.
 use mathlib.Core.Bool.{true}
-use mathlib.Core.Path.{sym, _∙_}
+use mathlib.Core.Path.{_≡_, refl, sym, _∙_}
 use native.Mathlib.Omega.{arith}
+use Rattle.alphabet_spec.specs.Entries.{entryAt}
+use Rattle.alphabet.specs.Standing.{digit-seen, digit-seen-not, point-stands, point-stood}
 use Rattle.table_lines.proofs.LineEnds.{inside-text}
 use Rattle.table_lines.proofs.HeadLaws.{whole-only, fraction-long, fraction-small, fraction-read}
 use borrow.Author.Needs.{needs}
 use Rattle.table_lines.proofs.fraction.Statement.{statement}
 use Rattle.table_lines.proofs.fraction.Tie as tie
+
+-- a point stands after the whole number
+pointed-at : (c : tie.Else1) → entryAt (c .before .before .before .args .s .now) (c .before .before .before .args .w .at) ≡ 160
+pointed-at c = point-stands _ _ (sym (c .before .before .before .pre .1) ∙ c .if1 .left)
 
 mul-abscissa : tie.Need-mul-abscissa
 mul-abscissa c = search needs
@@ -15,41 +21,44 @@ abscissa-requires : tie.Need-abscissa-requires
 abscissa-requires c κs = search needs
 
 returns : tie.Need-returns
-returns c = let p = c .before .before .before .before .pre in rw (c .abscissa .ensures) (whole-only _ (p .0) (p .1) (p .2) (c .before .if1 .taken))
+returns c = let p = c .before .before .before .before .pre in rw (c .abscissa .ensures) (whole-only _ (p .0) refl (p .2) (λ x. c .before .if1 .taken (p .1 ∙ point-stood _ _ x)))
 
 add-next : tie.Need-add-next
 add-next c = search needs
 
 digits-requires : tie.Need-digits-requires
-digits-requires c κs = let p = c .before .before .before .pre in let l = inside-text _ _ _ (sym (p .1) ∙ c .if1 .left) (omega arith) in (omega arith, omega arith)
+digits-requires c κs = let p = c .before .before .before .pre in let l = inside-text _ _ _ (pointed-at c) (omega arith) in (omega arith, omega arith)
+
+is-digit-requires : tie.Need-is-digit-requires
+is-digit-requires c κs = search needs
 
 returns-2 : tie.Need-returns-2
 returns-2 c =
-    let p = c .before .before .before .before .before .before .pre in fraction-long _ (sym (p .1) ∙ c .before .before .before .if1 .left) (c .before .before .digits .ensures) true (c .if2 .taken)
+    let r = c .before .before in
+    fraction-long _ (pointed-at (r .before)) (r .digits .ensures .0) true (digit-seen _ _ (r .digits .ensures .1) (c .before .is-digit .ensures) (c .if2 .taken))
 
 sub-worth : tie.Need-sub-worth
-sub-worth c = search needs
+sub-worth c = let l = c .before .before .digits .ensures .0 .low in omega arith
 
 worth-requires : tie.Need-worth-requires
-worth-requires c κs = search needs
+worth-requires c κs = let l = c .before .before .digits .ensures .0 .few in omega arith
 
 mul-size : tie.Need-mul-size
 mul-size c =
-    let p = c .before .before .before .before .before .before .before .before .pre in
-    let z = fraction-small _ (sym (p .1) ∙ c .before .before .before .before .before .if1 .left) (c .before .before .before .before .digits .ensures) (p .2) in
+    let r = c .before .before .before .before in let p = r .before .before .before .before .pre in
+    let z = fraction-small _ (pointed-at (r .before)) (r .digits .ensures .0) (p .2) in
     rw (c .before .worth .ensures) (omega arith)
 
 abscissa-requires-2 : tie.Need-abscissa-requires-2
 abscissa-requires-2 c κs =
-    let p = c .before .before .before .before .before .before .before .before .pre in
-    rw (c .before .worth .ensures) (fraction-small _ (sym (p .1) ∙ c .before .before .before .before .before .if1 .left) (c .before .before .before .before .digits .ensures) (p .2))
+    let r = c .before .before .before .before in let p = r .before .before .before .before .pre in
+    rw (c .before .worth .ensures) (fraction-small _ (pointed-at (r .before)) (r .digits .ensures .0) (p .2))
 
 returns-3 : tie.Need-returns-3
 returns-3 c =
-    let p = c .before .before .before .before .before .before .before .before .before .pre in
+    let e = c .before .before .before in let r = e .before .before in let p = r .before .before .before .before .pre in
     rw (c .abscissa2 .ensures, c .before .before .worth .ensures)
-    (fraction-read _ (sym (p .1) ∙ c .before .before .before .before .before .before .if1 .left) (c .before .before .before .before .before .digits .ensures) _ (p .2)
-    (c .before .before .before .if2 .left))
+    (fraction-read _ (pointed-at (r .before)) (r .digits .ensures .0) _ (p .2) (digit-seen-not _ _ (r .digits .ensures .1) (e .before .is-digit .ensures) (e .if2 .left)))
 
 pub fraction-spec : {M : Type 1} → statement M
 fraction-spec =
@@ -60,6 +69,7 @@ fraction-spec =
     returns
     add-next
     digits-requires
+    is-digit-requires
     returns-2
     sub-worth
     worth-requires

@@ -35,7 +35,7 @@ abscissa c = c .h .given .0 .0
 abbrev unit : tie.After-h → ℕ
 unit c = c .h .given .0 .1 .0
 
-topped : (c : tie.After-h) → Topped (start (read c) .args .s .now) (start (read c) .args .at) (abscissa c) (unit c) (c .h .given .0 .1 .1 .0) (c .h .given .0 .1 .1 .1 .0)
+topped : (c : tie.After-h) → Topped (start (read c) .args .s .now) (start (read c) .args .at) (abscissa c) (unit c) (c .h .given .0 .1 .1 .0)
 topped c = rw (c .h .given .1) at (c .before .before .head .ensures)
 
 -- where it is held against the index, and where it has passed
@@ -88,7 +88,7 @@ values-requires : tie.Need-values-requires
 values-requires c κs =
     let k = known (indexed (c .before .before .before .before)) in let p = start (read k) .pre in let t = topped k in
     let low = t .low in
-    record { most = p .0 .few; some = omega arith; high = t .high; stands = t .stands; few = p .1 .few }
+    record { most = p .0 .few; some = omega arith; high = t .high; few = p .1 .few }
 
 returns-3 : tie.Need-returns-3
 returns-3 c = let h = c .before .before in line-four (frame h) _ (row h) _ (rw (c .enum-told .given .1) at (h .head .ensures)) [] []

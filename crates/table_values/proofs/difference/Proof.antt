@@ -26,16 +26,16 @@ returns-2 c =
 returns-3 : tie.Need-returns-3
 returns-3 c =
     let p = c .before .before .before .before .before .pre in let a = c .before .before .before .before .before .args in let l = c .if3 .taken in
-    let z = shift-some (leb 48 (a .c .e)) (a .v) (a .c .q) _ (c .before .before .shifted .ensures) (c .before .if2 .left) in
+    let z = shift-some (leb 48 (a .e)) (a .v) (a .c .q) _ (c .before .before .shifted .ensures) (c .before .if2 .left) in
     (refl, λ y w h. value-full _ _ (p .4) _ y w (_ ∷ []) _ (dif-adds _ _ _ h (c .before .before .before .if1 .left) z) (omega arith))
 
 put-requires : tie.Need-put-requires
 put-requires c κs =
     let a = c .before .before .before .before .before .before .args in
-    shift-some (leb 48 (a .c .e)) (a .v) (a .c .q) _ (c .before .before .before .shifted .ensures) (c .before .before .if2 .left) .high
+    shift-some (leb 48 (a .e)) (a .v) (a .c .q) _ (c .before .before .before .shifted .ensures) (c .before .before .if2 .left) .high
 
-add-t16 : tie.Need-add-t16
-add-t16 c = search needs
+add-t15 : tie.Need-add-t15
+add-t15 c = search needs
 
 same-length : tie.Need-same-length
 same-length c = search needs
@@ -44,7 +44,7 @@ returns-4 : tie.Need-returns-4
 returns-4 c =
     let p = c .before .before .before .before .before .before .before .before .pre in let a = c .before .before .before .before .before .before .before .before .args in
     let k = c .before .before .before .if3 .left in let n = c .before .before .before .before .before .before .if1 .left in
-    let z = shift-some (leb 48 (a .c .e)) (a .v) (a .c .q) _ (c .before .before .before .before .before .shifted .ensures) (c .before .before .before .before .if2 .left) in
+    let z = shift-some (leb 48 (a .e)) (a .v) (a .c .q) _ (c .before .before .before .before .before .shifted .ensures) (c .before .before .before .before .if2 .left) in
     value-stepped (p .4) refl (sits-next (p .4) _ _ 0 _ _ (z .high) (p .1) (omega arith))
     (λ y w h. value-adds _ _ (p .4) _ y w (_ ∷ []) _ _ _ _ (dif-adds _ _ _ h n z) (omega arith) refl refl (going (dif (p .2) (p .3) (z .low))) (c .before .put .ensures))
 
@@ -57,6 +57,6 @@ difference-spec =
     returns-2
     returns-3
     put-requires
-    add-t16
+    add-t15
     same-length
     returns-4)

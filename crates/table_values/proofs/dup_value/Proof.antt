@@ -23,7 +23,7 @@ same-again-requires : tie.Need-same-again-requires
 same-again-requires c κs =
     let p = c .before .before .before .before .before .pre in let a = c .before .before .before .before .before .args in let l = c .before .before .if2 .left in
     let e : a .v ≡ a .v - 1 + 1 = omega arith in
-    let t = subst (λ (n : ℕ). Token (a .s .now) (a .c .at) (times n) (a .j) (a .f)) e (p .3) in
+    let t = subst (λ (n : ℕ). Token (a .s .now) (a .c .at) (times n) (a .j)) e (p .3) in
     (record { sits = p .0; most = p .1; some = omega arith; small = omega arith; token = t }, c .before .before .before .if1 .left, c .before .if3 .taken)
 
 same-length : tie.Need-same-length
@@ -36,7 +36,7 @@ steps-again-requires : tie.Need-steps-again-requires
 steps-again-requires c κs =
     let p = c .before .before .before .before .before .pre in let a = c .before .before .before .before .before .args in let l = c .before .before .if2 .left in
     let e : a .v ≡ a .v - 1 + 1 = omega arith in
-    let t = subst (λ (n : ℕ). Token (a .s .now) (a .c .at) (times n) (a .j) (a .f)) e (p .3) in
+    let t = subst (λ (n : ℕ). Token (a .s .now) (a .c .at) (times n) (a .j)) e (p .3) in
     (record { sits = p .0; most = p .1; some = omega arith; small = omega arith; token = t }, c .before .if3 .left)
 
 same-length-2 : tie.Need-same-length-2

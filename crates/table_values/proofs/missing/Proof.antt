@@ -17,32 +17,29 @@ add-next c = search needs
 
 returns : tie.Need-returns
 returns c =
-    let p = c .before .before .pre in let t = gap-token _ _ (sym (p .0 .stands) ∙ p .1) in
+    let p = c .before .before .pre in let t = gap-token _ _ (p .1) in
     (refl, λ y w h. value-not _ _ t _ y w 10 (gap-asked h (c .if1 .taken)))
 
 returns-2 : tie.Need-returns-2
 returns-2 c =
-    let p = c .before .before .before .pre in let t = gap-token _ _ (sym (p .0 .stands) ∙ p .1) in let l = c .if2 .taken in
+    let p = c .before .before .before .pre in let t = gap-token _ _ (p .1) in let l = c .if2 .taken in
     (refl, λ y w h. value-full _ _ t _ y w (0 ∷ []) Gap (gap-free h (c .before .if1 .left)) (omega arith))
 
 put-requires : tie.Need-put-requires
 put-requires c κs = search needs
 
-entry-at-requires : tie.Need-entry-at-requires
-entry-at-requires c κs = search needs
-
-add-t14 : tie.Need-add-t14
-add-t14 c = search needs
+add-t13 : tie.Need-add-t13
+add-t13 c = search needs
 
 same-length : tie.Need-same-length
 same-length c = search needs
 
 returns-3 : tie.Need-returns-3
 returns-3 c =
-    let p = c .before .before .before .before .before .before .before .pre in let t = gap-token _ _ (sym (p .0 .stands) ∙ p .1) in let l = c .before .before .before .before .if2 .left in
-    value-stepped t refl (record { some = omega arith; high = t .high; stands = c .entry-at .ensures; small = omega arith; size = omega arith; few = omega arith })
-    (λ y w h. value-adds _ _ t _ y w (0 ∷ []) Gap _ _ _ (gap-free h (c .before .before .before .before .before .if1 .left)) (omega arith) refl refl (going codes-gap)
-    (c .before .before .put .ensures))
+    let p = c .before .before .before .before .before .before .pre in let t = gap-token _ _ (p .1) in let l = c .before .before .before .if2 .left in
+    value-stepped t refl (record { some = omega arith; high = t .high; small = omega arith; size = omega arith; few = omega arith })
+    (λ y w h. value-adds _ _ t _ y w (0 ∷ []) Gap _ _ _ (gap-free h (c .before .before .before .before .if1 .left)) (omega arith) refl refl (going codes-gap)
+    (c .before .put .ensures))
 
 pub missing-spec : {M : Type 1} → statement M
 missing-spec =
@@ -52,7 +49,6 @@ missing-spec =
     returns
     returns-2
     put-requires
-    entry-at-requires
-    add-t14
+    add-t13
     same-length
     returns-3)

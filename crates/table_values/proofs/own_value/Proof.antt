@@ -41,8 +41,8 @@ put-requires : tie.Need-put-requires
 put-requires c κs =
     let a = c .before .before .before .before .before .before .args in rw (c .before .before .before .moved-by .ensures) (own-small (a .minus) (a .v) (c .before .before .before .before .if1 .left))
 
-add-t18 : tie.Need-add-t18
-add-t18 c = search needs
+add-t17 : tie.Need-add-t17
+add-t17 c = search needs
 
 same-length : tie.Need-same-length
 same-length c = search needs
@@ -65,6 +65,6 @@ own-value-spec =
     returns-3
     returns-4
     put-requires
-    add-t18
+    add-t17
     same-length
     returns-5)

@@ -8,7 +8,7 @@ use Rattle.table_values.proofs.value.Tie as tie
 
 dup-value-requires : tie.Need-dup-value-requires
 dup-value-requires c κs =
-    let p = c .before .before .before .pre in let a = c .before .before .before .args in let z = dup-at (a .c .e) (a .v) (c .before .if1 .taken) in
+    let p = c .before .before .before .pre in let a = c .before .before .before .args in let z = dup-at (a .e) (a .v) (c .before .if1 .taken) in
     (p .sits, p .most, rw (z .1) at (p .small), rw (z .0) at (p .token))
 
 same-length : tie.Need-same-length
@@ -19,9 +19,9 @@ returns c = search needs
 
 difference-requires : tie.Need-difference-requires
 difference-requires c κs =
-    let p = c .before .before .before .before .pre in let a = c .before .before .before .before .args in let d = c .before .if2 .taken in let l : 32 ≤ a .c .e = omega arith in
-    let h : a .c .e < 64 = omega arith in
-    (p .sits, (let b = below-ten (a .c .e) in let x = p .small in omega arith), l, h, rw (dif-at (a .c .e) (a .v) l h) at (p .token))
+    let p = c .before .before .before .before .pre in let a = c .before .before .before .before .args in let d = c .before .if2 .taken in let l : 32 ≤ a .e = omega arith in
+    let h : a .e < 64 = omega arith in
+    (p .sits, (let b = below-ten (a .e) in let x = p .small in omega arith), l, h, rw (dif-at (a .e) (a .v) l h) at (p .token))
 
 same-length-2 : tie.Need-same-length-2
 same-length-2 c = search needs
@@ -32,7 +32,7 @@ returns-2 c = search needs
 own-value-requires : tie.Need-own-value-requires
 own-value-requires c κs =
     let p = c .before .before .before .before .pre in let a = c .before .before .before .before .args in
-    (p .sits, rw (own-at-all (a .c .e) (a .v) (c .before .before .if1 .left) (c .before .if2 .left) (p .before-point) (p .kind)) at (p .token))
+    (p .sits, rw (own-at-all (a .e) (a .v) (c .before .before .if1 .left) (c .before .if2 .left) (p .before-point) (p .kind)) at (p .token))
 
 same-length-3 : tie.Need-same-length-3
 same-length-3 c = search needs

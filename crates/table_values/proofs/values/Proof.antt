@@ -1,4 +1,4 @@
--- `table_values::values` meets its contract: the values of a line, from a place with the entry e on, with k points given; the first must equal `want`, if that is not 0.
+-- `table_values::values` meets its contract: the values of a line, from a place on, with k points given; the first must equal `want`, if that is not 0.
 use mathlib.Core.Path.{_≡_, refl}
 use native.Mathlib.Omega.{arith}
 use Prim.Native.Nat.{_-_}
@@ -10,15 +10,15 @@ use Rattle.table_values.proofs.values.Statement.{statement}
 use Rattle.table_values.proofs.values.Tie as tie
 
 abbrev Inv-loop : tie.InvT-loop
-Inv-loop s points out₀ at e k want c₀ out c = Went points s (first-state at e k want) c out₀ out × (length out ≡ length out₀)
+Inv-loop s points out₀ at k want c₀ out c = Went points s (first-state at k want) c out₀ out × (length out ≡ length out₀)
 
 abbrev μ-loop : tie.MeasureT-loop
-μ-loop s points out₀ at e k want c₀ out c = length s - c .at
+μ-loop s points out₀ at k want c₀ out c = length s - c .at
 
 loop-holds : tie.Need-loop-holds Inv-loop μ-loop
 loop-holds c =
     let p = c .before .pre in
-    (went-none _ _ (record { some = p .some; high = p .high; stands = p .stands; small = omega arith; size = omega arith; few = p .few }), refl)
+    (went-none _ _ (record { some = p .some; high = p .high; small = omega arith; size = omega arith; few = p .few }), refl)
 
 differences-requires : tie.Need-differences-requires Inv-loop μ-loop
 differences-requires c κs = c .before .loop .inv .0 .sits
