@@ -1,6 +1,4 @@
 -- Bounds of the seven records and of the six numbers, which callers need. Assumes nothing.
-use mathlib.Core.Path.{_≡_}
-use mathlib.Core.List.{List}
 use Prim.Native.Nat.{ℕ, _<_}
 use Rattle.decimal_spec.specs.Number.{bound}
 use Rattle.figure.specs.Bounds.{Small, Factor}

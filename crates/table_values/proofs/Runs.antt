@@ -1,10 +1,10 @@
 -- A run of differences, by the bytes that begin them: a letter and its digits, or `%` alone. No place of the code is named here. Assumes nothing.
 use mathlib.Core.Path.{_≡_, refl, sym, ap, _∙_}
-use mathlib.Core.Bool.{Bool, true, false}
+use mathlib.Core.Bool.{true, false}
 use mathlib.Core.List.{List}
 use Prim.Native.Nat.{ℕ, _+_, _-_, _*_, _^_, _%_, _≤_, _<_}
 use native.Mathlib.Omega.{arith}
-use lib.Dec.{leb, ltb, eqb}
+use lib.Dec.{leb}
 use lib.IntN.{ℤ}
 use lib.ListN.{length, set}
 use borrow.Author.Tests.{ne-eqb, lt-leb, le-leb}
@@ -43,9 +43,11 @@ unfolding entry kind
 letter-entry b =
     by-case (λ t. within 74 9 b ≡ t → pick t true (within 106 9 b) ≡ true → Letter b (entry b)) (within 74 9 b)
     (λ _ w _. let l = within-in 74 9 b w in let x = l .0 in let y = l .1 in let z = ruled 74 9 (λ x. x - 41) tt b x y in
-    record { low = omega arith; high = omega arith; digit = omega arith; some = λ m. omega arith; sign = rw (lt-leb 48 (entry b) (omega arith), lt-leb 106 b (omega arith)) refl; byte = λ m. omega arith; small = omega arith })
+    let s : leb 48 (entry b) ≡ leb 106 b = rw (lt-leb 48 (entry b) (omega arith), lt-leb 106 b (omega arith)) refl in
+    record { low = omega arith; high = omega arith; digit = omega arith; some = λ m. omega arith; sign = s; byte = λ m. omega arith; small = omega arith })
     (λ _ _ w. let l = within-in 106 9 b w in let x = l .0 in let y = l .1 in let z = ruled 106 9 (λ x. x - 57) tt b x y in
-    record { low = omega arith; high = omega arith; digit = omega arith; some = λ m. omega arith; sign = rw (le-leb 48 (entry b) (omega arith), le-leb 106 b x) refl; byte = λ m. omega arith; small = omega arith })
+    let s : leb 48 (entry b) ≡ leb 106 b = rw (le-leb 48 (entry b) (omega arith), le-leb 106 b x) refl in
+    record { low = omega arith; high = omega arith; digit = omega arith; some = λ m. omega arith; sign = s; byte = λ m. omega arith; small = omega arith })
     refl
 
 pub letter-stands : (s : List ℕ) (i : ℕ) → lettered (standing s i) ≡ true → Letter (standing s i) (entryAt s i)

@@ -65,7 +65,7 @@ pub record Sits (N : ℕ) (s : List ℕ) (c : Cur) : Type 0 where
   pub size : c .step < 10000000000
   pub few : c .k ≤ N
 
--- a value that begins with the entry e and has the number v stands where the state is, within a table of at most 65,536 points: the entry is below a point's, and neither a missing mark's nor a blank's
+-- a value that begins with the entry e and has the number v stands where the state is, in a table of at most 65,536 points: the entry is below a point's, and neither a missing mark's nor a blank's
 pub record Valued (N : ℕ) (s : List ℕ) (c : Cur) (e v j : ℕ) : Type 0 where
   pub sits : Sits N s c
   pub most : N ≤ 65536

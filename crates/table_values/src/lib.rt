@@ -28,7 +28,8 @@ use table_ordinates::repeat;
 use table_ordinates::shifted;
 
 // Within a line: the place; how many points; the ordinate before (0: none on this line, or missing); the ordinate that a check line's first value must equal (0: not
-// asked); the size of the last difference; and the form of the value before: 0 none, or a DUP that is not DIF; 1 a DUP that is; 2 a value of its own; from DIF on a difference, and from DIF_MINUS on one that is minus.
+// asked); the size of the last difference; and the form of the value before: 0 none, or a DUP that is not DIF; 1 a DUP that is; 2 a value of its own; from DIF on a
+// difference, and from DIF_MINUS on one that is minus.
 struct Cur {
     at: usize,
     k: usize,

@@ -114,11 +114,15 @@ returns-13 c = ap (λ x. x - 57) (c .wide6 .ensures) ∙ ruled 106 9 (λ x. x - 
 
 returns-14 : tie.Need-returns-14
 unfolding entry kind
-returns-14 c = let b = c .before .before .before .before .before .before .args .b in let l : b < 256 = search needs in ruled 91 6 (λ _. 240) tt b (omega (arith, c .before .before .before .before .before .match .rest)) (omega arith)
+returns-14 c =
+    let s = c .before .before .before .before .before in let b = s .before .args .b in let l : b < 256 = search needs in
+    ruled 91 6 (λ _. 240) tt b (omega (arith, s .match .rest)) (omega arith)
 
 returns-15 : tie.Need-returns-15
 unfolding entry kind
-returns-15 c = let b = c .before .before .before .before .before .before .before .before .args .b in let l : b < 256 = search needs in ruled 116 140 (λ _. 240) tt b (omega (arith, c .before .before .before .before .before .before .before .match .rest)) (omega arith)
+returns-15 c =
+    let s = c .before .before .before .before .before .before .before in let b = s .before .args .b in let l : b < 256 = search needs in
+    ruled 116 140 (λ _. 240) tt b (omega (arith, s .match .rest)) (omega arith)
 
 pub entry-of-spec : {M : Type 1} → statement M
 entry-of-spec =

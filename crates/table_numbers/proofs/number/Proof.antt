@@ -1,5 +1,5 @@
 -- `table_numbers::number` meets its contract: the number of the value at a place whose entry is e, below a point's, and neither `?` nor a blank.
-use mathlib.Core.Path.{_≡_, refl}
+use mathlib.Core.Path.{_≡_}
 use mathlib.Core.Logic.{⊎-elim}
 use Prim.Native.Nat.{_-_, _<_}
 use native.Mathlib.Omega.{arith}

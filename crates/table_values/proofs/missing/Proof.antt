@@ -1,5 +1,5 @@
 -- `table_values::missing` meets its contract: a missing ordinate.
-use mathlib.Core.Path.{refl, sym, _∙_}
+use mathlib.Core.Path.{refl}
 use mathlib.Core.List.{[], _∷_}
 use Prim.Native.Nat.{_-_}
 use native.Mathlib.Omega.{arith}
