@@ -2,7 +2,8 @@
 use mathlib.Core.Path.{_≡_, refl, sym, ap, _∙_, subst}
 use mathlib.Core.Bool.{Bool, true, false}
 use mathlib.Core.List.{List}
-use Prim.Native.Nat.{ℕ, zero, suc, _+_, _-_, _*_, _^_, _≤_, _<_}
+use mathlib.Core.Logic.{_⊎_, ⊎-elim}
+use Prim.Native.Nat.{ℕ, zero, suc, _+_, _-_, _*_, _^_, _%_, _≤_, _<_}
 use native.Mathlib.Omega.{arith}
 use native.Mathlib.Numerals.{add-one}
 use native.Mathlib.Nat.{mul-lt-mul-of-pos-right, mul-assoc}
@@ -23,7 +24,7 @@ use Rattle.table_spec.specs.Values.{headed-at}
 use Rattle.table_spec.specs.Reading.{Tokens, head, fault, Mode, fresh, inner, Rest, starts, unit, scaled, pointed, thousandths, headed, opening, step}
 use Rattle.table_lines.specs.Seen.{behind, later-seen, seen-kind, seen-step, not-behind}
 use Rattle.table_lines.specs.Ends.{LineOpens}
-use Rattle.table_lines.specs.Heads.{Scaled, Pointed, Topped, Headed}
+use Rattle.table_lines.specs.Heads.{wholeRoom, Scaled, Pointed, Topped, Headed}
 use Rattle.table_lines.specs.declared.HeadRead.{HeadRead}
 use Rattle.table_lines.specs.declared.HeadRead.the-variants.{Abscissa, NoHead}
 use Rattle.table_lines.proofs.LineEnds.{starts-not, starts-kind}
@@ -195,7 +196,7 @@ module _ (s : List ℕ) (i : ℕ) {w j x : ℕ} where
   unfolding opening
   sign-opens m r n K = let low = r .low in let l : 0 < j - (i + 1) = omega (arith, n) in rw (run-there s i r, some-more (ltb x 16) w (j - (i + 1)) l) refl
 
-  pub sign-alone : (e : ℕ) → LineOpens s i e → 128 ≤ e → Ran s (i + 1) 0 7 w j x → j ≡ i + 1 → Headed s i NoHead
+  sign-alone : (e : ℕ) → LineOpens s i e → 128 ≤ e → Ran s (i + 1) 0 7 w j x → j ≡ i + 1 → Headed s i NoHead
   unfolding opening step thousandths
   sign-alone e o l r n =
       let z : j - (i + 1) ≡ 0 = omega arith in
@@ -229,22 +230,57 @@ no-blank-here o y = o .no-blank (o .stands ∙ y)
 
 module _ (s : List ℕ) (i e : ℕ) {w j x : ℕ} (o : LineOpens s i e) where
   module _ (l : e < 16) (r : Ran s (i + 1) e 6 w j x) where
-    pub digit-small : w < 10000000
+    digit-small : w < 10000000
     digit-small = let g = o .stands in let d = digit-at s i (rw g at l) in let b = ran-below r in let z = d .2 in omega arith
 
-    pub digit-long : x < 16 → Headed s i NoHead
+    digit-long : x < 16 → Headed s i NoHead
     digit-long k = no-head i false (digit e) (o .inside) (ap kindOf (sym (o .stands)) ∙ digit-kind e l) (no-blank-here o) r (digit-opens s i e r) k
 
-    pub digit-headed : 16 ≤ x → (y : HeadRead) → Pointed s j w false y → Headed s i y
+    digit-headed : 16 ≤ x → (y : HeadRead) → Pointed s j w false y → Headed s i y
     digit-headed k = headed-by i false (digit e) (o .inside) (ap kindOf (sym (o .stands)) ∙ digit-kind e l) (no-blank-here o) r (digit-opens s i e r) k
 
   module _ (l : 128 ≤ e) (r : Ran s (i + 1) 0 7 w j x) where
-    pub sign-small : w < 10000000
+    sign-small : w < 10000000
     sign-small = let b = ran-below r in omega arith
 
     module _ (m : j ≡ i + 1 → ⊥) where
-      pub sign-long : x < 16 → Headed s i NoHead
+      sign-long : x < 16 → Headed s i NoHead
       sign-long = no-head i (leb 144 e) (sign (leb 144 e)) (o .inside) (ap kindOf (sym (o .stands)) ∙ sign-kind e l (o .before-point)) (no-blank-here o) r (sign-opens s i (leb 144 e) r m)
 
-      pub sign-headed : 16 ≤ x → (y : HeadRead) → Pointed s j w (leb 144 e) y → Headed s i y
+      sign-headed : 16 ≤ x → (y : HeadRead) → Pointed s j w (leb 144 e) y → Headed s i y
       sign-headed = headed-by i (leb 144 e) (sign (leb 144 e)) (o .inside) (ap kindOf (sym (o .stands)) ∙ sign-kind e l (o .before-point)) (no-blank-here o) r (sign-opens s i (leb 144 e) r m)
+
+-- ---- whatever begins a head
+
+-- a sign's entry has no digit
+pub sign-first : (s : List ℕ) (i e : ℕ) → i < length s → e ≡ entryAt s i → 128 ≤ e → e < 160 → e % 16 ≡ 0
+unfolding entry
+sign-first s i e h g l k =
+    let c : kind tabs-too (getD s i 0) ≡ sign (leb 144 e) = at-kind s i h ∙ ap kindOf (sym g) ∙ sign-kind e l k in
+    let z : e ≡ code (sign (leb 144 e)) = g ∙ at-entry s i h ∙ ap code c in
+    by-case (λ t. e ≡ code (sign t) → e % 16 ≡ 0) (leb 144 e) (λ _ x. omega arith) (λ _ x. omega arith) z
+
+module _ (s : List ℕ) (i e : ℕ) (o : LineOpens s i e) (k : e < 16 ⊎ 128 ≤ e) where
+  pub head-fits : (e % 16 + 1) * 10 ^ wholeRoom e ≤ 10000000000000000000
+  head-fits = ⊎-elim (λ l. rw (lt-ltb e 16 l) (omega arith)) (λ l. rw (le-ltb e 16 (omega arith)) (omega arith)) k
+
+  module _ {w j x : ℕ} (r : Ran s (i + 1) (e % 16) (wholeRoom e) w j x) where
+    digit-run : e < 16 → Ran s (i + 1) e 6 w j x
+    digit-run l = let z : e % 16 ≡ e = omega arith in rw (lt-ltb e 16 l, z) at r
+
+    sign-run : 128 ≤ e → Ran s (i + 1) 0 7 w j x
+    sign-run l = rw (le-ltb e 16 (omega arith), sign-first s i e (o .inside) (o .stands) l (o .before-point)) at r
+
+    pub head-small : w < 10000000
+    head-small = ⊎-elim (λ l. digit-small s i e o l (digit-run l)) (λ l. sign-small s i e o l (sign-run l)) k
+
+    pub head-long : x < 16 → Headed s i NoHead
+    head-long h =
+        ⊎-elim (λ l. digit-long s i e o l (digit-run l) h) (λ l. let z = sign-run l .full h in sign-long s i e o l (sign-run l) (λ y. omega arith) h) k
+
+    pub head-alone : 128 ≤ e → j ≡ i + 1 → Headed s i NoHead
+    head-alone l = sign-alone s i e o l (sign-run l)
+
+    pub head-headed : 16 ≤ x → (128 ≤ e → j ≡ i + 1 → ⊥) → (y : HeadRead) → Pointed s j w (leb 144 e) y → Headed s i y
+    head-headed h m y p =
+        ⊎-elim (λ l. digit-headed s i e o l (digit-run l) h y (rw (lt-leb 144 e (omega arith)) at p)) (λ l. sign-headed s i e o l (sign-run l) (m l) h y p) k

@@ -16,13 +16,13 @@ use Rattle.alphabet_spec.specs.Digits.{long, run}
 use Rattle.alphabet_spec.specs.Bytes.{Byte, digit, lead, sign, quest, blank, point, lf, cr, dollar, other, kind}
 use Rattle.alphabet_spec.specs.KindLaws.{Back, kind-back}
 use Rattle.alphabet_spec.specs.Entries.{code, entry, entryAt, kindOf}
-use Rattle.alphabet_spec.specs.EntryLaws.{entry-in, at-entry, at-kind}
+use Rattle.alphabet_spec.specs.EntryLaws.{entry-in, at-entry}
 use Rattle.alphabet_spec.specs.DigitLaws.{digit-at}
 use Rattle.alphabet.specs.Ran.{AllDigits, Ran, ran-below}
 use Rattle.table_spec.specs.Values.{Value, own, gap, by, times, valueOf, room}
 use Rattle.table_spec.specs.Reading.{Tokens, value, fault, Mode, inner, valued, inside, step}
 use Rattle.table_lines.specs.Seen.{behind, here, later-seen, later-none, seen-kind, byte-back, not-behind}
-use Rattle.table_lines.proofs.HeadLaws.{clear-after, digit-kind, sign-kind, some-more, some-none, run-there}
+use Rattle.table_lines.proofs.HeadLaws.{clear-after, digit-kind, sign-kind, sign-first, some-more, some-none, run-there}
 use Rattle.table_numbers.specs.Numbers.{leadOf, most, valueAt, below, Clear, Token, Numbered}
 use Rattle.table_numbers.specs.declared.NumberRead.the-variants.{Read, Misspelled}
 
@@ -250,25 +250,17 @@ module _ (s : List ℕ) (i e : ℕ) (g : e ≡ entryAt s i) (lo : e < 160) (k : 
   digit-first : e < 16 → e % 16 ≡ e
   digit-first l = omega arith
 
-  -- a sign's entry has no digit
-  sign-first : 128 ≤ e → e % 16 ≡ 0
-  unfolding entry
-  sign-first l =
-      let c : kind tabs-too (getD s i 0) ≡ sign (leb 144 e) = at-kind s i number-in ∙ ap kindOf (sym g) ∙ sign-kind e l lo in
-      let z : e ≡ code (sign (leb 144 e)) = g ∙ at-entry s i number-in ∙ ap code c in
-      by-case (λ t. e ≡ code (sign t) → e % 16 ≡ 0) (leb 144 e) (λ _ x. omega arith) (λ _ x. omega arith) z
-
   pub number-fits : (e % 16 + 1) * 10 ^ most e ≤ 10000000000000000000
   number-fits =
       kinded (λ l. let d = digit-here s i e g l .1 in rw (digit-most l, digit-first l) (omega arith))
-      (λ l h. let z = lead-fits s i e g l h (most e) (lead-most l h) in let b = below-ten e in omega arith) (λ l. rw (sign-most l, sign-first l) (omega arith))
+      (λ l h. let z = lead-fits s i e g l h (most e) (lead-most l h) in let b = below-ten e in omega arith) (λ l. rw (sign-most l, sign-first s i e number-in g l lo) (omega arith))
 
   module _ (o : 0 < i) (n : e < 16 → entryAt s (i - 1) ≡ 112) {w j f : ℕ} (r : Ran s (i + 1) (e % 16) (most e) w j f) where
     plain-run : e < 16 → Ran s (i + 1) e 9 w j f
     plain-run l = rw (digit-most l, digit-first l) at r
 
     sign-run : 128 ≤ e → Ran s (i + 1) 0 10 w j f
-    sign-run l = rw (sign-most l, sign-first l) at r
+    sign-run l = rw (sign-most l, sign-first s i e number-in g l lo) at r
 
     pub number-long : f < 16 → Numbered s i e Misspelled
     number-long h =
