@@ -23,7 +23,7 @@ use Rattle.file_spec.specs.Texts.{XFACTOR, YFACTOR, FIRSTX, LASTX, NPOINTS, FIR
 use Rattle.file_spec.specs.File.{byRecords, byLabels, readFile}
 use Rattle.compound_spec.specs.declared.Block.{Block}
 use Rattle.compound_spec.specs.Compound.{CompoundAnswer, inPlace, inBlock, readCompound}
-use Rattle.compound_spec.specs.Cut.{lineOf, cutOut, shifted}
+use Rattle.compound_spec.specs.Cut.{restOfLine, endOf, cutOut, shifted}
 use Rattle.compound_law.specs.Shift.{shift}
 use Rattle.compound_law.specs.Graft.{graft}
 use Rattle.compound_law.specs.Standing.{Sound, sound}
@@ -122,7 +122,7 @@ module _ (s : List ℕ) (m : ℕ) (u w : List ℕ) (c : Cut (drop m s) u w) (fit
       record { xfactor = i1; yfactor = i2; firstx = i3; lastx = i4; npoints = i5; firsty = i6; xydata = i7 })))))))
 
   pub place-cut : (space : ℕ) → byRecords s space (m + x) (gatheredFrom s (m + (e + 1)) (m + x)) ≡ shifted m (byRecords u space x (gatheredFrom u (e + 1) x))
-  place-cut space = rw gathered-cut (records-cut s u m fits (same-text s m u w c) space x (gatheredFrom u (e + 1) x) gathered-in)
+  place-cut space = rw gathered-cut (records-cut s u m (same-text s m u w c) space x (gatheredFrom u (e + 1) x) gathered-in)
 
 -- What the simple reader makes of the cut.
 read-cut : (u : List ℕ) (space e x q : ℕ) → length u ≤ longestFile → opened u ≡ Opened.Title 0 e → Plain u [] (from u (e + 1) false) x q
@@ -141,31 +141,31 @@ alone-cut u space e x q o p = old-answers u space (silent-cut u e x q o p)
 
 -- The bounds of a data block in its file.
 pub record Bounds (s : List ℕ) (b : Block) : Type 0 where
-  pub open-low : b .title + 2 ≤ b .start
-  pub close-low : b .start + 1 ≤ b .end
+  pub open-low : b .title + 2 ≤ b .eq
+  pub close-low : b .eq + 1 ≤ b .end
   pub close-high : b .end + 2 ≤ b .last
   pub inside : b .last < length s
 
 pub bounds : (s : List ℕ) (b : Block) → DataBlock s b → Bounds s b
 bounds s b d =
     let t = rw (d .at) at (sound s (b .title) true) in
-    let h = plain-high s [] (b .end) (b .last) (from s (b .start + 1) false) (sound s (b .start + 1) false) (d .labels) in
+    let h = plain-high s [] (b .end) (b .last) (from s (b .eq + 1) false) (sound s (b .eq + 1) false) (d .labels) in
     record {
       open-low = t .0 .low;
-      close-low = plain-low s [] (b .start + 1) (b .end) (b .last) (from s (b .start + 1) false) (from-above s (b .start + 1) false) (d .labels);
+      close-low = plain-low s [] (b .eq + 1) (b .end) (b .last) (from s (b .eq + 1) false) (from-above s (b .eq + 1) false) (d .labels);
       close-high = h .0;
       inside = h .1;
     }
 
 module _ (s : List ℕ) (b : Block) (d : DataBlock s b) (i : Bounds s b) (u w : List ℕ) (c : Cut (drop (b .title) s) u w)
     (fits : b .title + length u ≤ length s) (holds : b .last - b .title < length u) where
-  title-cut : TitleOf u (from u 0 true) (b .title) (b .start) (d .name)
+  title-cut : TitleOf u (from u 0 true) (b .title) (b .eq) (d .name)
   title-cut =
       let g = rw (add-zero (b .title)) at (cut-walk s (b .title) u w c 0 true (omega arith)) in
-      title-here u (b .title) (d .text) (b .start) (d .name) (from s (b .start + 1) false) (walk w (length u) true) (from u 0 true)
+      title-here u (b .title) (d .text) (b .eq) (d .name) (from s (b .eq + 1) false) (walk w (length u) true) (from u 0 true)
       (walk-above w (length u) true) (omega arith) (sound u 0 true) (sym g ∙ d .at)
 
-  start-is : b .title + (title-cut .eq + 1) ≡ b .start + 1
+  start-is : b .title + (title-cut .eq + 1) ≡ b .eq + 1
   start-is = omega (arith, title-cut .place)
 
   end-is : b .title + (b .end - b .title) ≡ b .end
@@ -183,28 +183,28 @@ module _ (s : List ℕ) (b : Block) (d : DataBlock s b) (i : Bounds s b) (u w : 
   labels-there : Plain s [] (from s (b .title + (title-cut .eq + 1)) false) (b .title + (b .end - b .title)) (b .title + (b .last - b .title))
   labels-there = rw (start-is, end-is, last-is) (d .labels)
 
-  whole-cut : (space : ℕ) → length s ≤ longestFile → inPlace s space (b .start) (b .end) ≡ shifted (b .title) (readFile u space)
+  whole-cut : (space : ℕ) → length s ≤ longestFile → inBlock s space b ≡ shifted (b .title) (readFile u space)
   unfolding inPlace
   whole-cut space h =
       let p = place-cut s (b .title) u w c fits (title-cut .eq) (b .end - b .title) (b .last - b .title) in-cut end-cut labels-there space in
       let l = labels-cut s (b .title) u w c fits (title-cut .eq) (b .end - b .title) (b .last - b .title) in-cut end-cut labels-there in
-      let o = opened-cut u (from u 0 true) (b .title) (b .start) (d .name) refl (d .is-title) title-cut in
+      let o = opened-cut u (from u 0 true) (b .title) (b .eq) (d .name) refl (d .is-title) title-cut in
       let r = read-cut u space (title-cut .eq) (b .end - b .title) (b .last - b .title) (omega arith) o l in
-      rw (← add-one (b .start), r) (rw (start-is, end-is) at p)
+      rw (← add-one (b .eq), r) (rw (start-is, end-is) at p)
 
   whole-alone : (space : ℕ) → readCompound u space ≡ CompoundAnswer.whole (readFile u space)
   whole-alone space =
       let l = labels-cut s (b .title) u w c fits (title-cut .eq) (b .end - b .title) (b .last - b .title) in-cut end-cut labels-there in
-      let o = opened-cut u (from u 0 true) (b .title) (b .start) (d .name) refl (d .is-title) title-cut in
+      let o = opened-cut u (from u 0 true) (b .title) (b .eq) (d .name) refl (d .is-title) title-cut in
       alone-cut u space (title-cut .eq) (b .end - b .title) (b .last - b .title) o l
 
 -- The cut is the part of the file that it is said to be.
 cut-is : (s : List ℕ) (b : Block) → Bounds s b
-    → cutOut s b ≡ take (b .last - b .title + lineOf (drop (b .last - b .title) (drop (b .title) s))) (drop (b .title) s)
-unfolding cutOut
+    → cutOut s b ≡ take (b .last - b .title + restOfLine (drop (b .last - b .title) (drop (b .title) s))) (drop (b .title) s)
+unfolding cutOut endOf
 cut-is s b i =
     let z : b .title + (b .last - b .title) ≡ b .last = omega (arith, i .open-low, i .close-low, i .close-high) in
-    let y : b .last + lineOf (drop (b .last) s) - b .title ≡ b .last - b .title + lineOf (drop (b .last) s) = omega (arith, i .open-low, i .close-low, i .close-high) in
+    let y : b .last + restOfLine (drop (b .last) s) - b .title ≡ b .last - b .title + restOfLine (drop (b .last) s) = omega (arith, i .open-low, i .close-low, i .close-high) in
     rw (drop-drop (b .last - b .title) (b .title) s, z, y) refl
 
 -- The theorem, for a data block of a file that is not too long.
@@ -212,7 +212,7 @@ pub cut-out : (s : List ℕ) (b : Block) → DataBlock s b → length s ≤ long
 cut-out s b d h space =
     let i = bounds s b d in
     let r = length-drop (b .title) s in
-    let n = length-take (b .last - b .title + lineOf (drop (b .last - b .title) (drop (b .title) s))) (drop (b .title) s) in
+    let n = length-take (b .last - b .title + restOfLine (drop (b .last - b .title) (drop (b .title) s))) (drop (b .title) s) in
     let k : b .last - b .title < length (drop (b .title) s) = omega (arith, i .open-low, i .close-low, i .close-high, i .inside) in
     rw (cut-is s b i) (whole-cut s b d i _ _ (cut-at (drop (b .title) s) (b .last - b .title)) (omega (arith, i .open-low, i .close-low, i .close-high, i .inside))
     (cut-holds (drop (b .title) s) (b .last - b .title) k) space h)
@@ -221,7 +221,7 @@ pub cut-alone : (s : List ℕ) (b : Block) → DataBlock s b → (space : ℕ) �
 cut-alone s b d space =
     let i = bounds s b d in
     let r = length-drop (b .title) s in
-    let n = length-take (b .last - b .title + lineOf (drop (b .last - b .title) (drop (b .title) s))) (drop (b .title) s) in
+    let n = length-take (b .last - b .title + restOfLine (drop (b .last - b .title) (drop (b .title) s))) (drop (b .title) s) in
     let k : b .last - b .title < length (drop (b .title) s) = omega (arith, i .open-low, i .close-low, i .close-high, i .inside) in
     rw (cut-is s b i) (whole-alone s b d i _ _ (cut-at (drop (b .title) s) (b .last - b .title)) (omega (arith, i .open-low, i .close-low, i .close-high, i .inside))
     (cut-holds (drop (b .title) s) (b .last - b .title) k) space)

@@ -16,9 +16,9 @@ use Rattle.label_spec.specs.Labels.{Walk, over, bad, label, from, hashed}
 use Rattle.label_spec.specs.File.{longestFile, twice, titled, openedAt, opened}
 use Rattle.label_spec.specs.Records.{markOf}
 use Rattle.compound_spec.specs.declared.Block.{Block}
-use Rattle.compound_spec.specs.Blocks.{Level, fresh, noted, deepest, Survey, refused, ended, push, blockOf, closed, tested, turn, nested, withinTitle, surveyed}
+use Rattle.compound_spec.specs.Blocks.{says, Level, fresh, noted, deepest, Survey, refused, ended, push, blockOf, closed, tested, turn, nested, withinTitle, surveyed}
 use Rattle.compound_law.specs.Standing.{Standing, Sound, sound}
-use Rattle.compound_law.specs.Plain.{says, DataBlock, Since, AllLink, outer, Promised}
+use Rattle.compound_law.specs.Plain.{DataBlock, Since, AllLink, outer, Promised}
 
 pub by-pick : (P : Survey → Type 0) (t : Bool) (a b : Survey) → (t ≡ true → P a) → (t ≡ false → P b) → P (pick t a b)
 by-pick P true a b f g = f refl
@@ -27,7 +27,7 @@ by-pick P false a b f g = g refl
 -- The outermost block has said no less than before.
 weaker : (s : List ℕ) (t u : Bool) (r : Survey) → (u ≡ true → t ≡ true) → Promised s t r → Promised s u r
 weaker s t u (refused c a) h p = tt
-weaker s t u (ended l x bs) h p = (p .0, λ e. p .1 (h e), p .2)
+weaker s t u (ended l o bs) h p = (p .0, λ e. p .1 (h e), p .2)
 
 outer-true : (l : Level) (up : List Level) → l .link ≡ true → outer l up ≡ true
 outer-true l [] h = h
@@ -37,7 +37,7 @@ outer-true l (o ∷ up) h = refl
 pushed : (s : List ℕ) (b : Block) (r : Survey) → DataBlock s b → Promised s true r → Promised s true (push b r)
 unfolding push
 pushed s b (refused c a) d p = tt
-pushed s b (ended l x bs) d p = ((d, p .0), p .1, λ f. no-way (sym f ∙ p .1 refl))
+pushed s b (ended l o bs) d p = ((d, p .0), p .1, λ f. no-way (sym f ∙ p .1 refl))
 
 -- At END.
 block-here : (s : List ℕ) (l : Level) (x n e : ℕ) (v : List ℕ) (rest : Walk) → sames v END ≡ true → Since s l (label x n e v rest) → DataBlock s (blockOf l x e)
@@ -54,9 +54,9 @@ block-here s l x n e v rest h c =
 
 module _ (s : List ℕ) (K : Level → List Level → Survey) (x n e : ℕ) (v : List ℕ) (rest : Walk) (l : Level) (h : sames v END ≡ true)
     (c : l .link ≡ false → Since s l (label x n e v rest)) where
-  here : (t : Bool) → l .link ≡ t → Promised s t (ended l x (pick t [] (blockOf l x e ∷ [])))
+  here : (t : Bool) → l .link ≡ t → Promised s t (ended l (blockOf l x e) (pick t [] (blockOf l x e ∷ [])))
   here true q = (tt, λ e. q, λ f. no-way (sym f ∙ q))
-  here false q = ((block-here s l x n e v rest h (c q), tt), λ f. no-way f, λ f. (e, refl))
+  here false q = ((block-here s l x n e v rest h (c q), tt), λ f. no-way f, λ f. refl)
 
   back : (o : Level) (up : List Level) (t : Bool) → l .link ≡ t → Promised s true (K o up) → Promised s true (pick t (K o up) (push (blockOf l x e) (K o up)))
   back o up true q p = p

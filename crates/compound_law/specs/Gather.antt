@@ -7,8 +7,7 @@ use native.Mathlib.Omega.{arith}
 use native.Mathlib.Nat.{add-assoc}
 use lib.Dec.{leb}
 use lib.IntN.{ℤ}
-use lib.ListN.{length, getD, take, drop, length-drop}
-use lib.Seq.{length-take-le}
+use lib.ListN.{length, getD, take, drop}
 use Rattle.terms.specs.Logic.{pick}
 use Rattle.label_spec.specs.declared.Found.{Found}
 use Rattle.decimal_spec.specs.declared.Count.{Count}
@@ -26,12 +25,10 @@ use Rattle.file_spec.specs.declared.Figures.{Figures}
 use Rattle.file_spec.specs.declared.Figures.the-variants as figures
 use Rattle.file_spec.specs.declared.Listed.{Listed}
 use Rattle.file_spec.specs.declared.Listed.the-variants as listed
-use Rattle.file_spec.specs.Texts.{withText, markOf, listedIn}
+use Rattle.file_spec.specs.Texts.{textIn, withText, markIn, markOf, listedIn}
 use Rattle.file_spec.specs.Figures.{decimalIn, countIn, exceeding, withDecimal, withCount, figuresOf, ratio, abscissa-of, whole, agrees}
-use Rattle.file_spec.specs.File.{FileAnswer, refuse-file, accept-file, inFile, bodyOf, byFirst, byTable, byLast, byAbscissas, byList, byFigures, byRecords}
+use Rattle.file_spec.specs.File.{FileAnswer, refuse-file, accept-file, inFile, byFirst, byTable, byLast, byAbscissas, byList, byFigures, byRecords}
 use Rattle.compound_spec.specs.Cut.{shifted}
-use Rattle.compound_law.specs.Own.{count}
-use Rattle.compound_law.specs.Texts.{part, countOfText, markIn, listOf, own-decimal, own-count, own-mark, own-list, shiftListed, listIn, own-list-in}
 use Rattle.compound_law.specs.Carry.{shiftFound, foundIn}
 
 abbrev pub shiftSpan : ℕ → Span → Span
@@ -92,53 +89,21 @@ with-decimal : (d a : ℕ) (x : Given) (g h : Decimal → Figures) → ((v : Dec
 with-decimal d a given.Misspelled g h e = refl
 with-decimal d a (given.Is v) g h e = e v
 
-with-count : (d c a : ℕ) (x : Count) (g h : ℕ → Figures) → ((v : ℕ) → g v ≡ shiftFigures d (h v)) → withCount (d + a) (count c x) g ≡ shiftFigures d (withCount a x h)
-with-count d c a Count.Misspelled g h e = refl
-with-count d c a (Count.Counted v j) g h e = e v
+with-count : (d a : ℕ) (x : Count) (g h : ℕ → Figures) → ((v : ℕ) → g v ≡ shiftFigures d (h v)) → withCount (d + a) x g ≡ shiftFigures d (withCount a x h)
+with-count d a Count.Misspelled g h e = refl
+with-count d a (Count.Counted v j) g h e = e v
 
 -- The file s holds the text u from m on.
-module _ (s u : List ℕ) (m : ℕ) (fits : m + length u ≤ length s)
+module _ (s u : List ℕ) (m : ℕ)
     (text : (a b : ℕ) → a ≤ length u → b ≤ length u → take (m + b - (m + a)) (drop (m + a) s) ≡ take (b - a) (drop a u)) where
   module _ (t : Span) (i : Inside (length u) t) where
-    same-part : part s (m + t .from) (m + t .to) ≡ part u (t .from) (t .to)
-    same-part = text (t .from) (t .to) (omega (arith, i .low, i .high)) (i .high)
-
-    low : m + t .from ≤ m + t .to
-    low = omega (arith, i .low)
-
-    high : m + t .to ≤ length s
-    high = omega (arith, i .high)
+    -- the text of a record is the same
+    text-cut : textIn s (shiftSpan m t) ≡ textIn u t
+    text-cut = text (t .from) (t .to) (omega (arith, i .low, i .high)) (i .high)
 
     mark-cut : markOf s (shiftSpan m t) ≡ m + markOf u t
-    mark-cut =
-        rw (own-mark s (m + t .from) (m + t .to) low high, own-mark u (t .from) (t .to) (i .low) (i .high), same-part) (add-assoc m (t .from) (markIn (part u (t .from) (t .to))))
-
-    decimal-cut : decimalIn s (shiftSpan m t) ≡ decimalIn u t
-    decimal-cut = rw (own-decimal s (m + t .from) (m + t .to) low high, own-decimal u (t .from) (t .to) (i .low) (i .high), same-part) refl
-
-    count-cut : countIn s (shiftSpan m t) ≡ count m (countIn u t)
-    count-cut = rw (own-count s (m + t .from) (m + t .to) low high, own-count u (t .from) (t .to) (i .low) (i .high), same-part) (twice (countOfText (part u (t .from) (t .to))))
-      where
-        twice : (c : Count) → count (m + t .from) c ≡ count m (count (t .from) c)
-        twice Count.Misspelled = refl
-        twice (Count.Counted v j) = rw (add-assoc m (t .from) j) refl
-
-    list-cut : listedIn s (shiftSpan m t) ≡ shiftListed m (listedIn u t)
-    list-cut = rw (own-list s (m + t .from) (m + t .to) low high, own-list u (t .from) (t .to) (i .low) (i .high), same-part) (twice (listOf (part u (t .from) (t .to))))
-      where
-        twice : (c : Listed) → shiftListed (m + t .from) c ≡ shiftListed m (shiftListed (t .from) c)
-        twice listed.Unlisted = refl
-        twice (listed.Body j) = rw (add-assoc m (t .from) j) refl
-
-    list-here : listIn (length u) (listedIn u t)
-    list-here =
-        let d = length-drop (t .from) u in
-        rw (own-list u (t .from) (t .to) (i .low) (i .high)) (within (listOf (part u (t .from) (t .to))) (own-list-in (part u (t .from) (t .to)))
-        (rw (length-take-le (t .to - t .from) (drop (t .from) u) (omega (arith, i .low, i .high))) (omega (arith, i .low, i .high))))
-      where
-        within : (c : Listed) → listIn (length (part u (t .from) (t .to))) c → t .from + length (part u (t .from) (t .to)) ≤ length u → listIn (length u) (shiftListed (t .from) c)
-        within listed.Unlisted h g = tt
-        within (listed.Body j) h g = omega arith
+    unfolding markOf
+    mark-cut = rw text-cut (add-assoc m (t .from) (markIn (textIn u t)))
 
   module _ (t : Needed) (i : AllInside (length u) t) where
     -- 26
@@ -152,19 +117,19 @@ module _ (s u : List ℕ) (m : ℕ) (fits : m + length u ≤ length s)
           mark-cut (t .lastx) (i .lastx),
           mark-cut (t .npoints) (i .npoints),
           mark-cut (t .firsty) (i .firsty),
-          decimal-cut (t .xfactor) (i .xfactor),
-          decimal-cut (t .yfactor) (i .yfactor),
-          decimal-cut (t .firstx) (i .firstx),
-          decimal-cut (t .lastx) (i .lastx),
-          count-cut (t .npoints) (i .npoints),
-          decimal-cut (t .firsty) (i .firsty),
+          text-cut (t .xfactor) (i .xfactor),
+          text-cut (t .yfactor) (i .yfactor),
+          text-cut (t .firstx) (i .firstx),
+          text-cut (t .lastx) (i .lastx),
+          text-cut (t .npoints) (i .npoints),
+          text-cut (t .firsty) (i .firsty),
         )
-        (with-decimal m _ (exceeding (decimalIn u (t .xfactor))) _ _ (λ xf.
-        with-decimal m _ (exceeding (decimalIn u (t .yfactor))) _ _ (λ yf.
-        with-decimal m _ (decimalIn u (t .firstx)) _ _ (λ fx.
-        with-decimal m _ (decimalIn u (t .lastx)) _ _ (λ lx.
-        with-count m m _ (countIn u (t .npoints)) _ _ (λ n.
-        with-decimal m _ (decimalIn u (t .firsty)) _ _ (λ fy. refl)))))))
+        (with-decimal m _ (exceeding (decimalIn (textIn u (t .xfactor)))) _ _ (λ xf.
+        with-decimal m _ (exceeding (decimalIn (textIn u (t .yfactor)))) _ _ (λ yf.
+        with-decimal m _ (decimalIn (textIn u (t .firstx))) _ _ (λ fx.
+        with-decimal m _ (decimalIn (textIn u (t .lastx))) _ _ (λ lx.
+        with-count m _ (countIn (textIn u (t .npoints))) _ _ (λ n.
+        with-decimal m _ (decimalIn (textIn u (t .firsty))) _ _ (λ fy. refl)))))))
 
     module _ (space : ℕ) (n : Numbers) where
       -- 1 to 13, and 29
@@ -179,35 +144,38 @@ module _ (s u : List ℕ) (m : ℕ) (fits : m + length u ≤ length s)
       unfolding byFirst
       first-cut f l start (refuse c a) = rw (in-file start c a) refl
       first-cut f l start (accept ys) =
-          rw (mark-cut (t .firsty) (i .firsty)) (pick-file m (agrees (getD ys 0 0) (ratio 0 (n .firsty) (n .yfactor))) (accept-file (n .npoints) f l ys) (refuse-file 29 (markOf u (t .firsty))))
+          rw (mark-cut (t .firsty) (i .firsty))
+          (pick-file m (agrees (getD ys 0 0) (ratio 0 (n .firsty) (n .yfactor) .rounded))
+          (accept-file (record { points = n .npoints; first = f; last = l }) ys) (refuse-file 29 (markOf u (t .firsty))))
 
-      module _ (start : ℕ) (h : start ≤ length u) where
-        table-cut : (f l : ℤ) → byTable s space (shiftNeeded m t) n (m + start) f l ≡ shifted m (byTable u space t n start f l)
+      module _ (start : ℕ) where
+        table-cut : (f l : ℤ) → byTable s space (shiftNeeded m t) n start f l ≡ shifted m (byTable u space t n start f l)
         unfolding byTable
         table-cut f l =
-            rw (text start (t .xydata .to) h (i .xydata .high)) (first-cut f l start (readTable f l (n .npoints) (bodyOf u start (t .xydata .to)) space))
+            rw (text-cut (t .xydata) (i .xydata), add-assoc m (t .xydata .from) start)
+            (first-cut f l (t .xydata .from + start) (readTable f l (n .npoints) (drop start (textIn u (t .xydata))) space))
 
         -- 28
-        last-cut : (f : ℤ) (r : Rounded) → byLast s space (shiftNeeded m t) n (m + start) f r ≡ shifted m (byLast u space t n start f r)
+        last-cut : (f : ℤ) (r : Rounded) → byLast s space (shiftNeeded m t) n start f r ≡ shifted m (byLast u space t n start f r)
         unfolding byLast
         last-cut f Rounded.Beyond = rw (mark-cut (t .lastx) (i .lastx)) refl
         last-cut f (Rounded.Whole minus q) = table-cut f (whole minus q)
 
-        abscissas-cut : (r : Rounded) → byAbscissas s space (shiftNeeded m t) n (m + start) r ≡ shifted m (byAbscissas u space t n start r)
+        abscissas-cut : (r : Rounded) → byAbscissas s space (shiftNeeded m t) n start r ≡ shifted m (byAbscissas u space t n start r)
         unfolding byAbscissas
         abscissas-cut Rounded.Beyond = rw (mark-cut (t .firstx) (i .firstx)) refl
-        abscissas-cut (Rounded.Whole minus q) = last-cut (whole minus q) (abscissa-of (n .lastx) (n .xfactor))
+        abscissas-cut (Rounded.Whole minus q) = last-cut (whole minus q) (abscissa-of (n .lastx) (n .xfactor) .rounded)
 
       -- 27
-      listed-cut : (r : Listed) → listIn (length u) r → byList s space (shiftNeeded m t) n (shiftListed m r) ≡ shifted m (byList u space t n r)
+      listed-cut : (r : Listed) → byList s space (shiftNeeded m t) n r ≡ shifted m (byList u space t n r)
       unfolding byList
-      listed-cut listed.Unlisted h = rw (mark-cut (t .xydata) (i .xydata)) refl
-      listed-cut (listed.Body start) h = abscissas-cut start h (abscissa-of (n .firstx) (n .xfactor))
+      listed-cut listed.Unlisted = rw (mark-cut (t .xydata) (i .xydata)) refl
+      listed-cut (listed.Body start) = abscissas-cut start (abscissa-of (n .firstx) (n .xfactor) .rounded)
 
     figured-cut : (space : ℕ) (r : Figures) → byFigures s space (shiftNeeded m t) (shiftFigures m r) ≡ shifted m (byFigures u space t r)
     unfolding byFigures
     figured-cut space (figures.Wrong a) = refl
-    figured-cut space (figures.All n) = rw (list-cut (t .xydata) (i .xydata)) (listed-cut space n (listedIn u (t .xydata)) (list-here (t .xydata) (i .xydata)))
+    figured-cut space (figures.All n) = rw (text-cut (t .xydata) (i .xydata)) (listed-cut space n (listedIn (textIn u (t .xydata))))
 
   -- From 25 on: END's `##` stands at x in the cut.
   pub records-cut : (space x : ℕ) (r : Gathered) → gatheredIn (length u) r → byRecords s space (m + x) (shiftGathered m r) ≡ shifted m (byRecords u space x r)

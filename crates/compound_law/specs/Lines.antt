@@ -10,7 +10,7 @@ use lib.ListN.{length, take, drop, take-append-drop, length-take, length-drop}
 use lib.Seq.{take-add, drop-drop, drop-append-le, take-append-le}
 use Rattle.terms.specs.Logic.{pick}
 use Rattle.label_spec.specs.Labels.{Walk, over, bad, label, walk, from}
-use Rattle.compound_spec.specs.Cut.{lineOf}
+use Rattle.compound_spec.specs.Cut.{restOfLine}
 use Rattle.compound_law.specs.Shift.{shift, walk-shift}
 use Rattle.compound_law.specs.Graft.{graft, lined, walk-graft}
 
@@ -33,54 +33,54 @@ lined-drop (suc k) [] h l = absurd (omega arith)
 lined-drop (suc k) (b ∷ []) h l = absurd (omega arith)
 lined-drop (suc k) (b ∷ c ∷ u) h l = lined-drop k (c ∷ u) h (omega arith)
 
-line-cut : (l : List ℕ) → (lined (take (lineOf l) l) ≡ true) ⊎ (drop (lineOf l) l ≡ [])
-unfolding lineOf
+line-cut : (l : List ℕ) → (lined (take (restOfLine l) l) ≡ true) ⊎ (drop (restOfLine l) l ≡ [])
+unfolding restOfLine
 line-cut [] = inr refl
 line-cut (b ∷ l) = cases (eqb b 10) refl (line-cut l)
   where
-    cases : (t : Bool) → eqb b 10 ≡ t → (lined (take (lineOf l) l) ≡ true) ⊎ (drop (lineOf l) l ≡ [])
-        → (lined (take (pick t 1 (suc (lineOf l))) (b ∷ l)) ≡ true) ⊎ (drop (pick t 1 (suc (lineOf l))) (b ∷ l) ≡ [])
+    cases : (t : Bool) → eqb b 10 ≡ t → (lined (take (restOfLine l) l) ≡ true) ⊎ (drop (restOfLine l) l ≡ [])
+        → (lined (take (pick t 1 (suc (restOfLine l))) (b ∷ l)) ≡ true) ⊎ (drop (pick t 1 (suc (restOfLine l))) (b ∷ l) ≡ [])
     cases true e h = inl e
-    cases false e (inl h) = inl (lined-cons b (take (lineOf l) l) h)
+    cases false e (inl h) = inl (lined-cons b (take (restOfLine l) l) h)
     cases false e (inr h) = inr h
 
-line-some : (l : List ℕ) → 0 < length l → 0 < lineOf l
-unfolding lineOf
+line-some : (l : List ℕ) → 0 < length l → 0 < restOfLine l
+unfolding restOfLine
 line-some [] h = absurd (omega arith)
 line-some (b ∷ l) h = cases (eqb b 10)
   where
-    cases : (t : Bool) → 0 < pick t 1 (suc (lineOf l))
+    cases : (t : Bool) → 0 < pick t 1 (suc (restOfLine l))
     cases true = omega arith
     cases false = omega arith
 
-line-fits : (l : List ℕ) → lineOf l ≤ length l
-unfolding lineOf
+line-fits : (l : List ℕ) → restOfLine l ≤ length l
+unfolding restOfLine
 line-fits [] = omega arith
 line-fits (b ∷ l) = cases (eqb b 10) (line-fits l)
   where
-    cases : (t : Bool) → lineOf l ≤ length l → pick t 1 (suc (lineOf l)) ≤ length (b ∷ l)
+    cases : (t : Bool) → restOfLine l ≤ length l → pick t 1 (suc (restOfLine l)) ≤ length (b ∷ l)
     cases true h = omega arith
     cases false h = omega arith
 
 -- Cut at the end of the line on which the place j stands.
-pub cut-at : (r : List ℕ) (j : ℕ) → Cut r (take (j + lineOf (drop j r)) r) (drop (j + lineOf (drop j r)) r)
+pub cut-at : (r : List ℕ) (j : ℕ) → Cut r (take (j + restOfLine (drop j r)) r) (drop (j + restOfLine (drop j r)) r)
 cut-at r j =
     record {
-      parts = sym (take-append-drop (j + lineOf (drop j r)) r);
+      parts = sym (take-append-drop (j + restOfLine (drop j r)) r);
       ends = cases (line-cut (drop j r));
     }
   where
-    cases : (lined (take (lineOf (drop j r)) (drop j r)) ≡ true) ⊎ (drop (lineOf (drop j r)) (drop j r) ≡ [])
-        → (lined (take (j + lineOf (drop j r)) r) ≡ true) ⊎ (drop (j + lineOf (drop j r)) r ≡ [])
-    cases (inl h) = inl (rw (take-add j (lineOf (drop j r)) r) (lined-append (take j r) (take (lineOf (drop j r)) (drop j r)) h))
-    cases (inr h) = inr (rw (← drop-drop (lineOf (drop j r)) j r) h)
+    cases : (lined (take (restOfLine (drop j r)) (drop j r)) ≡ true) ⊎ (drop (restOfLine (drop j r)) (drop j r) ≡ [])
+        → (lined (take (j + restOfLine (drop j r)) r) ≡ true) ⊎ (drop (j + restOfLine (drop j r)) r ≡ [])
+    cases (inl h) = inl (rw (take-add j (restOfLine (drop j r)) r) (lined-append (take j r) (take (restOfLine (drop j r)) (drop j r)) h))
+    cases (inr h) = inr (rw (← drop-drop (restOfLine (drop j r)) j r) h)
 
-pub cut-holds : (r : List ℕ) (j : ℕ) → j < length r → j < length (take (j + lineOf (drop j r)) r)
+pub cut-holds : (r : List ℕ) (j : ℕ) → j < length r → j < length (take (j + restOfLine (drop j r)) r)
 cut-holds r j h =
     let d = length-drop j r in
     let a = line-some (drop j r) (omega arith) in
     let b = line-fits (drop j r) in
-    rw (length-take (j + lineOf (drop j r)) r) (omega arith)
+    rw (length-take (j + restOfLine (drop j r)) r) (omega arith)
 
 graft-over : (a : Walk) → graft a over ≡ a
 graft-over over = refl

@@ -23,17 +23,17 @@ use Rattle.compound_law.specs.Old.{linkSaid, linkAfter, isCompound, old-
 
 -- The outermost of the blocks that are open: its TITLE's `=` stands at e.
 abbrev outermost : ℕ → Level → List Level → Type 0
-outermost e l [] = l .start ≡ e
+outermost e l [] = l .eq ≡ e
 outermost e l (o ∷ up) = outermost e o up
 
 abbrev Kept : ℕ → Survey → Type 0
 Kept e (refused c a) = Unit
-Kept e (ended l x bs) = l .start ≡ e
+Kept e (ended l o bs) = o .eq ≡ e
 
 push-kept : (e : ℕ) (b : Block) (r : Survey) → Kept e r → Kept e (push b r)
 unfolding push
 push-kept e b (refused c a) h = tt
-push-kept e b (ended l x bs) h = h
+push-kept e b (ended l o bs) h = h
 
 noted-outermost : (e : ℕ) (s v : List ℕ) (a b : ℕ) (l : Level) (up : List Level) → outermost e l up → outermost e (noted s v a b l) up
 unfolding noted
@@ -63,21 +63,20 @@ nested-kept m s (label x n e v rest) l up h = turn-kept m s (nested s rest) x e 
 head-data : (s : List ℕ) (b : Block) (bs : List Block) → bs ≡ b ∷ [] → AllData s bs → DataBlock s b
 head-data s b bs e d = (rw e at d) .0
 
-silent : (s : List ℕ) (e : ℕ) (r : Survey) (l : Level) (x : ℕ) (bs : List Block) → r ≡ ended l x bs → Promised s false r → Kept e r → l .link ≡ false → linkSaid s (from s (e + 1) false) ≡ false
+silent : (s : List ℕ) (e : ℕ) (r : Survey) (l : Level) (x : Block) (bs : List Block) → r ≡ ended l x bs → Promised s false r → Kept e r → l .link ≡ false → linkSaid s (from s (e + 1) false) ≡ false
 silent s e r l x bs h p k f =
     let p' = rw h at p in
-    let q = p' .2 f in
-    let d = head-data s (blockOf l x (q .0)) bs (q .1) (p' .0) in
-    let z : l .start ≡ e = rw h at k in
-    rw (← z) (plain-silent s [] (from s (l .start + 1) false) x (q .0) (d .labels))
+    let d = head-data s x bs (p' .2 f) (p' .0) in
+    let z : x .eq ≡ e = rw h at k in
+    rw (← z) (plain-silent s [] (from s (x .eq + 1) false) (x .end) (x .last) (d .labels))
 
-by-title : (s : List ℕ) (o : Opened) (l : Level) (x : ℕ) (bs : List Block) → withinTitle s o ≡ ended l x bs → Promised s false (withinTitle s o) → l .link ≡ false → linkAfter s o ≡ false
+by-title : (s : List ℕ) (o : Opened) (l : Level) (x : Block) (bs : List Block) → withinTitle s o ≡ ended l x bs → Promised s false (withinTitle s o) → l .link ≡ false → linkAfter s o ≡ false
 unfolding withinTitle linkAfter
 by-title s (Opened.Title m e) l x bs h p f = silent s e (nested s (from s (e + 1) false) (fresh m e) []) l x bs h p (nested-kept e s (from s (e + 1) false) (fresh m e) [] refl) f
 by-title s (Opened.Refused r) l x bs h p f = refl
 
 -- The outermost block is not LINK at its END: no label said so.
-pub one-silent : (s : List ℕ) (l : Level) (x : ℕ) (bs : List Block) → surveyed s ≡ ended l x bs → l .link ≡ false → isCompound s ≡ false
+pub one-silent : (s : List ℕ) (l : Level) (x : Block) (bs : List Block) → surveyed s ≡ ended l x bs → l .link ≡ false → isCompound s ≡ false
 unfolding surveyed isCompound
 one-silent s l x bs h f = cases (leb (length s) longestFile) refl h (found s)
   where
@@ -87,21 +86,21 @@ one-silent s l x bs h f = cases (leb (length s) longestFile) refl h (found s)
     cases false e g p = absurd (let z : _≡_ {A = ℕ} 0 1 = cc in omega arith)
 
 -- The theorem.
-pub one-block : (s : List ℕ) (space : ℕ) (l : Level) (x : ℕ) (bs : List Block) → surveyed s ≡ ended l x bs → l .link ≡ false → readCompound s space ≡ whole (readFile s space)
+pub one-block : (s : List ℕ) (space : ℕ) (l : Level) (x : Block) (bs : List Block) → surveyed s ≡ ended l x bs → l .link ≡ false → readCompound s space ≡ whole (readFile s space)
 one-block s space l x bs h f = old-answers s space (one-silent s l x bs h f)
 
 -- The outermost TITLE's `=` stands in the file.
-start-by : (s : List ℕ) (o : Opened) → opened s ≡ o → (l : Level) (x : ℕ) (bs : List Block) → withinTitle s o ≡ ended l x bs → l .start < length s
+start-by : (s : List ℕ) (o : Opened) → opened s ≡ o → (l : Level) (x : Block) (bs : List Block) → withinTitle s o ≡ ended l x bs → x .eq < length s
 unfolding withinTitle
 start-by s (Opened.Title m e) h l x bs g =
     let k = rw g at (nested-kept e s (from s (e + 1) false) (fresh m e) [] refl) in
     rw k ((opened-since s m e h) .high)
 start-by s (Opened.Refused r) h l x bs g = absurd (let z : _≡_ {A = ℕ} 0 1 = cc in omega arith)
 
-pub start-in : (s : List ℕ) (l : Level) (x : ℕ) (bs : List Block) → surveyed s ≡ ended l x bs → (l .start < length s) × (length s ≤ longestFile)
+pub start-in : (s : List ℕ) (l : Level) (x : Block) (bs : List Block) → surveyed s ≡ ended l x bs → (x .eq < length s) × (length s ≤ longestFile)
 unfolding surveyed
 start-in s l x bs h = cases (leb (length s) longestFile) refl h
   where
-    cases : (t : Bool) → leb (length s) longestFile ≡ t → pick t (withinTitle s (opened s)) (refused 19 0) ≡ ended l x bs → (l .start < length s) × (length s ≤ longestFile)
+    cases : (t : Bool) → leb (length s) longestFile ≡ t → pick t (withinTitle s (opened s)) (refused 19 0) ≡ ended l x bs → (x .eq < length s) × (length s ≤ longestFile)
     cases true e g = (start-by s (opened s) refl l x bs g, leb-true (length s) longestFile e)
     cases false e g = absurd (let z : _≡_ {A = ℕ} 0 1 = cc in omega arith)

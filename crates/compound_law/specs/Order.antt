@@ -13,10 +13,10 @@ use Rattle.label_spec.specs.Labels.{Walk, over, bad, label, from}
 use Rattle.label_spec.specs.File.{longestFile, twice, opened}
 use Rattle.label_spec.specs.Records.{markOf}
 use Rattle.compound_spec.specs.declared.Block.{Block}
-use Rattle.compound_spec.specs.Blocks.{Level, fresh, noted, deepest, Survey, refused, ended, push, blockOf, closed, tested, turn, nested, withinTitle, surveyed}
+use Rattle.compound_spec.specs.Blocks.{says, Level, fresh, noted, deepest, Survey, refused, ended, push, blockOf, closed, tested, turn, nested, withinTitle, surveyed}
 use Rattle.compound_law.specs.Standing.{Sound, sound}
 use Rattle.compound_law.specs.Above.{Above, from-above}
-use Rattle.compound_law.specs.Plain.{says, AllLink}
+use Rattle.compound_law.specs.Plain.{AllLink}
 use Rattle.compound_law.specs.Found.{by-pick, neither, opened-since}
 
 -- From the place lo on, one after the other.
@@ -26,12 +26,12 @@ Rising lo (b ∷ bs) = (lo ≤ b .title) × (b .title < b .last) × Rising (b .l
 
 abbrev Ordered : ℕ → Survey → Type 0
 Ordered lo (refused c a) = Unit
-Ordered lo (ended l x bs) = Rising lo bs
+Ordered lo (ended l o bs) = Rising lo bs
 
 push-ordered : (lo : ℕ) (b : Block) (r : Survey) → lo ≤ b .title → b .title < b .last → Ordered (b .last) r → Ordered lo (push b r)
 unfolding push
 push-ordered lo b (refused c a) h g o = tt
-push-ordered lo b (ended l x bs) h g o = (h, g, o)
+push-ordered lo b (ended l w bs) h g o = (h, g, o)
 
 -- A block that is not LINK stands from lo on, and its TITLE before i.
 abbrev Stands : ℕ → ℕ → Level → Type 0
@@ -89,5 +89,5 @@ unfolding surveyed
 survey-ordered s = by-pick (Ordered 0) (leb (length s) longestFile) _ _ (λ h. within-ordered s (opened s) refl) (λ h. tt)
 
 -- The theorem.
-pub in-order : (s : List ℕ) (l : Level) (x : ℕ) (bs : List Block) → surveyed s ≡ ended l x bs → Rising 0 bs
-in-order s l x bs h = rw h at (survey-ordered s)
+pub in-order : (s : List ℕ) (l : Level) (o : Block) (bs : List Block) → surveyed s ≡ ended l o bs → Rising 0 bs
+in-order s l o bs h = rw h at (survey-ordered s)

@@ -3,20 +3,15 @@ use mathlib.Core.Path.{_≡_, refl}
 use mathlib.Core.Bool.{Bool, true, false}
 use mathlib.Core.List.{List, [], _∷_, _++_}
 use mathlib.Core.Logic.{_⊎_, inl, inr}
-use Prim.Native.Nat.{ℕ, _+_, _-_, _<_}
-use lib.ListN.{length, take, drop}
-use Rattle.terms.specs.Logic.{both}
+use Prim.Native.Nat.{ℕ, _+_, _<_}
+use lib.ListN.{length}
 use Rattle.label_spec.specs.declared.Walked.{Walked}
 use Rattle.label_spec.specs.Names.{sames, TITLE, END}
 use Rattle.label_spec.specs.Labels.{Walk, over, bad, label, from, hashed}
 use Rattle.label_spec.specs.File.{twice, judged}
 use Rattle.label_spec.specs.Records.{markOf}
 use Rattle.compound_spec.specs.declared.Block.{Block}
-use Rattle.compound_spec.specs.Blocks.{DATATYPE, LINK, isWord, Level, Survey, refused, ended, blockOf}
-
--- Does a label with the name v, whose text runs from a to b, say that its block is LINK?
-abbrev pub says : List ℕ → List ℕ → ℕ → ℕ → Bool
-says s v a b = both (sames v DATATYPE) (isWord LINK (take (b - a) (drop a s)))
+use Rattle.compound_spec.specs.Blocks.{says, Level, Survey, refused, ended}
 
 -- One label of the block's own that is not its END.
 pub record Own (s : List ℕ) (done : List (List ℕ)) (e : ℕ) (v : List ℕ) (b : ℕ) : Type 0 where
@@ -51,9 +46,9 @@ pub record DataBlock (s : List ℕ) (b : Block) : Type 0 where
   pub text : ℕ
   pub is-title : sames name TITLE ≡ true
   pub hash : hashed s (b .title) ≡ true
-  pub at : from s (b .title) true ≡ label (b .title) text (b .start) name (from s (b .start + 1) false)
-  pub high : b .start < length s
-  pub labels : Plain s [] (from s (b .start + 1) false) (b .end) (b .last)
+  pub at : from s (b .title) true ≡ label (b .title) text (b .eq) name (from s (b .eq + 1) false)
+  pub high : b .eq < length s
+  pub labels : Plain s [] (from s (b .eq + 1) false) (b .end) (b .last)
 
 -- The block l is open, and k is what follows.
 pub record Since (s : List ℕ) (l : Level) (k : Walk) : Type 0 where
@@ -61,9 +56,9 @@ pub record Since (s : List ℕ) (l : Level) (k : Walk) : Type 0 where
   pub text : ℕ
   pub is-title : sames name TITLE ≡ true
   pub hash : hashed s (l .title) ≡ true
-  pub at : from s (l .title) true ≡ label (l .title) text (l .start) name (from s (l .start + 1) false)
-  pub high : l .start < length s
-  pub up-to : (x q : ℕ) → Plain s (l .names) k x q → Plain s [] (from s (l .start + 1) false) x q
+  pub at : from s (l .title) true ≡ label (l .title) text (l .eq) name (from s (l .eq + 1) false)
+  pub high : l .eq < length s
+  pub up-to : (x q : ℕ) → Plain s (l .names) k x q → Plain s [] (from s (l .eq + 1) false) x q
 
 -- Has each block around said that it is LINK? Has the outermost?
 abbrev pub AllLink : List Level → Type 0
@@ -81,4 +76,4 @@ AllData s (b ∷ bs) = DataBlock s b × AllData s bs
 -- What a survey finds are data blocks; a file whose outermost block is not LINK is that one.
 abbrev pub Promised : List ℕ → Bool → Survey → Type 0
 Promised s t (refused c a) = Unit
-Promised s t (ended l x bs) = AllData s bs × (t ≡ true → l .link ≡ true) × (l .link ≡ false → (q : ℕ) × (bs ≡ blockOf l x q ∷ []))
+Promised s t (ended l o bs) = AllData s bs × (t ≡ true → l .link ≡ true) × (l .link ≡ false → bs ≡ o ∷ [])
