@@ -11,3 +11,7 @@ pub mod Old
 pub mod One
 pub mod Gather
 pub mod CutOut
+pub mod Places
+pub mod Theorems
+pub mod Samples
+pub mod Flat
