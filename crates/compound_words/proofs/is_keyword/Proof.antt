@@ -1,0 +1,36 @@
+-- `compound_words::is_keyword` meets its contract: blanks, line ends and comments before and after the word.
+use native.Mathlib.Omega.{arith}
+use borrow.Author.Tests.{not-true, not-false}
+use Rattle.compound_words.proofs.WordTurns.{keyword-no, keyword-yes}
+use borrow.Author.Needs.{needs}
+use Rattle.compound_words.proofs.is_keyword.Statement.{statement}
+use Rattle.compound_words.proofs.is_keyword.Tie as tie
+
+past-space-requires : tie.Need-past-space-requires
+past-space-requires c κs = search needs
+
+word-at-requires : tie.Need-word-at-requires
+word-at-requires c κs = search needs
+
+returns : tie.Need-returns
+returns c = keyword-no _ _ _ (c .before .before .past-space .ensures .is) (rw (not-true (c .before .word-at .result) (c .if1 .taken)) at (c .before .word-at .ensures))
+
+add-past-space : tie.Need-add-past-space
+add-past-space c = search needs
+
+past-space-requires-2 : tie.Need-past-space-requires-2
+past-space-requires-2 c κs = c .before .word-at .ensures .fits (not-false _ (c .if1 .left))
+
+returns-2 : tie.Need-returns-2
+returns-2 c = keyword-yes _ _ _ _ (c .before .before .before .past-space .ensures .is) (rw (not-false (c .before .before .word-at .result) (c .before .if1 .left)) at (c .before .before .word-at .ensures)) (c .past-space2 .ensures .is)
+
+pub is-keyword-spec : {M : Type 1} → statement M
+is-keyword-spec =
+    tie.close
+    (tie.spec
+    past-space-requires
+    word-at-requires
+    returns
+    add-past-space
+    past-space-requires-2
+    returns-2)
