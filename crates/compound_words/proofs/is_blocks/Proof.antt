@@ -1,7 +1,7 @@
 -- `compound_words::is_blocks` meets its contract: by the name.
+use borrow.Author.Needs.{needs}
 use Rattle.label_spec.specs.Names.{norm, ignored, blank, upper}
 use Rattle.compound_spec.specs.Blocks.{BLOCKS}
-use borrow.Author.Needs.{needs}
 use Rattle.compound_words.proofs.is_blocks.Statement.{statement}
 use Rattle.compound_words.proofs.is_blocks.Tie as tie
 

@@ -1,8 +1,7 @@
 -- `compound_words::is_keyword` meets its contract: blanks, line ends and comments before and after the word.
-use native.Mathlib.Omega.{arith}
 use borrow.Author.Tests.{not-true, not-false}
-use Rattle.compound_words.proofs.WordTurns.{keyword-no, keyword-yes}
 use borrow.Author.Needs.{needs}
+use Rattle.compound_words.proofs.WordTurns.{keyword-no, keyword-yes}
 use Rattle.compound_words.proofs.is_keyword.Statement.{statement}
 use Rattle.compound_words.proofs.is_keyword.Tie as tie
 

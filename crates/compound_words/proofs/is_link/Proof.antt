@@ -1,6 +1,6 @@
 -- `compound_words::is_link` meets its contract: by the word LINK.
-use Rattle.compound_spec.specs.Blocks.{LINK}
 use borrow.Author.Needs.{needs}
+use Rattle.compound_spec.specs.Blocks.{LINK}
 use Rattle.compound_words.proofs.is_link.Statement.{statement}
 use Rattle.compound_words.proofs.is_link.Tie as tie
 

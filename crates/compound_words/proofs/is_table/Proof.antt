@@ -1,6 +1,6 @@
 -- `compound_words::is_table` meets its contract: by the name.
-use Rattle.label_spec.specs.Names.{norm, ignored, blank, upper}
 use borrow.Author.Needs.{needs}
+use Rattle.label_spec.specs.Names.{norm, ignored, blank, upper}
 use Rattle.compound_words.proofs.is_table.Statement.{statement}
 use Rattle.compound_words.proofs.is_table.Tie as tie
 

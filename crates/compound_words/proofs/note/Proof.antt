@@ -1,7 +1,7 @@
 -- `compound_words::note` meets its contract: field by field.
 use mathlib.Core.Path.{refl}
-use Rattle.compound_words.specs.Post.{noteOf}
 use borrow.Author.Needs.{needs}
+use Rattle.compound_words.specs.Post.{noteOf}
 use Rattle.compound_words.proofs.note.Statement.{statement}
 use Rattle.compound_words.proofs.note.Tie as tie
 

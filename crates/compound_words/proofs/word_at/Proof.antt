@@ -1,8 +1,8 @@
 -- `compound_words::word_at` meets its contract: byte for byte, as far as the word goes.
-use borrow.Author.Needs.{needs}
 use Prim.Native.Nat.{_-_}
 use native.Mathlib.Omega.{arith}
 use lib.ListN.{length}
+use borrow.Author.Needs.{needs}
 use Rattle.compound_words.proofs.WordTurns.{Word, word-begin, word-done, word-short, word-differs, word-on}
 use Rattle.compound_words.proofs.word_at.Statement.{statement}
 use Rattle.compound_words.proofs.word_at.Tie as tie
