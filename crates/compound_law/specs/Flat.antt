@@ -50,7 +50,7 @@ by-pick : (P : Survey → Type 0) (t : Bool) (a b : Survey) → (t ≡ true → 
 by-pick P true a b f g = f refl
 by-pick P false a b f g = g refl
 
-zeroth : (s : List ℕ) (k : Walk) (t : Last) → flat s k 0 t ≡ []
+pub zeroth : (s : List ℕ) (k : Walk) (t : Last) → flat s k 0 t ≡ []
 unfolding flat passed
 zeroth s over t = refl
 zeroth s (bad x rest) t = refl

@@ -1,11 +1,10 @@
 -- 02, T-07 "Compound files": what a file of one block or of many says. Assumes nothing.
-use mathlib.Core.List.{List, [], _∷_, map}
+use mathlib.Core.List.{List, map}
 use Prim.Native.Nat.{ℕ, suc}
-use lib.Dec.{leb, eqb}
+use lib.Dec.{eqb}
 use lib.ListN.{length}
-use Rattle.terms.specs.Logic.{pick, both}
+use Rattle.terms.specs.Logic.{pick}
 use Rattle.label_spec.specs.declared.Found.{Found}
-use Rattle.label_spec.specs.File.{longestFile}
 use Rattle.decimal_spec.specs.declared.Count.{Count}
 use Rattle.file_spec.specs.declared.Span.{Span}
 use Rattle.file_spec.specs.Texts.{textIn, gatheredFrom, markOf}

@@ -1,3 +1,4 @@
 pub mod Blocks
 pub mod Compound
 pub mod Cut
+pub mod Answers
