@@ -27,7 +27,7 @@ use terms::Fault;
 const LONGEST_FILE: usize = 1048576;
 
 // Where the walk over a block ends: at its END, whose `##` and `=` stand at these places, with what its own labels said and how many data blocks stand in it; or at the first fault.
-pub enum Closed {
+enum Closed {
     Ended {
         end: usize,
         last: usize,
