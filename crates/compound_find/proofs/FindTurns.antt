@@ -4,8 +4,8 @@ use mathlib.Core.Bool.{Bool, true, false}
 use mathlib.Core.List.{List, [], _∷_}
 use Prim.Native.Nat.{ℕ, _+_, _/_, _<_, _≤_}
 use native.Mathlib.Omega.{arith}
-use lib.Dec.{leb, eqb}
-use lib.ListN.{length, take}
+use lib.Dec.{eqb}
+use lib.ListN.{length}
 use lib.Seq.{sets, take-all, length-sets}
 use borrow.Author.Tests.{eq-eqb, ne-eqb, le-leb}
 use Rattle.terms.specs.Logic.{pick, zero-one}

@@ -40,7 +40,8 @@ unfolding noted
 noted-outermost e s v a b l [] h = h
 noted-outermost e s v a b l (o ∷ up) h = h
 
-closed-kept : (m : ℕ) (K : Level → List Level → Survey) (l : Level) (x q : ℕ) (up : List Level) → ((o : Level) (ups : List Level) → outermost m o ups → Kept m (K o ups)) → outermost m l up → Kept m (closed K l x q up)
+closed-kept : (m : ℕ) (K : Level → List Level → Survey) (l : Level) (x q : ℕ) (up : List Level)
+    → ((o : Level) (ups : List Level) → outermost m o ups → Kept m (K o ups)) → outermost m l up → Kept m (closed K l x q up)
 unfolding closed
 closed-kept m K l x q [] k h = h
 closed-kept m K l x q (o ∷ up) k h = by-pick (Kept m) (l .link) _ _ (λ f. k o up h) (λ f. push-kept m (blockOf l x q) (K o up) (k o up h))

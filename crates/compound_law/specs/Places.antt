@@ -1,5 +1,5 @@
 -- 02, T-07 and T-01: the line and the column of a place of a data block, in place and in the cut. The cut begins at the place m of the file and has k bytes.
-use mathlib.Core.Path.{_≡_, sym, _∙_}
+use mathlib.Core.Path.{_≡_}
 use mathlib.Core.List.{List}
 use Prim.Native.Nat.{ℕ, suc, _+_, _≤_}
 use lib.ListN.{length, take, drop, take-append-drop}

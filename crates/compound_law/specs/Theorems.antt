@@ -1,26 +1,27 @@
 -- 02, T-07 "Compound files": what is proved of the definitions of compound_spec, in their words.
-use mathlib.Core.Path.{_≡_, refl, sym, _∙_}
+use mathlib.Core.Path.{_≡_, refl, ap, sym, _∙_}
 use mathlib.Core.Bool.{Bool, true, false}
 use mathlib.Core.List.{List, [], _∷_, map}
-use Prim.Native.Nat.{ℕ, _≤_}
+use Prim.Native.Nat.{ℕ, suc, _≤_}
 use native.Mathlib.Omega.{arith}
 use lib.Dec.{leb, eqb}
 use lib.ListN.{length}
-use borrow.Author.Tests.{leb-true, eqb-true}
+use borrow.Author.Tests.{leb-true, eqb-true, le-leb}
 use Rattle.terms.specs.Logic.{pick, zero-one}
 use Rattle.label_spec.specs.declared.Found.{Found}
 use Rattle.label_spec.specs.File.{longestFile, opened}
 use Rattle.decimal_spec.specs.declared.Count.{Count}
 use Rattle.file_spec.specs.Texts.{textIn, markOf}
 use Rattle.file_spec.specs.Figures.{countIn}
-use Rattle.file_spec.specs.File.{FileAnswer, refuse-file, readFile}
+use Rattle.file_spec.specs.File.{FileAnswer, readFile}
 use Rattle.compound_spec.specs.declared.Block.{Block}
 use Rattle.compound_spec.specs.Blocks.{Level, Survey, refused, ended, withinTitle, surveyed}
 use Rattle.compound_spec.specs.Compound.{BlocksAnswer, refuse-blocks, one-block, all-blocks, whole, each, inBlock, answersOf, spanOf, byCount, byBlocks, bySurvey, findBlocks, readCompound}
 use Rattle.compound_spec.specs.Cut.{cutOut, shifted}
-use Rattle.compound_law.specs.Plain.{AllData, Promised}
+use Rattle.compound_spec.specs.Answers.{answer, readBlock}
+use Rattle.compound_law.specs.Plain.{DataBlock, AllData, Promised}
 use Rattle.compound_law.specs.Found.{found}
-use Rattle.compound_law.specs.CutOut.{cut-out, cut-alone}
+use Rattle.compound_law.specs.CutOut.{bounds, cut-out, cut-alone}
 
 -- "a data block cut out as a file must read exactly as it does in place, places shifted (1 and 2 at 0)": by this reader, and by the simple one
 pub record ReadsAlike (s : List ℕ) (space : ℕ) (b : Block) : Type 0 where
@@ -114,3 +115,11 @@ as-cut s space rs h = cases (findBlocks s) refl h
     cases (refuse-blocks c a) e g = zero-one cc
     cases (one-block b) e g = zero-one cc
     cases (all-blocks bs) e g = let z : map (inBlock s space) bs ≡ rs = cc in (bs, e, sym z ∙ alike-map s space bs (blocks-alike s space bs e))
+
+-- Read by its places, a data block of a file gives its answer: that of the block cut out as a file, places shifted.
+pub by-places : (s : List ℕ) (space : ℕ) (b : Block) → DataBlock s b → length s ≤ longestFile → readBlock s space (suc (b .eq)) (b .end) ≡ answer (cutAnswer s space b)
+unfolding readBlock
+by-places s space b d h =
+    let i = bounds s b d in
+    rw (le-leb (length s) longestFile h, le-leb (suc (b .eq)) (b .end) (omega (arith, i .close-low)), le-leb (b .end) (length s) (omega (arith, i .close-high, i .inside)))
+    (ap answer (cut-out s b d h space))

@@ -5,10 +5,10 @@ use mathlib.Core.List.{List, [], _∷_}
 use Prim.Native.Nat.{ℕ, zero, suc, _+_, _-_, _<_, _≤_}
 use native.Mathlib.Numerals.{add-one}
 use native.Mathlib.Omega.{arith}
-use lib.Dec.{leb, ltb, eqb}
+use lib.Dec.{leb, eqb}
 use lib.ListN.{length, take, drop}
 use Rattle.label_spec.specs.NameLaws.{name-end}
-use borrow.Author.Tests.{leb-true, leb-false, ltb-true, ltb-false, lt-ltb, le-ltb, ne-eqb}
+use borrow.Author.Tests.{leb-true, leb-false, lt-ltb, le-ltb, ne-eqb}
 use Rattle.terms.specs.Logic.{both, both-true, zero-one, no-way}
 use Rattle.label_spec.specs.SharedLaws.{picked}
 use Rattle.label_spec.specs.Names.{blank, ignored, upper, norm, sames, TITLE, END, nameIn}
@@ -26,7 +26,7 @@ use Rattle.label.proofs.MarkTurns.{restOf, mark-here, mark-rest}
 use Rattle.label.proofs.WalkTurns.{mark-is}
 use Rattle.compound_names.specs.declared.Meet.{Meet}
 use Rattle.compound_names.specs.OwnNames.{leave, meet, ownKnown, ownClash}
-use Rattle.compound_names.specs.Post.{otherBy, rested, Meets, Passes}
+use Rattle.compound_names.specs.Post.{otherBy, Meets, Passes}
 
 -- `met`
 module _ (w v : List ℕ) (d : ℕ) where

@@ -1,21 +1,19 @@
 -- The turns of reading a data block and of finding a record of it: no place of the code is named here.
 use mathlib.Core.Path.{_≡_, refl, ap, sym, _∙_}
-use mathlib.Core.Bool.{Bool, true, false}
+use mathlib.Core.Bool.{true, false}
 use mathlib.Core.List.{List}
 use Prim.Native.Nat.{ℕ, _+_, _<_, _≤_}
 use native.Mathlib.Omega.{arith}
-use lib.Dec.{leb, ltb}
 use lib.IntN.{ℤ}
 use lib.ListN.{length}
 use borrow.Author.Tests.{le-leb, lt-leb, lt-ltb, le-ltb}
-use Rattle.terms.specs.Logic.{pick, both, zero-one}
+use Rattle.terms.specs.Logic.{zero-one}
 use Rattle.terms.specs.Refusals.{fault-at, refusalIn}
 use Rattle.terms.specs.declared.Fault.{Fault}
 use Rattle.terms.specs.declared.Refusal.{Refusal}
-use Rattle.label_spec.specs.Names.{nameIn, sames}
-use Rattle.label_spec.specs.Labels.{from, hashed, label}
+use Rattle.label_spec.specs.Labels.{from, hashed}
 use Rattle.label_spec.specs.File.{longestFile}
-use Rattle.label_spec.specs.Records.{markOf, recordOf, asRecord}
+use Rattle.label_spec.specs.Records.{recordOf, asRecord}
 use Rattle.label_spec.specs.declared.Spot.the-variants.{Place, Nowhere}
 use Rattle.label_spec.specs.declared.Found.{Found}
 use Rattle.label_spec.specs.declared.Record.{Record}
@@ -26,7 +24,7 @@ use Rattle.label.proofs.WalkTurns.{mark-is}
 use Rattle.file_spec.specs.declared.FileTable.{FileTable}
 use Rattle.file_spec.specs.declared.FileStaged.{FileStaged}
 use Rattle.file_spec.specs.Texts.{gatheredFrom}
-use Rattle.file_spec.specs.File.{FileAnswer, refuse-file, accept-file, staged, storedFile, byRecords}
+use Rattle.file_spec.specs.File.{FileAnswer, refuse-file, accept-file, staged, byRecords}
 use Rattle.file.specs.Answers.{StageSays}
 use Rattle.compound_spec.specs.declared.BlockRead.{BlockRead}
 use Rattle.compound_spec.specs.Compound.{inPlace}

@@ -1,7 +1,7 @@
 // A data block of a file, read where it stands, and a record of it (02, T-07). `compound_find::find_blocks` tells its places.
 ghost use mathlib.Core.Path.{_≡_};
 ghost use mathlib.Core.Bool.{true};
-ghost use Prim.Native.Nat.{_<_, _≤_};
+ghost use Prim.Native.Nat.{_<_};
 ghost use lib.ListN.{length};
 ghost use Rattle.label_spec.specs.Names.{norm};
 ghost use Rattle.label_spec.specs.Labels.{from, hashed};

@@ -165,7 +165,8 @@ module _ (s : List ℕ) (m e left i : ℕ) (o : Own) (t : ℕ) (c : Gone s m e l
           once = sym (clash-is s e i (c .names) (c .scanned) x n q v f low mid) ∙ k
 
           both-is : (w : Bool) → both ((noteOf s v (q + 1) b o) .link) ((noteOf s v (q + 1) b o) .table) ≡ w
-              → both ((noted s v (q + 1) (markOf (length s) (from s (q + 1) false)) (levelOf m e (c .names) o)) .link) ((noted s v (q + 1) (markOf (length s) (from s (q + 1) false)) (levelOf m e (c .names) o)) .table) ≡ w
+              → both ((noted s v (q + 1) (markOf (length s) (from s (q + 1) false)) (levelOf m e (c .names) o)) .link)
+              ((noted s v (q + 1) (markOf (length s) (from s (q + 1) false)) (levelOf m e (c .names) o)) .table) ≡ w
           unfolding noted noteOf
           both-is w l = rw z at l
 
@@ -177,7 +178,8 @@ module _ (s : List ℕ) (m e left i : ℕ) (o : Own) (t : ℕ) (c : Gone s m e l
               record {
                 names = c .names ++ v ∷ [];
                 found = c .found;
-                sofar = rw z (rw (level-noted s v (q + 1) (markOf (length s) (from s (q + 1) false)) m e (c .names) o) at (walks.at-own s m e left i (levelOf m e (c .names) o) (c .found) (c .sofar) x n q v f g h once (both-is false l)));
+                sofar = rw z (rw (level-noted s v (q + 1) (markOf (length s) (from s (q + 1) false)) m e (c .names) o) at
+                    (walks.at-own s m e left i (levelOf m e (c .names) o) (c .found) (c .sofar) x n q v f g h once (both-is false l)));
                 scanned = scan-own s e i (c .names) (c .scanned) x n q v f low mid g h;
                 count = c .count;
                 text = text-noted s v (q + 1) b o near far (c .text);

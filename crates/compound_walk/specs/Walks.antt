@@ -122,7 +122,8 @@ module _ (s : List ℕ) (m e left i : ℕ) (l : Level) (bs : List Block) (inv : 
 
         -- 33, or a label of the block's own.
         module _ (o : twice v (l .names) ≡ false) where
-          pub at-table : both ((noted s v (q + 1) (markOf (length s) (from s (q + 1) false)) l) .link) ((noted s v (q + 1) (markOf (length s) (from s (q + 1) false)) l) .table) ≡ true → Walks s m e left (fault 33 x)
+          pub at-table : both ((noted s v (q + 1) (markOf (length s) (from s (q + 1) false)) l) .link)
+              ((noted s v (q + 1) (markOf (length s) (from s (q + 1) false)) l) .table) ≡ true → Walks s m e left (fault 33 x)
           unfolding resume turn tested
           at-table z = record { law = λ up h. here up h ∙ rw (g, t, o, z) (prepend-refused bs 33 x) }
 

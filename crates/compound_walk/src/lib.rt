@@ -1,10 +1,9 @@
 // The walk over the blocks of a file (02, T-07): 20, 22, 23, 24 and 33, what the outermost block's own labels say, and how many data blocks there are.
 ghost use mathlib.Core.Path.{_≡_};
-ghost use Prim.Native.Nat.{_+_, _<_, _≤_};
+ghost use Prim.Native.Nat.{_+_, _<_};
 ghost use lib.ListN.{length};
 ghost use Rattle.terms.specs.Logic.{both};
 ghost use Rattle.terms.specs.Refusals.{fault-at};
-ghost use Rattle.compound_spec.specs.Blocks.{surveyed};
 ghost use Rattle.compound_walk.specs.declared.Closed.{Closed};
 ghost use Rattle.compound_walk.specs.Turns.{counted, Closes};
 ghost use Rattle.compound_walk.specs.Told.{Surveys};

@@ -1,11 +1,10 @@
-use mathlib.Core.Path.{_≡_, refl, ap, _∙_}
-use mathlib.Core.List.{List}
-use Prim.Native.Nat.{ℕ}
+-- `compound_blocks::store_blocks` meets its contract: what is left to be stored makes the slice what it is to be.
+use mathlib.Core.Path.{_≡_, refl}
 use mathlib.Core.Bool.{false}
 use Prim.Native.Nat.{_+_, _-_}
 use native.Mathlib.Omega.{arith}
 use lib.ListN.{length}
-use lib.Seq.{sets, length-sets}
+use lib.Seq.{sets}
 use borrow.Author.Needs.{needs}
 use Rattle.label_spec.specs.Labels.{from}
 use Rattle.compound_spec.specs.Answers.{entries}
@@ -13,143 +12,142 @@ use Rattle.compound_law.specs.Flat.{plain, flat}
 use Rattle.compound_blocks.proofs.PassTurns.{Pass, pass-begin, pass-done, pass-over, pass-other, pass-link, pass-title, pass-shut, pass-block, put-length}
 use Rattle.compound_blocks.proofs.store_blocks.Statement.{statement}
 use Rattle.compound_blocks.proofs.store_blocks.Tie as tie
-use Rattle.compound_blocks.proofs.store_blocks.Reads as reads
-use Rattle.compound_blocks.proofs.store_blocks.Lts as lts
-use Rattle.compound_blocks.proofs.after_line.Reads as after-line-reads
-use Rattle.compound_blocks.proofs.next_seen.Reads as next-seen-reads
-use Rattle.compound_blocks.proofs.put_block.Reads as put-block-reads
 
 abbrev Inv-loop : tie.InvT-loop
-Inv-loop file blocks₀ title eq n at₀ head₀ start₀ unlinked₀ i₀ left₀ blocks at head start unlinked i left = (length blocks ≡ length blocks₀) × Pass file (sets blocks₀ 0 (entries file (flat file (from file (eq + 1) false) n (plain title eq)))) blocks at head start unlinked i left
+Inv-loop file blocks₀ title eq n at₀ head₀ start₀ unlinked₀ i₀ left₀ blocks at head start unlinked i left =
+    (length blocks ≡ length blocks₀)
+    × Pass file (sets blocks₀ 0 (entries file (flat file (from file (eq + 1) false) n (plain title eq)))) blocks at head start unlinked i left
 
 abbrev μ-loop : tie.MeasureT-loop
 μ-loop file blocks₀ title eq n at₀ head₀ start₀ unlinked₀ i₀ left₀ blocks at head start unlinked i left = length file - at
 
--- src/lib.rt:85:18
 add-at : tie.Need-add-at Inv-loop μ-loop
 add-at c = search needs
 
--- src/lib.rt:91:5
 loop-holds : tie.Need-loop-holds Inv-loop μ-loop
 loop-holds c = (refl, pass-begin _ _ _ _ _ (c .before .before .pre .0) (c .before .before .pre .1))
 
--- src/lib.rt:92:15
 next-seen-requires : tie.Need-next-seen-requires Inv-loop μ-loop
 next-seen-requires c κs = c .before .loop .inv .1 .high
 
--- src/lib.rt:94:17
 enum-told : tie.Need-enum-told Inv-loop μ-loop
 enum-told c = search needs
 
--- src/lib.rt:94:17
 same-length : tie.Need-same-length Inv-loop μ-loop
 same-length c = c .before .before .before .before .loop .inv .0
 
--- src/lib.rt:94:17
 returns : tie.Need-returns Inv-loop μ-loop
-returns c = pass-over _ _ _ _ _ _ _ _ _ (c .before .before .before .before .loop .inv .1) (c .before .before .before .before .loop .left - 1) (omega (arith, c .before .before .before .loop-test .taken)) (rw (c .enum-told .given .1) at (c .before .before .next-seen .ensures))
+returns c =
+    let at-next-seen = c .before .before in let at-loop-test = at-next-seen .before in let at-loop = at-loop-test .before in
+    pass-over _ _ _ _ _ _ _ _ _ (at-loop .loop .inv .1) (at-loop .loop .left - 1) (omega (arith, at-loop-test .loop-test .taken)) (rw (c .enum-told .given .1) at
+    (at-next-seen .next-seen .ensures))
 
--- src/lib.rt:96:25
 enum-known-mark : tie.Need-enum-known-mark Inv-loop μ-loop
 enum-known-mark c = search needs
 
--- src/lib.rt:98:25
 after-line-requires : tie.Need-after-line-requires Inv-loop μ-loop
 after-line-requires c κs = let x = rw (c .before .before .mark .given .1) at (c .before .before .before .before .next-seen .ensures) in omega (arith, x .says .2)
 
--- src/lib.rt:99:21
 put-block-requires : tie.Need-put-block-requires Inv-loop μ-loop
-put-block-requires c κs = omega (arith, c .before .before .before .before .before .before .before .before .loop .inv .1 .room, c .before .before .before .before .before .before .before .loop-test .taken)
+put-block-requires c κs =
+    let at-loop-test = c .before .before .before .before .before .before .before in let at-loop = at-loop-test .before in
+    omega (arith, at-loop .loop .inv .1 .room, at-loop-test .loop-test .taken)
 
--- src/lib.rt:100:21
 add-i : tie.Need-add-i Inv-loop μ-loop
-add-i c = omega (arith, c .before .before .before .before .before .before .before .before .before .before .before .loop .inv .1 .room, c .before .before .before .before .before .before .before .before .before .before .loop-test .taken)
+add-i c =
+    let at-loop-test = c .before .before .before .before .before .before .before .before .before .before in let at-loop = at-loop-test .before in
+    omega (arith, at-loop .loop .inv .1 .room, at-loop-test .loop-test .taken)
 
--- src/lib.rt:101:21
 sub-left : tie.Need-sub-left Inv-loop μ-loop
 sub-left c = search needs
 
--- src/lib.rt:103:26
 add-at-2 : tie.Need-add-at-2 Inv-loop μ-loop
-add-at-2 c = let x = rw (c .before .before .before .before .before .before .before .mark .given .1) at (c .before .before .before .before .before .before .before .before .before .next-seen .ensures) in omega (arith, x .says .2)
+add-at-2 c =
+    let at-mark = c .before .before .before .before .before .before .before in let at-next-seen = at-mark .before .before in
+    let x = rw (at-mark .mark .given .1) at (at-next-seen .next-seen .ensures) in
+    omega (arith, x .says .2)
 
--- src/lib.rt:91:5
 loop-less : tie.Need-loop-less Inv-loop μ-loop
-loop-less c = let x = rw (c .before .before .before .before .before .before .before .mark .given .1) at (c .before .before .before .before .before .before .before .before .before .next-seen .ensures) in omega (arith, x .says .0, x .says .1, x .says .2)
+loop-less c =
+    let at-mark = c .before .before .before .before .before .before .before in let at-next-seen = at-mark .before .before in
+    let x = rw (at-mark .mark .given .1) at (at-next-seen .next-seen .ensures) in
+    omega (arith, x .says .0, x .says .1, x .says .2)
 
--- src/lib.rt:91:5
 loop-again : tie.Need-loop-again Inv-loop μ-loop
 loop-again c =
-    let l = c .before .before .before .before .before .before .before .before .before .before .before .loop in let put = c .before .before .put-block in
-    let x = rw (c .before .before .before .before .before .before .before .mark .given .1) at (c .before .before .before .before .before .before .before .before .before .next-seen .ensures) in
-    (put-length _ _ _ _ _ _ _ (put .ensures) _ (l .inv .0),
-    pass-block _ _ _ _ _ _ _ _ _ (l .inv .1) (l .left - 1) (omega (arith, c .before .before .before .before .before .before .before .before .before .before .loop-test .taken)) _ _ x (c .before .before .before .before .before .if1 .taken) _ (c .before .before .before .before .after-line .ensures) _ (put .ensures))
+    let at-put-block = c .before .before in let at-after-line = at-put-block .before .before in let at-if1 = at-after-line .before in
+    let at-mark = at-if1 .before .before in let at-next-seen = at-mark .before .before in let at-loop-test = at-next-seen .before in let at-loop = at-loop-test .before in
+    let l = at-loop .loop in
+    let put = at-put-block .put-block in
+    let x = rw (at-mark .mark .given .1) at (at-next-seen .next-seen .ensures) in (
+      put-length _ _ _ _ _ _ _ (put .ensures) _ (l .inv .0),
+      pass-block _ _ _ _ _ _ _ _ _ (l .inv .1) (l .left - 1) (omega (arith, at-loop-test .loop-test .taken)) _ _ x
+          (at-if1 .if1 .taken) _ (at-after-line .after-line .ensures) _ (put .ensures),
+    )
 
--- src/lib.rt:105:26
 add-at-3 : tie.Need-add-at-3 Inv-loop μ-loop
 add-at-3 c = let x = rw (c .before .before .mark .given .1) at (c .before .before .before .before .next-seen .ensures) in omega (arith, x .says .2)
 
--- src/lib.rt:91:5
 loop-less-2 : tie.Need-loop-less-2 Inv-loop μ-loop
 loop-less-2 c = let x = rw (c .before .before .mark .given .1) at (c .before .before .before .before .next-seen .ensures) in omega (arith, x .says .0, x .says .1, x .says .2)
 
--- src/lib.rt:91:5
 loop-again-2 : tie.Need-loop-again-2 Inv-loop μ-loop
-loop-again-2 c = let x = rw (c .before .before .mark .given .1) at (c .before .before .before .before .next-seen .ensures) in (c .before .before .before .before .before .before .loop .inv .0, pass-shut _ _ _ _ _ _ _ _ _ (c .before .before .before .before .before .before .loop .inv .1) (c .before .before .before .before .before .before .loop .left - 1) (omega (arith, c .before .before .before .before .before .loop-test .taken)) _ _ x (c .if1 .left))
+loop-again-2 c =
+    let at-mark = c .before .before in let at-next-seen = at-mark .before .before in let at-loop-test = at-next-seen .before in let at-loop = at-loop-test .before in
+    let x = rw (at-mark .mark .given .1) at (at-next-seen .next-seen .ensures) in (
+      at-loop .loop .inv .0,
+      pass-shut _ _ _ _ _ _ _ _ _ (at-loop .loop .inv .1) (at-loop .loop .left - 1) (omega (arith, at-loop-test .loop-test .taken)) _ _ x (c .if1
+          .left),
+    )
 
--- src/lib.rt:108:27
 enum-known-mark-2 : tie.Need-enum-known-mark-2 Inv-loop μ-loop
 enum-known-mark-2 c = search needs
 
--- src/lib.rt:110:22
 add-at-4 : tie.Need-add-at-4 Inv-loop μ-loop
 add-at-4 c = let x = rw (c .before .mark2 .given .1) at (c .before .before .before .next-seen .ensures) in omega (arith, x .says .2)
 
--- src/lib.rt:91:5
 loop-less-3 : tie.Need-loop-less-3 Inv-loop μ-loop
 loop-less-3 c = let x = rw (c .before .mark2 .given .1) at (c .before .before .before .next-seen .ensures) in omega (arith, x .says .0, x .says .1, x .says .2)
 
--- src/lib.rt:91:5
 loop-again-3 : tie.Need-loop-again-3 Inv-loop μ-loop
-loop-again-3 c = let x = rw (c .before .mark2 .given .1) at (c .before .before .before .next-seen .ensures) in (c .before .before .before .before .before .loop .inv .0, pass-title _ _ _ _ _ _ _ _ _ (c .before .before .before .before .before .loop .inv .1) (c .before .before .before .before .before .loop .left - 1) (omega (arith, c .before .before .before .before .loop-test .taken)) _ _ x)
+loop-again-3 c =
+    let at-next-seen = c .before .before .before in let at-loop-test = at-next-seen .before in let at-loop = at-loop-test .before in
+    let x = rw (c .before .mark2 .given .1) at (at-next-seen .next-seen .ensures) in
+    (at-loop .loop .inv .0, pass-title _ _ _ _ _ _ _ _ _ (at-loop .loop .inv .1) (at-loop .loop .left - 1) (omega (arith, at-loop-test .loop-test .taken)) _ _ x)
 
--- src/lib.rt:114:30
 enum-known-q : tie.Need-enum-known-q Inv-loop μ-loop
 enum-known-q c = search needs
 
--- src/lib.rt:116:22
 add-at-5 : tie.Need-add-at-5 Inv-loop μ-loop
 add-at-5 c = let x = rw (c .before .q .given .1) at (c .before .before .before .next-seen .ensures) in omega (arith, x .says .1)
 
--- src/lib.rt:91:5
 loop-less-4 : tie.Need-loop-less-4 Inv-loop μ-loop
 loop-less-4 c = let x = rw (c .before .q .given .1) at (c .before .before .before .next-seen .ensures) in omega (arith, x .says .0, x .says .1)
 
--- src/lib.rt:91:5
 loop-again-4 : tie.Need-loop-again-4 Inv-loop μ-loop
-loop-again-4 c = let x = rw (c .before .q .given .1) at (c .before .before .before .next-seen .ensures) in (c .before .before .before .before .before .loop .inv .0, pass-link _ _ _ _ _ _ _ _ _ (c .before .before .before .before .before .loop .inv .1) (c .before .before .before .before .before .loop .left - 1) (omega (arith, c .before .before .before .before .loop-test .taken)) _ x)
+loop-again-4 c =
+    let at-next-seen = c .before .before .before in let at-loop-test = at-next-seen .before in let at-loop = at-loop-test .before in
+    let x = rw (c .before .q .given .1) at (at-next-seen .next-seen .ensures) in
+    (at-loop .loop .inv .0, pass-link _ _ _ _ _ _ _ _ _ (at-loop .loop .inv .1) (at-loop .loop .left - 1) (omega (arith, at-loop-test .loop-test .taken)) _ x)
 
--- src/lib.rt:118:31
 enum-known-q-2 : tie.Need-enum-known-q-2 Inv-loop μ-loop
 enum-known-q-2 c = search needs
 
--- src/lib.rt:119:22
 add-at-6 : tie.Need-add-at-6 Inv-loop μ-loop
 add-at-6 c = let x = rw (c .before .q2 .given .1) at (c .before .before .before .next-seen .ensures) in omega (arith, x .says .1)
 
--- src/lib.rt:91:5
 loop-less-5 : tie.Need-loop-less-5 Inv-loop μ-loop
 loop-less-5 c = let x = rw (c .before .q2 .given .1) at (c .before .before .before .next-seen .ensures) in omega (arith, x .says .0, x .says .1)
 
--- src/lib.rt:91:5
 loop-again-5 : tie.Need-loop-again-5 Inv-loop μ-loop
-loop-again-5 c = let x = rw (c .before .q2 .given .1) at (c .before .before .before .next-seen .ensures) in (c .before .before .before .before .before .loop .inv .0, pass-other _ _ _ _ _ _ _ _ _ (c .before .before .before .before .before .loop .inv .1) (c .before .before .before .before .before .loop .left - 1) (omega (arith, c .before .before .before .before .loop-test .taken)) _ x)
+loop-again-5 c =
+    let at-next-seen = c .before .before .before in let at-loop-test = at-next-seen .before in let at-loop = at-loop-test .before in
+    let x = rw (c .before .q2 .given .1) at (at-next-seen .next-seen .ensures) in
+    (at-loop .loop .inv .0, pass-other _ _ _ _ _ _ _ _ _ (at-loop .loop .inv .1) (at-loop .loop .left - 1) (omega (arith, at-loop-test .loop-test .taken)) _ x)
 
--- src/lib.rt:81:1
 same-length-2 : tie.Need-same-length-2 Inv-loop μ-loop
 same-length-2 c = c .before .loop .inv .0
 
--- src/lib.rt:81:1
 returns-2 : tie.Need-returns-2 Inv-loop μ-loop
 returns-2 c = pass-done _ _ _ _ _ _ _ _ _ (c .before .loop .inv .1) (omega (arith, c .loop-test .left))
 

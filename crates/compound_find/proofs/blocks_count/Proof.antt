@@ -1,18 +1,14 @@
+-- `compound_find::blocks_count` meets its contract: the table that it lends is the one of the entries.
 use mathlib.Core.Path.{refl}
-use Rattle.alphabet_spec.specs.Entries.{table}
 use borrow.Author.Needs.{needs}
+use Rattle.alphabet_spec.specs.Entries.{table}
 use Rattle.compound_find.proofs.blocks_count.Statement.{statement}
 use Rattle.compound_find.proofs.blocks_count.Tie as tie
-use Rattle.compound_find.proofs.blocks_count.Reads as reads
-use Rattle.compound_find.proofs.blocks_count.Lts as lts
-use Rattle.file_texts.proofs.count_in.Reads as count-in-reads
 
--- src/lib.rt:39:5
 count-in-requires : tie.Need-count-in-requires
 unfolding table
 count-in-requires c κs = (refl, c .before .before .pre)
 
--- src/lib.rt:34:1
 returns : tie.Need-returns
 returns c = search needs
 

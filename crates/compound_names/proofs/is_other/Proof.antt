@@ -21,7 +21,10 @@ differ-requires-3 : tie.Need-differ-requires-3
 differ-requires-3 c κs = search needs
 
 returns-3 : tie.Need-returns-3
-returns-3 c = other-name _ _ _ _ (c .before .before .before .before .differ .ensures) (not-false _ (c .before .before .before .if1 .left)) (c .before .before .differ2 .ensures) _ (c .differ3 .ensures) (not-false _ (c .before .if2 .left))
+returns-3 c =
+    let at-differ2 = c .before .before in let at-if1 = at-differ2 .before in let at-differ = at-if1 .before in
+    other-name _ _ _ _ (at-differ .differ .ensures) (not-false _ (at-if1 .if1 .left)) (at-differ2 .differ2 .ensures) _ (c .differ3 .ensures) (not-false _ (c .before .if2
+    .left))
 
 pub is-other-spec : {M : Type 1} → statement M
 is-other-spec =

@@ -27,16 +27,26 @@ returns-3 : tie.Need-returns-3
 returns-3 c = meet-enter _ _ _ (sym (c .before .before .before .is-end .ensures) ∙ c .before .before .if1 .left) (sym (c .before .is-title .ensures) ∙ c .if3 .taken)
 
 returns-4 : tie.Need-returns-4
-returns-4 c = meet-pass _ _ _ (sym (c .before .before .before .before .is-end .ensures) ∙ c .before .before .before .if1 .left) (sym (c .before .before .is-title .ensures) ∙ c .before .if3 .left) (c .if4 .taken)
+returns-4 c =
+    let at-is-title = c .before .before in let at-if1 = at-is-title .before in let at-is-end = at-if1 .before in
+    meet-pass _ _ _ (sym (at-is-end .is-end .ensures) ∙ at-if1 .if1 .left) (sym (at-is-title .is-title .ensures) ∙ c .before .if3 .left) (c .if4 .taken)
 
 same-name-requires : tie.Need-same-name-requires
 same-name-requires c κs = search needs
 
 returns-5 : tie.Need-returns-5
-returns-5 c = meet-known _ _ _ (sym (c .before .before .before .before .before .before .is-end .ensures) ∙ c .before .before .before .before .before .if1 .left) (sym (c .before .before .before .before .is-title .ensures) ∙ c .before .before .before .if3 .left) (c .before .before .if4 .left) (sym (c .before .same-name .ensures) ∙ c .if5 .taken)
+returns-5 c =
+    let at-if4 = c .before .before in let at-if3 = at-if4 .before in let at-is-title = at-if3 .before in let at-if1 = at-is-title .before in
+    let at-is-end = at-if1 .before in
+    meet-known _ _ _ (sym (at-is-end .is-end .ensures) ∙ at-if1 .if1 .left) (sym (at-is-title .is-title .ensures) ∙ at-if3 .if3 .left) (at-if4 .if4 .left) (sym (c .before
+    .same-name .ensures) ∙ c .if5 .taken)
 
 returns-6 : tie.Need-returns-6
-returns-6 c = meet-other _ _ _ (sym (c .before .before .before .before .before .before .is-end .ensures) ∙ c .before .before .before .before .before .if1 .left) (sym (c .before .before .before .before .is-title .ensures) ∙ c .before .before .before .if3 .left) (c .before .before .if4 .left) (sym (c .before .same-name .ensures) ∙ c .if5 .left)
+returns-6 c =
+    let at-if4 = c .before .before in let at-if3 = at-if4 .before in let at-is-title = at-if3 .before in let at-if1 = at-is-title .before in
+    let at-is-end = at-if1 .before in
+    meet-other _ _ _ (sym (at-is-end .is-end .ensures) ∙ at-if1 .if1 .left) (sym (at-is-title .is-title .ensures) ∙ at-if3 .if3 .left) (at-if4 .if4 .left) (sym (c .before
+    .same-name .ensures) ∙ c .if5 .left)
 
 pub met-spec : {M : Type 1} → statement M
 met-spec =

@@ -17,7 +17,10 @@ is-other-requires : tie.Need-is-other-requires
 is-other-requires c κs = search needs
 
 returns : tie.Need-returns
-returns c = let p = c .before .before .before .before .pre in passes-other _ _ (p .0) _ _ _ _ _ (p .2) (c .before .before .first-of .ensures) (p .4) (sym (c .before .is-other .ensures) ∙ c .if1 .taken)
+returns c =
+    let at-first-of = c .before .before in let at-pre = at-first-of .before .before in
+    let p = at-pre .pre in
+    passes-other _ _ (p .0) _ _ _ _ _ (p .2) (at-first-of .first-of .ensures) (p .4) (sym (c .before .is-other .ensures) ∙ c .if1 .taken)
 
 label-here-requires : tie.Need-label-here-requires
 label-here-requires c κs = search needs
@@ -32,7 +35,11 @@ enum-known-n : tie.Need-enum-known-n
 enum-known-n c = search needs
 
 met-requires : tie.Need-met-requires
-met-requires c κs = let x = rw (c .before .n .given .1) at (c .before .before .before .label-here .ensures) in let p = c .before .before .before .before .before .before .before .before .pre in (omega (arith, x .good), omega (arith, x .good), omega (arith, p .2), p .3, p .1)
+met-requires c κs =
+    let at-label-here = c .before .before .before in let at-pre = at-label-here .before .before .before .before .before in
+    let x = rw (c .before .n .given .1) at (at-label-here .label-here .ensures) in
+    let p = at-pre .pre in
+    (omega (arith, x .good), omega (arith, x .good), omega (arith, p .2), p .3, p .1)
 
 returns-2 : tie.Need-returns-2
 returns-2 c = passes-none _ _ (c .before .before .before .before .before .before .before .pre .0) _ _ (rw (c .enum-told .given .1) at (c .before .before .label-here .ensures))
@@ -41,7 +48,9 @@ returns-3 : tie.Need-returns-3
 returns-3 c = passes-bad _ _ (c .before .before .before .before .before .before .before .pre .0) _ _ _ (rw (c .enum-told2 .given .1) at (c .before .before .label-here .ensures))
 
 returns-4 : tie.Need-returns-4
-returns-4 c = passes-met _ _ (c .before .before .before .before .before .before .before .before .before .pre .0) _ _ _ _ _ _ (rw (c .before .before .n .given .1) at (c .before .before .before .before .label-here .ensures)) (c .met .ensures)
+returns-4 c =
+    let at-n = c .before .before in let at-label-here = at-n .before .before in let at-pre = at-label-here .before .before .before .before .before in
+    passes-met _ _ (at-pre .pre .0) _ _ _ _ _ _ (rw (at-n .n .given .1) at (at-label-here .label-here .ensures)) (c .met .ensures)
 
 pub met-here-spec : {M : Type 1} → statement M
 met-here-spec =

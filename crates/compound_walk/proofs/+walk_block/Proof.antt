@@ -1,14 +1,15 @@
+-- `compound_walk::walk_block` meets its contract: label by label; an inner block by its own contract, with one depth less left.
 use mathlib.Core.Path.{sym, _∙_}
 use Prim.Native.Nat.{_-_}
+use Prim.Native.Nat.{ℕ, _<_}
 use native.Mathlib.Omega.{arith}
 use lib.ListN.{length}
 use borrow.Author.Needs.{needs}
 use borrow.Author.Tests.{not-true, not-false}
-use Rattle.compound_walk.specs.Turns.{Gone, gone-begin}
-use Rattle.compound_walk.proofs.BlockTurns.{block-none, block-bad, block-end, block-closed, block-deep, block-fault, block-inner, block-twice, block-table, block-own}
-use Prim.Native.Nat.{ℕ, _<_}
 use borrow.Fn.Kinds.{In}
 use borrow.Fn.PlainCycle.{Measures, is, falls, and}
+use Rattle.compound_walk.specs.Turns.{Gone, gone-begin}
+use Rattle.compound_walk.proofs.BlockTurns.{block-none, block-bad, block-end, block-closed, block-deep, block-fault, block-inner, block-twice, block-table, block-own}
 use Rattle.compound_walk.proofs.walk_block.Reads as walk-block
 use Rattle.compound_walk.proofs.walk_block.Kinds as walk-block-kinds
 use Rattle.compound_walk.proofs.+walk_block.Lts-walk_block as walk-block-lts
@@ -41,7 +42,6 @@ walk-block-Inv-loop s title eq left first at₀ own₀ count₀ at own count = G
 abbrev walk-block-μ-loop : walk-block-lts.MeasureT-loop
 walk-block-μ-loop s title eq left first at₀ own₀ count₀ at own count = length s - at
 
--- src/lib.rt:72:17
 walk-block-add-first : (t : ℕ) → walk-block-lts.Need-add-first (
   next-label-reads.Asked,
   next-label-reads.Learnt,
@@ -66,7 +66,6 @@ walk-block-add-first : (t : ℕ) → walk-block-lts.Need-add-first (
 ) (walk-block-at t) walk-block.Post walk-block-Inv-loop walk-block-μ-loop
 walk-block-add-first t c = search needs
 
--- src/lib.rt:80:5
 walk-block-loop-holds : (t : ℕ) → walk-block-lts.Need-loop-holds (
   next-label-reads.Asked,
   next-label-reads.Learnt,
@@ -91,7 +90,6 @@ walk-block-loop-holds : (t : ℕ) → walk-block-lts.Need-loop-holds (
 ) (walk-block-at t) walk-block.Post walk-block-Inv-loop walk-block-μ-loop
 walk-block-loop-holds t c = gone-begin _ _ _ _ (c .before .pre .1 .0)
 
--- src/lib.rt:81:15
 walk-block-next-label-requires : (t : ℕ) → walk-block-lts.Need-next-label-requires (
   next-label-reads.Asked,
   next-label-reads.Learnt,
@@ -116,7 +114,6 @@ walk-block-next-label-requires : (t : ℕ) → walk-block-lts.Need-next-label-re
 ) (walk-block-at t) walk-block.Post walk-block-Inv-loop walk-block-μ-loop
 walk-block-next-label-requires t c κs = c .loop .inv .high
 
--- src/lib.rt:83:34
 walk-block-enum-told : (t : ℕ) → walk-block-lts.Need-enum-told (
   next-label-reads.Asked,
   next-label-reads.Learnt,
@@ -141,7 +138,6 @@ walk-block-enum-told : (t : ℕ) → walk-block-lts.Need-enum-told (
 ) (walk-block-at t) walk-block.Post walk-block-Inv-loop walk-block-μ-loop
 walk-block-enum-told t c = search needs
 
--- src/lib.rt:83:17
 walk-block-fault-requires : (t : ℕ) → walk-block-lts.Need-fault-requires (
   next-label-reads.Asked,
   next-label-reads.Learnt,
@@ -166,7 +162,6 @@ walk-block-fault-requires : (t : ℕ) → walk-block-lts.Need-fault-requires (
 ) (walk-block-at t) walk-block.Post walk-block-Inv-loop walk-block-μ-loop
 walk-block-fault-requires t c κs = search needs
 
--- src/lib.rt:83:17
 walk-block-returns : (t : ℕ) → walk-block-lts.Need-returns (
   next-label-reads.Asked,
   next-label-reads.Learnt,
@@ -189,9 +184,10 @@ walk-block-returns : (t : ℕ) → walk-block-lts.Need-returns (
   is-both-reads.Asked,
   is-both-reads.Learnt,
 ) (walk-block-at t) walk-block.Post walk-block-Inv-loop walk-block-μ-loop
-walk-block-returns t c = rw (c .fault .ensures) (block-none _ _ _ _ _ _ _ (c .before .before .before .before .loop .inv) (rw (c .before .enum-told .given .1) at (c .before .before .before .next-label .ensures)))
+walk-block-returns t c =
+    let at-next-label = c .before .before .before in let at-loop = at-next-label .before in
+    rw (c .fault .ensures) (block-none _ _ _ _ _ _ _ (at-loop .loop .inv) (rw (c .before .enum-told .given .1) at (at-next-label .next-label .ensures)))
 
--- src/lib.rt:85:26
 walk-block-enum-known-mark : (t : ℕ) → walk-block-lts.Need-enum-known-mark (
   next-label-reads.Asked,
   next-label-reads.Learnt,
@@ -216,7 +212,6 @@ walk-block-enum-known-mark : (t : ℕ) → walk-block-lts.Need-enum-known-mark (
 ) (walk-block-at t) walk-block.Post walk-block-Inv-loop walk-block-μ-loop
 walk-block-enum-known-mark t c = search needs
 
--- src/lib.rt:86:17
 walk-block-fault-requires-2 : (t : ℕ) → walk-block-lts.Need-fault-requires-2 (
   next-label-reads.Asked,
   next-label-reads.Learnt,
@@ -241,7 +236,6 @@ walk-block-fault-requires-2 : (t : ℕ) → walk-block-lts.Need-fault-requires-2
 ) (walk-block-at t) walk-block.Post walk-block-Inv-loop walk-block-μ-loop
 walk-block-fault-requires-2 t c κs = search needs
 
--- src/lib.rt:86:17
 walk-block-returns-2 : (t : ℕ) → walk-block-lts.Need-returns-2 (
   next-label-reads.Asked,
   next-label-reads.Learnt,
@@ -264,9 +258,10 @@ walk-block-returns-2 : (t : ℕ) → walk-block-lts.Need-returns-2 (
   is-both-reads.Asked,
   is-both-reads.Learnt,
 ) (walk-block-at t) walk-block.Post walk-block-Inv-loop walk-block-μ-loop
-walk-block-returns-2 t c = rw (c .fault2 .ensures) (block-bad _ _ _ _ _ _ _ (c .before .before .before .before .before .loop .inv) _ (rw (c .before .before .mark .given .1) at (c .before .before .before .before .next-label .ensures)))
+walk-block-returns-2 t c =
+    let at-mark = c .before .before in let at-next-label = at-mark .before .before in let at-loop = at-next-label .before in
+    rw (c .fault2 .ensures) (block-bad _ _ _ _ _ _ _ (at-loop .loop .inv) _ (rw (at-mark .mark .given .1) at (at-next-label .next-label .ensures)))
 
--- src/lib.rt:89:17
 walk-block-enum-known-mark-2 : (t : ℕ) → walk-block-lts.Need-enum-known-mark-2 (
   next-label-reads.Asked,
   next-label-reads.Learnt,
@@ -291,7 +286,6 @@ walk-block-enum-known-mark-2 : (t : ℕ) → walk-block-lts.Need-enum-known-mark
 ) (walk-block-at t) walk-block.Post walk-block-Inv-loop walk-block-μ-loop
 walk-block-enum-known-mark-2 t c = search needs
 
--- src/lib.rt:93:28
 walk-block-add-next : (t : ℕ) → walk-block-lts.Need-add-next (
   next-label-reads.Asked,
   next-label-reads.Learnt,
@@ -316,7 +310,6 @@ walk-block-add-next : (t : ℕ) → walk-block-lts.Need-add-next (
 ) (walk-block-at t) walk-block.Post walk-block-Inv-loop walk-block-μ-loop
 walk-block-add-next t c = let x = rw (c .before .mark2 .given .1) at (c .before .before .before .next-label .ensures) in omega (arith, x .good)
 
--- src/lib.rt:94:20
 walk-block-is-end-requires : (t : ℕ) → walk-block-lts.Need-is-end-requires (
   next-label-reads.Asked,
   next-label-reads.Learnt,
@@ -341,7 +334,6 @@ walk-block-is-end-requires : (t : ℕ) → walk-block-lts.Need-is-end-requires (
 ) (walk-block-at t) walk-block.Post walk-block-Inv-loop walk-block-μ-loop
 walk-block-is-end-requires t c κs = let x = rw (c .before .mark2 .given .1) at (c .before .before .before .next-label .ensures) in (omega (arith, x .good), omega (arith, x .good))
 
--- src/lib.rt:95:21
 walk-block-returns-3 : (t : ℕ) → walk-block-lts.Need-returns-3 (
   next-label-reads.Asked,
   next-label-reads.Learnt,
@@ -364,9 +356,11 @@ walk-block-returns-3 : (t : ℕ) → walk-block-lts.Need-returns-3 (
   is-both-reads.Asked,
   is-both-reads.Learnt,
 ) (walk-block-at t) walk-block.Post walk-block-Inv-loop walk-block-μ-loop
-walk-block-returns-3 t c = block-end _ _ _ _ _ _ _ (c .before .before .before .before .before .before .loop .inv) _ _ _ (rw (c .before .before .before .mark2 .given .1) at (c .before .before .before .before .before .next-label .ensures)) (sym (c .before .is-end .ensures) ∙ c .if1 .taken)
+walk-block-returns-3 t c =
+    let at-mark2 = c .before .before .before in let at-next-label = at-mark2 .before .before in let at-loop = at-next-label .before in
+    block-end _ _ _ _ _ _ _ (at-loop .loop .inv) _ _ _ (rw (at-mark2 .mark2 .given .1) at (at-next-label .next-label .ensures)) (sym (c .before .is-end .ensures) ∙ c .if1
+    .taken)
 
--- src/lib.rt:102:20
 walk-block-is-title-requires : (t : ℕ) → walk-block-lts.Need-is-title-requires (
   next-label-reads.Asked,
   next-label-reads.Learnt,
@@ -389,9 +383,11 @@ walk-block-is-title-requires : (t : ℕ) → walk-block-lts.Need-is-title-requir
   is-both-reads.Asked,
   is-both-reads.Learnt,
 ) (walk-block-at t) walk-block.Post walk-block-Inv-loop walk-block-μ-loop
-walk-block-is-title-requires t c κs = let x = rw (c .before .before .before .mark2 .given .1) at (c .before .before .before .before .before .next-label .ensures) in (omega (arith, x .good), omega (arith, x .good))
+walk-block-is-title-requires t c κs =
+    let at-mark2 = c .before .before .before in let at-next-label = at-mark2 .before .before in
+    let x = rw (at-mark2 .mark2 .given .1) at (at-next-label .next-label .ensures) in
+    (omega (arith, x .good), omega (arith, x .good))
 
--- src/lib.rt:104:25
 walk-block-fault-requires-3 : (t : ℕ) → walk-block-lts.Need-fault-requires-3 (
   next-label-reads.Asked,
   next-label-reads.Learnt,
@@ -416,7 +412,6 @@ walk-block-fault-requires-3 : (t : ℕ) → walk-block-lts.Need-fault-requires-3
 ) (walk-block-at t) walk-block.Post walk-block-Inv-loop walk-block-μ-loop
 walk-block-fault-requires-3 t c κs = search needs
 
--- src/lib.rt:104:25
 walk-block-returns-4 : (t : ℕ) → walk-block-lts.Need-returns-4 (
   next-label-reads.Asked,
   next-label-reads.Learnt,
@@ -439,9 +434,12 @@ walk-block-returns-4 : (t : ℕ) → walk-block-lts.Need-returns-4 (
   is-both-reads.Asked,
   is-both-reads.Learnt,
 ) (walk-block-at t) walk-block.Post walk-block-Inv-loop walk-block-μ-loop
-walk-block-returns-4 t c = rw (c .fault3 .ensures) (block-closed _ _ _ _ _ _ _ (c .before .before .before .before .before .before .before .before .before .before .before .loop .inv) _ _ _ (rw (c .before .before .before .before .before .before .before .before .mark2 .given .1) at (c .before .before .before .before .before .before .before .before .before .before .next-label .ensures)) (sym (c .before .before .before .before .before .before .is-end .ensures) ∙ c .before .before .before .before .before .if1 .left) (sym (c .before .before .before .before .is-title .ensures) ∙ c .before .before .before .if2 .taken) (not-true _ (c .before .if3 .taken)))
+walk-block-returns-4 t c =
+    let at-if2 = c .before .before .before in let at-is-title = at-if2 .before in let at-if1 = at-is-title .before in let at-is-end = at-if1 .before in
+    let at-mark2 = at-is-end .before .before in let at-next-label = at-mark2 .before .before in let at-loop = at-next-label .before in
+    rw (c .fault3 .ensures) (block-closed _ _ _ _ _ _ _ (at-loop .loop .inv) _ _ _ (rw (at-mark2 .mark2 .given .1) at (at-next-label .next-label .ensures)) (sym
+    (at-is-end .is-end .ensures) ∙ at-if1 .if1 .left) (sym (at-is-title .is-title .ensures) ∙ at-if2 .if2 .taken) (not-true _ (c .before .if3 .taken)))
 
--- src/lib.rt:107:25
 walk-block-fault-requires-4 : (t : ℕ) → walk-block-lts.Need-fault-requires-4 (
   next-label-reads.Asked,
   next-label-reads.Learnt,
@@ -466,7 +464,6 @@ walk-block-fault-requires-4 : (t : ℕ) → walk-block-lts.Need-fault-requires-4
 ) (walk-block-at t) walk-block.Post walk-block-Inv-loop walk-block-μ-loop
 walk-block-fault-requires-4 t c κs = search needs
 
--- src/lib.rt:107:25
 walk-block-returns-5 : (t : ℕ) → walk-block-lts.Need-returns-5 (
   next-label-reads.Asked,
   next-label-reads.Learnt,
@@ -489,9 +486,12 @@ walk-block-returns-5 : (t : ℕ) → walk-block-lts.Need-returns-5 (
   is-both-reads.Asked,
   is-both-reads.Learnt,
 ) (walk-block-at t) walk-block.Post walk-block-Inv-loop walk-block-μ-loop
-walk-block-returns-5 t c = rw (c .fault4 .ensures) (block-deep _ _ _ _ _ _ _ (c .before .before .before .before .before .before .before .before .before .before .before .before .loop .inv) _ _ _ (rw (c .before .before .before .before .before .before .before .before .before .mark2 .given .1) at (c .before .before .before .before .before .before .before .before .before .before .before .next-label .ensures)) (sym (c .before .before .before .before .before .before .before .is-end .ensures) ∙ c .before .before .before .before .before .before .if1 .left) (sym (c .before .before .before .before .before .is-title .ensures) ∙ c .before .before .before .before .if2 .taken) (c .before .if4 .taken))
+walk-block-returns-5 t c =
+    let at-if2 = c .before .before .before .before in let at-is-title = at-if2 .before in let at-if1 = at-is-title .before in let at-is-end = at-if1 .before in
+    let at-mark2 = at-is-end .before .before in let at-next-label = at-mark2 .before .before in let at-loop = at-next-label .before in
+    rw (c .fault4 .ensures) (block-deep _ _ _ _ _ _ _ (at-loop .loop .inv) _ _ _ (rw (at-mark2 .mark2 .given .1) at (at-next-label .next-label .ensures)) (sym (at-is-end
+    .is-end .ensures) ∙ at-if1 .if1 .left) (sym (at-is-title .is-title .ensures) ∙ at-if2 .if2 .taken) (c .before .if4 .taken))
 
--- src/lib.rt:109:50
 walk-block-sub-walk-block : (t : ℕ) → walk-block-lts.Need-sub-walk-block (
   next-label-reads.Asked,
   next-label-reads.Learnt,
@@ -516,7 +516,6 @@ walk-block-sub-walk-block : (t : ℕ) → walk-block-lts.Need-sub-walk-block (
 ) (walk-block-at t) walk-block.Post walk-block-Inv-loop walk-block-μ-loop
 walk-block-sub-walk-block t c = search needs
 
--- src/lib.rt:109:27
 walk-block-walk-block-requires : (t : ℕ) → walk-block-lts.Need-walk-block-requires (
   next-label-reads.Asked,
   next-label-reads.Learnt,
@@ -539,10 +538,12 @@ walk-block-walk-block-requires : (t : ℕ) → walk-block-lts.Need-walk-block-re
   is-both-reads.Asked,
   is-both-reads.Learnt,
 ) (walk-block-at t) walk-block.Post walk-block-Inv-loop walk-block-μ-loop
-walk-block-walk-block-requires t c κs = let x = rw (c .before .before .before .before .before .before .before .before .mark2 .given .1) at (c .before .before .before .before .before .before .before .before .before .before .next-label .ensures) in
-    (omega (arith, c .before .before .before .before .before .before .before .before .before .before .before .before .before .pre .0, c .if4 .left), (omega (arith, x .good), omega (arith, c .before .before .before .before .before .before .before .before .before .before .before .before .before .pre .1 .1)))
+walk-block-walk-block-requires t c κs =
+    let at-mark2 = c .before .before .before .before .before .before .before .before in let at-next-label = at-mark2 .before .before in
+    let at-pre = at-next-label .before .before .before in
+    let x = rw (at-mark2 .mark2 .given .1) at (at-next-label .next-label .ensures) in
+    (omega (arith, at-pre .pre .0, c .if4 .left), (omega (arith, x .good), omega (arith, at-pre .pre .1 .1)))
 
--- src/lib.rt:110:41
 walk-block-enum-known-r : (t : ℕ) → walk-block-lts.Need-enum-known-r (
   next-label-reads.Asked,
   next-label-reads.Learnt,
@@ -567,7 +568,6 @@ walk-block-enum-known-r : (t : ℕ) → walk-block-lts.Need-enum-known-r (
 ) (walk-block-at t) walk-block.Post walk-block-Inv-loop walk-block-μ-loop
 walk-block-enum-known-r t c = search needs
 
--- src/lib.rt:111:29
 walk-block-returns-6 : (t : ℕ) → walk-block-lts.Need-returns-6 (
   next-label-reads.Asked,
   next-label-reads.Learnt,
@@ -590,9 +590,14 @@ walk-block-returns-6 : (t : ℕ) → walk-block-lts.Need-returns-6 (
   is-both-reads.Asked,
   is-both-reads.Learnt,
 ) (walk-block-at t) walk-block.Post walk-block-Inv-loop walk-block-μ-loop
-walk-block-returns-6 t c = block-fault _ _ _ _ _ _ _ (c .before .before .before .before .before .before .before .before .before .before .before .before .before .before .before .loop .inv) _ _ _ (rw (c .before .before .before .before .before .before .before .before .before .before .before .before .mark2 .given .1) at (c .before .before .before .before .before .before .before .before .before .before .before .before .before .before .next-label .ensures)) (sym (c .before .before .before .before .before .before .before .before .before .before .is-end .ensures) ∙ c .before .before .before .before .before .before .before .before .before .if1 .left) (sym (c .before .before .before .before .before .before .before .before .is-title .ensures) ∙ c .before .before .before .before .before .before .before .if2 .taken) (not-false _ (c .before .before .before .before .before .if3 .left)) _ (omega (arith, c .before .before .before .before .if4 .left)) _ (rw (c .before .r .given .1) at (c .before .before .before .walk-block .ensures))
+walk-block-returns-6 t c =
+    let at-walk-block = c .before .before .before in let at-if4 = at-walk-block .before in let at-if3 = at-if4 .before in let at-if2 = at-if3 .before .before in
+    let at-is-title = at-if2 .before in let at-if1 = at-is-title .before in let at-is-end = at-if1 .before in let at-mark2 = at-is-end .before .before in
+    let at-next-label = at-mark2 .before .before in let at-loop = at-next-label .before in
+    block-fault _ _ _ _ _ _ _ (at-loop .loop .inv) _ _ _ (rw (at-mark2 .mark2 .given .1) at (at-next-label .next-label .ensures)) (sym (at-is-end .is-end .ensures) ∙
+    at-if1 .if1 .left) (sym (at-is-title .is-title .ensures) ∙ at-if2 .if2 .taken) (not-false _ (at-if3 .if3 .left)) _ (omega (arith, at-if4 .if4 .left)) _ (rw (c .before
+    .r .given .1) at (at-walk-block .walk-block .ensures))
 
--- src/lib.rt:115:29
 walk-block-enum-known-last : (t : ℕ) → walk-block-lts.Need-enum-known-last (
   next-label-reads.Asked,
   next-label-reads.Learnt,
@@ -617,7 +622,6 @@ walk-block-enum-known-last : (t : ℕ) → walk-block-lts.Need-enum-known-last (
 ) (walk-block-at t) walk-block.Post walk-block-Inv-loop walk-block-μ-loop
 walk-block-enum-known-last t c = search needs
 
--- src/lib.rt:119:29
 walk-block-count-more-requires : (t : ℕ) → walk-block-lts.Need-count-more-requires (
   next-label-reads.Asked,
   next-label-reads.Learnt,
@@ -640,12 +644,14 @@ walk-block-count-more-requires : (t : ℕ) → walk-block-lts.Need-count-more-re
   is-both-reads.Asked,
   is-both-reads.Learnt,
 ) (walk-block-at t) walk-block.Post walk-block-Inv-loop walk-block-μ-loop
-walk-block-count-more-requires t c κs = let w = rw (c .before .last .given .1) at (c .before .before .before .walk-block .ensures) in
-    let x = rw (c .before .before .before .before .before .before .before .before .before .before .before .before .mark2 .given .1) at (c .before .before .before .before .before .before .before .before .before .before .before .before .before .before .next-label .ensures) in
-    let k = c .before .before .before .before .before .before .before .before .before .before .before .before .before .before .before .before .before .good in
-    omega (arith, k, w .few, w .mid, w .high, x .good, c .before .before .before .before .before .before .before .before .before .before .before .before .before .before .before .loop .inv .few)
+walk-block-count-more-requires t c κs =
+    let at-walk-block = c .before .before .before in let at-mark2 = at-walk-block .before .before .before .before .before .before .before .before .before in
+    let at-next-label = at-mark2 .before .before in let at-loop = at-next-label .before in let at-good = at-loop .before .before in
+    let w = rw (c .before .last .given .1) at (at-walk-block .walk-block .ensures) in
+    let x = rw (at-mark2 .mark2 .given .1) at (at-next-label .next-label .ensures) in
+    let k = at-good .good in
+    omega (arith, k, w .few, w .mid, w .high, x .good, at-loop .loop .inv .few)
 
--- src/lib.rt:120:34
 walk-block-add-at : (t : ℕ) → walk-block-lts.Need-add-at (
   next-label-reads.Asked,
   next-label-reads.Learnt,
@@ -668,9 +674,13 @@ walk-block-add-at : (t : ℕ) → walk-block-lts.Need-add-at (
   is-both-reads.Asked,
   is-both-reads.Learnt,
 ) (walk-block-at t) walk-block.Post walk-block-Inv-loop walk-block-μ-loop
-walk-block-add-at t c = let w = rw (c .before .before .last .given .1) at (c .before .before .before .before .walk-block .ensures) in let k = c .before .before .before .before .before .before .before .before .before .before .before .before .before .before .before .before .before .before .good in omega (arith, k, w .high)
+walk-block-add-at t c =
+    let at-last = c .before .before in let at-walk-block = at-last .before .before in
+    let at-good = at-walk-block .before .before .before .before .before .before .before .before .before .before .before .before .before .before in
+    let w = rw (at-last .last .given .1) at (at-walk-block .walk-block .ensures) in
+    let k = at-good .good in
+    omega (arith, k, w .high)
 
--- src/lib.rt:80:5
 walk-block-loop-less : (t : ℕ) → walk-block-lts.Need-loop-less (
   next-label-reads.Asked,
   next-label-reads.Learnt,
@@ -694,11 +704,12 @@ walk-block-loop-less : (t : ℕ) → walk-block-lts.Need-loop-less (
   is-both-reads.Learnt,
 ) (walk-block-at t) walk-block.Post walk-block-Inv-loop walk-block-μ-loop
 walk-block-loop-less t c =
-    let w = rw (c .before .before .last .given .1) at (c .before .before .before .before .walk-block .ensures) in
-    let x = rw (c .before .before .before .before .before .before .before .before .before .before .before .before .before .mark2 .given .1) at (c .before .before .before .before .before .before .before .before .before .before .before .before .before .before .before .next-label .ensures) in
+    let at-last = c .before .before in let at-walk-block = at-last .before .before in
+    let at-mark2 = at-walk-block .before .before .before .before .before .before .before .before .before in let at-next-label = at-mark2 .before .before in
+    let w = rw (at-last .last .given .1) at (at-walk-block .walk-block .ensures) in
+    let x = rw (at-mark2 .mark2 .given .1) at (at-next-label .next-label .ensures) in
     omega (arith, w .low, w .mid, w .high, x .good)
 
--- src/lib.rt:80:5
 walk-block-loop-again : (t : ℕ) → walk-block-lts.Need-loop-again (
   next-label-reads.Asked,
   next-label-reads.Learnt,
@@ -721,9 +732,14 @@ walk-block-loop-again : (t : ℕ) → walk-block-lts.Need-loop-again (
   is-both-reads.Asked,
   is-both-reads.Learnt,
 ) (walk-block-at t) walk-block.Post walk-block-Inv-loop walk-block-μ-loop
-walk-block-loop-again t c = block-inner _ _ _ _ _ _ _ (c .before .before .before .before .before .before .before .before .before .before .before .before .before .before .before .before .loop .inv) _ _ _ (rw (c .before .before .before .before .before .before .before .before .before .before .before .before .before .mark2 .given .1) at (c .before .before .before .before .before .before .before .before .before .before .before .before .before .before .before .next-label .ensures)) (sym (c .before .before .before .before .before .before .before .before .before .before .before .is-end .ensures) ∙ c .before .before .before .before .before .before .before .before .before .before .if1 .left) (sym (c .before .before .before .before .before .before .before .before .before .is-title .ensures) ∙ c .before .before .before .before .before .before .before .before .if2 .taken) (not-false _ (c .before .before .before .before .before .before .if3 .left)) _ (omega (arith, c .before .before .before .before .before .if4 .left)) _ _ _ _ _ (c .count-more .ensures) (rw (c .before .before .last .given .1) at (c .before .before .before .before .walk-block .ensures))
+walk-block-loop-again t c =
+    let at-last = c .before .before in let at-walk-block = at-last .before .before in let at-if4 = at-walk-block .before in let at-if3 = at-if4 .before in
+    let at-if2 = at-if3 .before .before in let at-is-title = at-if2 .before in let at-if1 = at-is-title .before in let at-is-end = at-if1 .before in
+    let at-mark2 = at-is-end .before .before in let at-next-label = at-mark2 .before .before in let at-loop = at-next-label .before in
+    block-inner _ _ _ _ _ _ _ (at-loop .loop .inv) _ _ _ (rw (at-mark2 .mark2 .given .1) at (at-next-label .next-label .ensures)) (sym (at-is-end .is-end .ensures) ∙
+    at-if1 .if1 .left) (sym (at-is-title .is-title .ensures) ∙ at-if2 .if2 .taken) (not-false _ (at-if3 .if3 .left)) _ (omega (arith, at-if4 .if4 .left)) _ _ _ _ _ (c
+    .count-more .ensures) (rw (at-last .last .given .1) at (at-walk-block .walk-block .ensures))
 
--- src/lib.rt:124:24
 walk-block-own-clash-requires : (t : ℕ) → walk-block-lts.Need-own-clash-requires (
   next-label-reads.Asked,
   next-label-reads.Learnt,
@@ -746,9 +762,11 @@ walk-block-own-clash-requires : (t : ℕ) → walk-block-lts.Need-own-clash-requ
   is-both-reads.Asked,
   is-both-reads.Learnt,
 ) (walk-block-at t) walk-block.Post walk-block-Inv-loop walk-block-μ-loop
-walk-block-own-clash-requires t c κs = let x = rw (c .before .before .before .before .before .mark2 .given .1) at (c .before .before .before .before .before .before .before .next-label .ensures) in (omega (arith, c .before .before .before .before .before .before .before .before .before .before .pre .1 .0), omega (arith, x .good), omega (arith, x .good))
+walk-block-own-clash-requires t c κs =
+    let at-mark2 = c .before .before .before .before .before in let at-next-label = at-mark2 .before .before in let at-pre = at-next-label .before .before .before in
+    let x = rw (at-mark2 .mark2 .given .1) at (at-next-label .next-label .ensures) in
+    (omega (arith, at-pre .pre .1 .0), omega (arith, x .good), omega (arith, x .good))
 
--- src/lib.rt:125:25
 walk-block-fault-requires-5 : (t : ℕ) → walk-block-lts.Need-fault-requires-5 (
   next-label-reads.Asked,
   next-label-reads.Learnt,
@@ -773,7 +791,6 @@ walk-block-fault-requires-5 : (t : ℕ) → walk-block-lts.Need-fault-requires-5
 ) (walk-block-at t) walk-block.Post walk-block-Inv-loop walk-block-μ-loop
 walk-block-fault-requires-5 t c κs = search needs
 
--- src/lib.rt:125:25
 walk-block-returns-7 : (t : ℕ) → walk-block-lts.Need-returns-7 (
   next-label-reads.Asked,
   next-label-reads.Learnt,
@@ -796,9 +813,12 @@ walk-block-returns-7 : (t : ℕ) → walk-block-lts.Need-returns-7 (
   is-both-reads.Asked,
   is-both-reads.Learnt,
 ) (walk-block-at t) walk-block.Post walk-block-Inv-loop walk-block-μ-loop
-walk-block-returns-7 t c = rw (c .fault5 .ensures) (block-twice _ _ _ _ _ _ _ (c .before .before .before .before .before .before .before .before .before .before .before .loop .inv) _ _ _ (rw (c .before .before .before .before .before .before .before .before .mark2 .given .1) at (c .before .before .before .before .before .before .before .before .before .before .next-label .ensures)) (sym (c .before .before .before .before .before .before .is-end .ensures) ∙ c .before .before .before .before .before .if1 .left) (sym (c .before .before .before .before .is-title .ensures) ∙ c .before .before .before .if2 .left) (sym (c .before .before .own-clash .ensures) ∙ c .before .if5 .taken))
+walk-block-returns-7 t c =
+    let at-own-clash = c .before .before in let at-if2 = at-own-clash .before in let at-is-title = at-if2 .before in let at-if1 = at-is-title .before in
+    let at-is-end = at-if1 .before in let at-mark2 = at-is-end .before .before in let at-next-label = at-mark2 .before .before in let at-loop = at-next-label .before in
+    rw (c .fault5 .ensures) (block-twice _ _ _ _ _ _ _ (at-loop .loop .inv) _ _ _ (rw (at-mark2 .mark2 .given .1) at (at-next-label .next-label .ensures)) (sym (at-is-end
+    .is-end .ensures) ∙ at-if1 .if1 .left) (sym (at-is-title .is-title .ensures) ∙ at-if2 .if2 .left) (sym (at-own-clash .own-clash .ensures) ∙ c .before .if5 .taken))
 
--- src/lib.rt:127:25
 walk-block-next-mark-requires : (t : ℕ) → walk-block-lts.Need-next-mark-requires (
   next-label-reads.Asked,
   next-label-reads.Learnt,
@@ -821,9 +841,11 @@ walk-block-next-mark-requires : (t : ℕ) → walk-block-lts.Need-next-mark-requ
   is-both-reads.Asked,
   is-both-reads.Learnt,
 ) (walk-block-at t) walk-block.Post walk-block-Inv-loop walk-block-μ-loop
-walk-block-next-mark-requires t c κs = let x = rw (c .before .before .before .before .before .before .before .mark2 .given .1) at (c .before .before .before .before .before .before .before .before .before .next-label .ensures) in omega (arith, x .good)
+walk-block-next-mark-requires t c κs =
+    let at-mark2 = c .before .before .before .before .before .before .before in let at-next-label = at-mark2 .before .before in
+    let x = rw (at-mark2 .mark2 .given .1) at (at-next-label .next-label .ensures) in
+    omega (arith, x .good)
 
--- src/lib.rt:128:21
 walk-block-note-requires : (t : ℕ) → walk-block-lts.Need-note-requires (
   next-label-reads.Asked,
   next-label-reads.Learnt,
@@ -847,10 +869,10 @@ walk-block-note-requires : (t : ℕ) → walk-block-lts.Need-note-requires (
   is-both-reads.Learnt,
 ) (walk-block-at t) walk-block.Post walk-block-Inv-loop walk-block-μ-loop
 walk-block-note-requires t c κs =
-    let x = rw (c .before .before .before .before .before .before .before .before .mark2 .given .1) at (c .before .before .before .before .before .before .before .before .before .before .next-label .ensures) in
+    let at-mark2 = c .before .before .before .before .before .before .before .before in let at-next-label = at-mark2 .before .before in
+    let x = rw (at-mark2 .mark2 .given .1) at (at-next-label .next-label .ensures) in
     (omega (arith, x .good), omega (arith, x .good), c .next-mark .ensures .low, c .next-mark .ensures .high)
 
--- src/lib.rt:129:24
 walk-block-is-both-requires : (t : ℕ) → walk-block-lts.Need-is-both-requires (
   next-label-reads.Asked,
   next-label-reads.Learnt,
@@ -875,7 +897,6 @@ walk-block-is-both-requires : (t : ℕ) → walk-block-lts.Need-is-both-requires
 ) (walk-block-at t) walk-block.Post walk-block-Inv-loop walk-block-μ-loop
 walk-block-is-both-requires t c κs = search needs
 
--- src/lib.rt:130:25
 walk-block-fault-requires-6 : (t : ℕ) → walk-block-lts.Need-fault-requires-6 (
   next-label-reads.Asked,
   next-label-reads.Learnt,
@@ -900,7 +921,6 @@ walk-block-fault-requires-6 : (t : ℕ) → walk-block-lts.Need-fault-requires-6
 ) (walk-block-at t) walk-block.Post walk-block-Inv-loop walk-block-μ-loop
 walk-block-fault-requires-6 t c κs = search needs
 
--- src/lib.rt:130:25
 walk-block-returns-8 : (t : ℕ) → walk-block-lts.Need-returns-8 (
   next-label-reads.Asked,
   next-label-reads.Learnt,
@@ -923,9 +943,14 @@ walk-block-returns-8 : (t : ℕ) → walk-block-lts.Need-returns-8 (
   is-both-reads.Asked,
   is-both-reads.Learnt,
 ) (walk-block-at t) walk-block.Post walk-block-Inv-loop walk-block-μ-loop
-walk-block-returns-8 t c = rw (c .fault6 .ensures) (block-table _ _ _ _ _ _ _ (c .before .before .before .before .before .before .before .before .before .before .before .before .before .before .before .loop .inv) _ _ _ (rw (c .before .before .before .before .before .before .before .before .before .before .before .before .mark2 .given .1) at (c .before .before .before .before .before .before .before .before .before .before .before .before .before .before .next-label .ensures)) (sym (c .before .before .before .before .before .before .before .before .before .before .is-end .ensures) ∙ c .before .before .before .before .before .before .before .before .before .if1 .left) (sym (c .before .before .before .before .before .before .before .before .is-title .ensures) ∙ c .before .before .before .before .before .before .before .if2 .left) (sym (c .before .before .before .before .before .before .own-clash .ensures) ∙ c .before .before .before .before .before .if5 .left) _ (c .before .before .before .before .next-mark .ensures) _ (c .before .before .before .note .ensures) (sym (c .before .before .is-both .ensures) ∙ c .before .if6 .taken))
+walk-block-returns-8 t c =
+    let at-is-both = c .before .before in let at-note = at-is-both .before in let at-next-mark = at-note .before in let at-if5 = at-next-mark .before in
+    let at-own-clash = at-if5 .before in let at-if2 = at-own-clash .before in let at-is-title = at-if2 .before in let at-if1 = at-is-title .before in
+    let at-is-end = at-if1 .before in let at-mark2 = at-is-end .before .before in let at-next-label = at-mark2 .before .before in let at-loop = at-next-label .before in
+    rw (c .fault6 .ensures) (block-table _ _ _ _ _ _ _ (at-loop .loop .inv) _ _ _ (rw (at-mark2 .mark2 .given .1) at (at-next-label .next-label .ensures)) (sym (at-is-end
+    .is-end .ensures) ∙ at-if1 .if1 .left) (sym (at-is-title .is-title .ensures) ∙ at-if2 .if2 .left) (sym (at-own-clash .own-clash .ensures) ∙ at-if5 .if5 .left) _
+    (at-next-mark .next-mark .ensures) _ (at-note .note .ensures) (sym (at-is-both .is-both .ensures) ∙ c .before .if6 .taken))
 
--- src/lib.rt:80:5
 walk-block-loop-less-2 : (t : ℕ) → walk-block-lts.Need-loop-less-2 (
   next-label-reads.Asked,
   next-label-reads.Learnt,
@@ -948,9 +973,11 @@ walk-block-loop-less-2 : (t : ℕ) → walk-block-lts.Need-loop-less-2 (
   is-both-reads.Asked,
   is-both-reads.Learnt,
 ) (walk-block-at t) walk-block.Post walk-block-Inv-loop walk-block-μ-loop
-walk-block-loop-less-2 t c = let x = rw (c .before .before .before .before .before .before .before .before .before .before .before .mark2 .given .1) at (c .before .before .before .before .before .before .before .before .before .before .before .before .before .next-label .ensures) in omega (arith, x .good)
+walk-block-loop-less-2 t c =
+    let at-mark2 = c .before .before .before .before .before .before .before .before .before .before .before in let at-next-label = at-mark2 .before .before in
+    let x = rw (at-mark2 .mark2 .given .1) at (at-next-label .next-label .ensures) in
+    omega (arith, x .good)
 
--- src/lib.rt:80:5
 walk-block-loop-again-2 : (t : ℕ) → walk-block-lts.Need-loop-again-2 (
   next-label-reads.Asked,
   next-label-reads.Learnt,
@@ -973,7 +1000,13 @@ walk-block-loop-again-2 : (t : ℕ) → walk-block-lts.Need-loop-again-2 (
   is-both-reads.Asked,
   is-both-reads.Learnt,
 ) (walk-block-at t) walk-block.Post walk-block-Inv-loop walk-block-μ-loop
-walk-block-loop-again-2 t c = block-own _ _ _ _ _ _ _ (c .before .before .before .before .before .before .before .before .before .before .before .before .before .before .loop .inv) _ _ _ (rw (c .before .before .before .before .before .before .before .before .before .before .before .mark2 .given .1) at (c .before .before .before .before .before .before .before .before .before .before .before .before .before .next-label .ensures)) (sym (c .before .before .before .before .before .before .before .before .before .is-end .ensures) ∙ c .before .before .before .before .before .before .before .before .if1 .left) (sym (c .before .before .before .before .before .before .before .is-title .ensures) ∙ c .before .before .before .before .before .before .if2 .left) (sym (c .before .before .before .before .before .own-clash .ensures) ∙ c .before .before .before .before .if5 .left) _ (c .before .before .before .next-mark .ensures) _ (c .before .before .note .ensures) (sym (c .before .is-both .ensures) ∙ c .if6 .left)
+walk-block-loop-again-2 t c =
+    let at-note = c .before .before in let at-next-mark = at-note .before in let at-if5 = at-next-mark .before in let at-own-clash = at-if5 .before in
+    let at-if2 = at-own-clash .before in let at-is-title = at-if2 .before in let at-if1 = at-is-title .before in let at-is-end = at-if1 .before in
+    let at-mark2 = at-is-end .before .before in let at-next-label = at-mark2 .before .before in let at-loop = at-next-label .before in
+    block-own _ _ _ _ _ _ _ (at-loop .loop .inv) _ _ _ (rw (at-mark2 .mark2 .given .1) at (at-next-label .next-label .ensures)) (sym (at-is-end .is-end .ensures) ∙ at-if1
+    .if1 .left) (sym (at-is-title .is-title .ensures) ∙ at-if2 .if2 .left) (sym (at-own-clash .own-clash .ensures) ∙ at-if5 .if5 .left) _ (at-next-mark .next-mark
+    .ensures) _ (at-note .note .ensures) (sym (c .before .is-both .ensures) ∙ c .if6 .left)
 
 pub +walk-block-spec : {M : Type 1} → statement M
 +walk-block-spec = close μ-walk-block λ t. walk-block-lts.spec (

@@ -21,7 +21,10 @@ past-space-requires-2 : tie.Need-past-space-requires-2
 past-space-requires-2 c κs = c .before .word-at .ensures .fits (not-false _ (c .if1 .left))
 
 returns-2 : tie.Need-returns-2
-returns-2 c = keyword-yes _ _ _ _ (c .before .before .before .past-space .ensures .is) (rw (not-false (c .before .before .word-at .result) (c .before .if1 .left)) at (c .before .before .word-at .ensures)) (c .past-space2 .ensures .is)
+returns-2 c =
+    let at-word-at = c .before .before in let at-past-space = at-word-at .before in
+    keyword-yes _ _ _ _ (at-past-space .past-space .ensures .is) (rw (not-false (at-word-at .word-at .result) (c .before .if1 .left)) at (at-word-at .word-at .ensures))
+    (c .past-space2 .ensures .is)
 
 pub is-keyword-spec : {M : Type 1} → statement M
 is-keyword-spec =

@@ -22,7 +22,9 @@ blocks-of-requires c κs = search needs
 
 returns : tie.Need-returns
 unfolding noteOf
-returns c = rw (c .before .before .before .either .ensures, c .before .either2 .ensures, c .blocks-of .ensures, c .before .before .before .before .says-link .ensures, c .before .before .is-table .ensures) refl
+returns c =
+    let at-is-table = c .before .before in let at-either = at-is-table .before in let at-says-link = at-either .before in
+    rw (at-either .either .ensures, c .before .either2 .ensures, c .blocks-of .ensures, at-says-link .says-link .ensures, at-is-table .is-table .ensures) refl
 
 pub note-spec : {M : Type 1} → statement M
 note-spec =

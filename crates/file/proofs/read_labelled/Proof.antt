@@ -32,7 +32,12 @@ add-start : tie.Need-add-start
 add-start c = let x = rw (c .before .eq .given .1) at (c .before .before .before .labels .ensures .1) in let h = x .0 .high in omega arith
 
 read-part-requires : tie.Need-read-part-requires
-read-part-requires c κs = let l = c .before .before .before .before in let x = rw (c .before .before .eq .given .1) at (l .labels .ensures .1) in let h = x .0 .high in (omega arith, labelled-short (file l) _ _ _ (sym (l .labels .ensures .0) ∙ c .before .before .eq .given .1))
+read-part-requires c κs =
+    let at-eq = c .before .before in let at-before = at-eq .before in
+    let l = at-before .before in
+    let x = rw (at-eq .eq .given .1) at (l .labels .ensures .1) in
+    let h = x .0 .high in
+    (omega arith, labelled-short (file l) _ _ _ (sym (l .labels .ensures .0) ∙ at-eq .eq .given .1))
 
 returns : tie.Need-returns
 returns c = let l = c .before .before .before in stage-refused refl (labels-refused (file l) (room l) _ (sym (l .labels .ensures .0) ∙ c .before .r .given .1))
@@ -41,7 +46,10 @@ same-length : tie.Need-same-length
 same-length c = search needs
 
 returns-2 : tie.Need-returns-2
-returns-2 c = let l = c .before .before .before .before .before .before in stage-same (labels-placed (file l) (room l) _ _ _ (sym (l .labels .ensures .0) ∙ c .before .before .before .before .eq .given .1)) (c .before .read-part .ensures)
+returns-2 c =
+    let at-eq = c .before .before .before .before in let at-before = at-eq .before in
+    let l = at-before .before in
+    stage-same (labels-placed (file l) (room l) _ _ _ (sym (l .labels .ensures .0) ∙ at-eq .eq .given .1)) (c .before .read-part .ensures)
 
 pub read-labelled-spec : {M : Type 1} → statement M
 read-labelled-spec =

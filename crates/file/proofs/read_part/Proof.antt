@@ -40,7 +40,11 @@ same-length : tie.Need-same-length
 same-length c = search needs
 
 returns-2 : tie.Need-returns-2
-returns-2 c = let x = c .before .before .before .before in let g = x .before .before in stage-same (records-all (file g) (room g) _ _ _ (sym (g .gather .ensures .0) ∙ x .x .given .1)) (c .before .read-records .ensures)
+returns-2 c =
+    let at-before = c .before .before .before in
+    let x = at-before .before in
+    let g = x .before .before in
+    stage-same (records-all (file g) (room g) _ _ _ (sym (g .gather .ensures .0) ∙ x .x .given .1)) (c .before .read-records .ensures)
 
 pub read-part-spec : {M : Type 1} → statement M
 read-part-spec =
