@@ -30,7 +30,7 @@ abbrev pub foundIn : ℕ → Found → Type 0
 foundIn len (Found.Text a b) = (a ≤ b) × (b ≤ len)
 foundIn len Found.Absent = Unit
 
-pick-found : (d : ℕ) (t : Bool) (p q : Found) → pick t (shiftFound d p) (shiftFound d q) ≡ shiftFound d (pick t p q)
+pub pick-found : (d : ℕ) (t : Bool) (p q : Found) → pick t (shiftFound d p) (shiftFound d q) ≡ shiftFound d (pick t p q)
 pick-found d true p q = refl
 pick-found d false p q = refl
 
@@ -57,7 +57,7 @@ module _ (s u : List ℕ) (m : ℕ) (k : Walk) (x q : ℕ)
     (text : (a b : ℕ) → a ≤ length u → b ≤ length u → take (m + b - (m + a)) (drop (m + a) s) ≡ take (b - a) (drop a u))
     (a : Above (length u) k) (low : x < length u) where
   -- What ends a text before END.
-  next-mark : (done : List (List ℕ)) (rest : Walk) → Sound u rest → Plain s done (shift m (graft rest k)) (m + x) (m + q)
+  pub next-mark : (done : List (List ℕ)) (rest : Walk) → Sound u rest → Plain s done (shift m (graft rest k)) (m + x) (m + q)
       → (markOf (length s) (shift m (graft rest k)) ≡ m + markOf (length u) rest) × (markOf (length u) rest ≤ length u)
   unfolding markOf
   next-mark done over d p = absurd (let z = plain-above s done m (length u) x (m + q) k a p in omega arith)

@@ -5,25 +5,30 @@ use mathlib.Core.List.{List, [], _∷_, _++_}
 use mathlib.Core.Logic.{inl, inr}
 use Prim.Native.Nat.{ℕ, _+_, _-_, _<_, _≤_}
 use native.Mathlib.Omega.{arith}
-use native.Mathlib.Nat.{add-zero}
+use native.Mathlib.Nat.{add-zero, add-assoc}
 use native.Mathlib.Numerals.{add-one}
 use lib.Dec.{eqb}
 use lib.ListN.{length, getD, take, drop, length-take, length-drop}
 use lib.Seq.{drop-drop}
-use borrow.Author.Tests.{le-leb, eqb-true}
+use borrow.Author.Tests.{le-leb, lt-ltb, eqb-true}
 use Rattle.terms.specs.Logic.{pick, no-way}
 use Rattle.label_spec.specs.declared.Opened.{Opened}
+use Rattle.label_spec.specs.declared.Found.{Found}
+use Rattle.label_spec.specs.declared.Labelled.{Labelled}
+use Rattle.label_spec.specs.declared.Record.{Record}
 use Rattle.label_spec.specs.Names.{blank, sames, TITLE}
 use Rattle.label_spec.specs.Labels.{Walk, over, bad, label, walk, from, hashed}
 use Rattle.label_spec.specs.LabelLaws.{hash-in}
 use Rattle.label_spec.specs.Space.{space, opens, pastSpace}
 use Rattle.label_spec.specs.SpaceLaws.{past-stop}
 use Rattle.label_spec.specs.File.{longestFile, titled, openedAt, opened, placed, afterTitle, labelled}
+use Rattle.label_spec.specs.Records.{markOf, recordOf, asRecord, recordIn, recordFor}
 use Rattle.file_spec.specs.Texts.{XFACTOR, YFACTOR, FIRSTX, LASTX, NPOINTS, FIRSTY, XYDATA, text-of, gatheredFrom}
 use Rattle.file_spec.specs.File.{byRecords, byLabels, readFile}
 use Rattle.compound_spec.specs.declared.Block.{Block}
 use Rattle.compound_spec.specs.Compound.{CompoundAnswer, inPlace, inBlock, readCompound}
 use Rattle.compound_spec.specs.Cut.{restOfLine, endOf, cutOut, shifted}
+use Rattle.compound_spec.specs.Answers.{recordInBlock}
 use Rattle.compound_law.specs.Shift.{shift}
 use Rattle.compound_law.specs.Graft.{graft}
 use Rattle.compound_law.specs.Standing.{Sound, sound}
@@ -31,8 +36,19 @@ use Rattle.compound_law.specs.Above.{Above, walk-above, from-above}
 use Rattle.compound_law.specs.Lines.{Cut, cut-at, cut-holds, same-text, cut-walk}
 use Rattle.compound_law.specs.Plain.{Plain, plain-judged, DataBlock}
 use Rattle.compound_law.specs.Old.{linkAfter, isCompound, old-answers, plain-silent}
-use Rattle.compound_law.specs.Carry.{shiftFound, foundIn, plain-cut, record-cut, record-in}
+use Rattle.compound_law.specs.Carry.{shiftFound, foundIn, pick-found, next-mark, plain-cut, record-cut, record-in}
 use Rattle.compound_law.specs.Gather.{shiftGathered, gatheredIn, with-text, with-in, records-cut}
+
+-- A record of a file, further on by d.
+abbrev pub shiftRecord : ℕ → Record → Record
+shiftRecord d (Record.Text a b) = Record.Text (d + a) (d + b)
+shiftRecord d Record.Absent = Record.Absent
+shiftRecord d (Record.Refused r) = Record.Refused r
+
+as-shifted : (d : ℕ) (f : Found) → asRecord (shiftFound d f) ≡ shiftRecord d (asRecord f)
+unfolding asRecord
+as-shifted d (Found.Text a b) = refl
+as-shifted d Found.Absent = refl
 
 -- The cut begins with its TITLE.
 record TitleOf (u : List ℕ) (k : Walk) (m e : ℕ) (v : List ℕ) : Type 0 where
@@ -124,6 +140,24 @@ module _ (s : List ℕ) (m : ℕ) (u w : List ℕ) (c : Cut (drop m s) u w) (fit
   pub place-cut : (space : ℕ) → byRecords s space (m + x) (gatheredFrom s (m + (e + 1)) (m + x)) ≡ shifted m (byRecords u space x (gatheredFrom u (e + 1) x))
   place-cut space = rw gathered-cut (records-cut s u m (same-text s m u w c) space x (gatheredFrom u (e + 1) x) gathered-in)
 
+  -- A record whose label stands in front of these, its `##` at m.
+  mark-there : markOf (length s) (from s (m + (e + 1)) false) ≡ m + markOf (length u) (from u (e + 1) false)
+  mark-there =
+      rw (cut-walk s m u w c (e + 1) false in-u)
+      ((next-mark s u m (walk w (length u) true) x q (same-text s m u w c) (walk-above w (length u) true) end-u [] (from u (e + 1) false) (sound u (e + 1) false) there) .0)
+
+  pub first-cut : 0 < x → (a b : ℕ) (v k : List ℕ)
+      → recordOf (length s) (m + x) k (label m a (m + e) v (from s (m + (e + 1)) false)) ≡ shiftFound m (recordOf (length u) x k (label 0 b e v (from u (e + 1) false)))
+  unfolding recordOf
+  first-cut h a b v k =
+      rw (lt-ltb m (m + x) (omega arith), lt-ltb 0 x h, mark-there, text-cut k, add-assoc m e 1)
+      (pick-found m (sames v k) (Found.Text (e + 1) (markOf (length u) (from u (e + 1) false))) (recordOf (length u) x k (from u (e + 1) false)))
+
+-- What the labels of the cut say.
+labelled-cut : (u : List ℕ) (e x q : ℕ) → length u ≤ longestFile → opened u ≡ Opened.Title 0 e → Plain u [] (from u (e + 1) false) x q → labelled u ≡ Labelled.Places 0 e x
+unfolding labelled afterTitle placed
+labelled-cut u e x q h o p = rw (le-leb (length u) longestFile h, o, plain-judged u (length u) [] (from u (e + 1) false) x q p) refl
+
 -- What the simple reader makes of the cut.
 read-cut : (u : List ℕ) (space e x q : ℕ) → length u ≤ longestFile → opened u ≡ Opened.Title 0 e → Plain u [] (from u (e + 1) false) x q
     → readFile u space ≡ byRecords u space x (gatheredFrom u (e + 1) x)
@@ -198,6 +232,29 @@ module _ (s : List ℕ) (b : Block) (d : DataBlock s b) (i : Bounds s b) (u w : 
       let o = opened-cut u (from u 0 true) (b .title) (b .eq) (d .name) refl (d .is-title) title-cut in
       alone-cut u space (title-cut .eq) (b .end - b .title) (b .last - b .title) o l
 
+  -- The record with the name k, TITLE's own among them.
+  record-whole : (k : List ℕ) → recordOf (length s) (b .end) k (from s (b .title) true) ≡ shiftFound (b .title) (recordOf (length u) (b .end - b .title) k (from u 0 true))
+  record-whole k =
+      let t = title-cut in
+      let z = rw (t .at) at (sound u 0 true) in
+      let y : b .title + t .eq ≡ b .eq = t .place in
+      let f = first-cut s (b .title) u w c fits (t .eq) (b .end - b .title) (b .last - b .title) in-cut end-cut labels-there (omega (arith, i .open-low, i .close-low)) (d .text) (t .text) (d .name) k in
+      rw (d .at, t .at, z .0 .on) (rw (start-is, end-is, y) at f)
+
+  record-alone : (k : List ℕ) → length s ≤ longestFile → recordInBlock s (b .title) (b .end) k ≡ shiftRecord (b .title) (recordFor u k)
+  unfolding recordInBlock recordFor recordIn
+  record-alone k h =
+      let l = labels-cut s (b .title) u w c fits (title-cut .eq) (b .end - b .title) (b .last - b .title) in-cut end-cut labels-there in
+      let o = opened-cut u (from u 0 true) (b .title) (b .eq) (d .name) refl (d .is-title) title-cut in
+      rw (
+        le-leb (length s) longestFile h,
+        le-leb (b .end) (length s) (omega (arith, i .close-high, i .inside)),
+        lt-ltb (b .title) (b .end) (omega (arith, i .open-low, i .close-low)),
+        d .hash,
+        record-whole k,
+        labelled-cut u (title-cut .eq) (b .end - b .title) (b .last - b .title) (omega arith) o l,
+      ) (as-shifted (b .title) (recordOf (length u) (b .end - b .title) k (from u 0 true)))
+
 -- The cut is the part of the file that it is said to be.
 cut-is : (s : List ℕ) (b : Block) → Bounds s b
     → cutOut s b ≡ take (b .last - b .title + restOfLine (drop (b .last - b .title) (drop (b .title) s))) (drop (b .title) s)
@@ -225,3 +282,13 @@ cut-alone s b d space =
     let k : b .last - b .title < length (drop (b .title) s) = omega (arith, i .open-low, i .close-low, i .close-high, i .inside) in
     rw (cut-is s b i) (whole-alone s b d i _ _ (cut-at (drop (b .title) s) (b .last - b .title)) (omega (arith, i .open-low, i .close-low, i .close-high, i .inside))
     (cut-holds (drop (b .title) s) (b .last - b .title) k) space)
+
+-- A record of a data block is that of the cut, with the same name, places shifted.
+pub record-cut-out : (s : List ℕ) (b : Block) → DataBlock s b → length s ≤ longestFile → (k : List ℕ) → recordInBlock s (b .title) (b .end) k ≡ shiftRecord (b .title) (recordFor (cutOut s b) k)
+record-cut-out s b d h k =
+    let i = bounds s b d in
+    let r = length-drop (b .title) s in
+    let n = length-take (b .last - b .title + restOfLine (drop (b .last - b .title) (drop (b .title) s))) (drop (b .title) s) in
+    let z : b .last - b .title < length (drop (b .title) s) = omega (arith, i .open-low, i .close-low, i .close-high, i .inside) in
+    rw (cut-is s b i) (record-alone s b d i _ _ (cut-at (drop (b .title) s) (b .last - b .title)) (omega (arith, i .open-low, i .close-low, i .close-high, i .inside))
+    (cut-holds (drop (b .title) s) (b .last - b .title) z) k h)
