@@ -3,9 +3,10 @@ ghost use mathlib.Core.Path.{_≡_};
 ghost use Prim.Native.Nat.{_+_, _-_, _≤_};
 ghost use lib.ListN.{length};
 ghost use Rattle.label_spec.specs.File.{longestFile};
+ghost use Rattle.file_spec.specs.Texts.{gatheredFrom};
 ghost use Rattle.file_spec.specs.Figures.{figuresOf, ratio};
 ghost use Rattle.terms.specs.Refusals.{fault-at};
-ghost use Rattle.file_spec.specs.File.{inFile, byTable, byAbscissas, byFigures, readFile};
+ghost use Rattle.file_spec.specs.File.{inFile, byTable, byAbscissas, byFigures, byRecords, readFile};
 ghost use Rattle.file_spec.specs.declared.FileStaged.{FileStaged};
 ghost use Rattle.file_records.specs.Bounds.{AllWithin, AllSmall};
 ghost use Rattle.file.specs.Answers.{StageSays, FileSays};
@@ -139,7 +140,18 @@ fn read_records(file: &[u8], out: &mut [i32], x: Needed) -> FileStaged
     }
 }
 
-// The labels (19 to 24), the records (25), then the rest.
+// The records from the place `start`, after TITLE's `=`, up to END's `##` (25), then the rest. The readers of files and of the blocks of a file share it.
+pub fn read_part(file: &[u8], out: &mut [i32], start: usize, end: usize) -> FileStaged
+    requires { ⌜ (start ≤ length (now file)) × (length (now file) ≤ longestFile) ⌝ }
+    ensures { λ r. ⌜ StageSays (byRecords (now (file .entry)) (length (now (out .entry))) end (gatheredFrom (now (file .entry)) start end)) (now (out .entry)) (now (out .exit)) r ⌝ }
+{
+    match gather(file, start, end) {
+        Gathered::Lacking => refused(25, end),
+        Gathered::All(x) => read_records(file, out, x),
+    }
+}
+
+// The labels (19 to 24), then the rest.
 fn read_labelled(file: &[u8], out: &mut [i32]) -> FileStaged
     ensures { λ r. ⌜ StageSays (readFile (now (file .entry)) (length (now (out .entry)))) (now (out .entry)) (now (out .exit)) r ⌝ }
 {
@@ -147,10 +159,7 @@ fn read_labelled(file: &[u8], out: &mut [i32]) -> FileStaged
         Labelled::Refused(r) => FileStaged::Refused(r),
         Labelled::Places { title: _, eq, end } => {
             let start = eq + 1;
-            match gather(file, start, end) {
-                Gathered::Lacking => refused(25, end),
-                Gathered::All(x) => read_records(file, out, x),
-            }
+            read_part(file, out, start, end)
         }
     }
 }

@@ -1,2 +1,3 @@
 pub mod Bits
 pub mod Tellings
+pub mod BlockTellings

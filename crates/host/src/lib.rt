@@ -3,6 +3,9 @@
 ghost use mathlib.Core.Path.{_≡_};
 ghost use Rattle.table_spec.specs.declared.Style.the-variants.{Difdup};
 ghost use Rattle.host.specs.Answers.{bits, TableTold, TextTold, FormTold, FileTold, scalesOf, FileTextTold, RecordTold};
+ghost use Rattle.host.specs.Blocks.{BlocksTold, BlockTold, BlockRecordTold};
+use compound_spec::BlockRead;
+use compound_spec::BlocksFound;
 use file_spec::FileRead;
 use file_write_spec::FileWritten;
 use file_write_spec::GivenDecimal;
@@ -203,6 +206,112 @@ pub extern "C" fn lastarunc_find_record(file: &[u8], name: &[u8], answer: &mut [
     ensures { λ r. ⌜ RecordTold (now (file .entry)) (now (name .entry)) (now (answer .exit)) r ⌝ }
 {
     match label::find(file, name) {
+        Record::Text { from: a, to: b } => {
+            *answer = [0, 0, 0, 0, a as u64, b as u64];
+            0
+        }
+        Record::Absent => {
+            *answer = [ABSENT, 0, 0, 0, 0, 0];
+            ABSENT
+        }
+        Record::Refused(r) => {
+            *answer = [
+                r.number,
+                r.place as u64,
+                r.line as u64,
+                r.column as u64,
+                0,
+                0,
+            ];
+            r.number
+        }
+    }
+}
+
+// Finds the data blocks of a file (02, T-07): refused, place, line, column, compound, blocks.
+#[no_mangle]
+pub extern "C" fn lastarunc_find_blocks(
+    file: &[u8],
+    blocks: &mut [u64],
+    answer: &mut [u64; 6],
+) -> u64
+    ensures { λ r. ⌜ BlocksTold (now (file .entry)) (now (blocks .entry)) (now (blocks .exit)) (now (answer .exit)) r ⌝ }
+{
+    match compound_find::find_blocks(file, blocks) {
+        BlocksFound::Refused(r) => {
+            *answer = [
+                r.number,
+                r.place as u64,
+                r.line as u64,
+                r.column as u64,
+                0,
+                0,
+            ];
+            r.number
+        }
+        BlocksFound::One => {
+            *answer = [0, 0, 0, 0, 0, 1];
+            0
+        }
+        BlocksFound::Compound(n) => {
+            *answer = [0, 0, 0, 0, 1, n as u64];
+            0
+        }
+    }
+}
+
+// Reads a data block (02, T-07), whose numbers are from, to, start, end: refused, place, line, column, points, first, last. A negative number is one beyond every file here.
+#[no_mangle]
+pub extern "C" fn lastarunc_read_block(
+    file: &[u8],
+    block: &[u64; 4],
+    out: &mut [i32],
+    answer: &mut [u64; 7],
+) -> u64
+    ensures { λ r. ⌜ BlockTold (now (file .entry)) (now (block .entry)) (now (out .entry)) (now (out .exit)) (now (answer .exit)) r ⌝ }
+{
+    let start = block[2] as usize;
+    let end = block[3] as usize;
+    match compound_read::read_block(file, start, end, out) {
+        BlockRead::Accepted(t) => {
+            let n = t.points;
+            let f = bits_of(t.first);
+            let l = bits_of(t.last);
+            *answer = [0, 0, 0, 0, n as u64, f, l];
+            0
+        }
+        BlockRead::Refused(r) => {
+            *answer = [
+                r.number,
+                r.place as u64,
+                r.line as u64,
+                r.column as u64,
+                0,
+                0,
+                0,
+            ];
+            r.number
+        }
+        BlockRead::NoBlock => {
+            *answer = [ABSENT, 0, 0, 0, 0, 0, 0];
+            ABSENT
+        }
+    }
+}
+
+// Finds the text of a record of a data block (02, T-07): refused, place, line, column, from, to.
+#[no_mangle]
+pub extern "C" fn lastarunc_find_in_block(
+    file: &[u8],
+    block: &[u64; 4],
+    name: &[u8],
+    answer: &mut [u64; 6],
+) -> u64
+    ensures { λ r. ⌜ BlockRecordTold (now (file .entry)) (now (block .entry)) (now (name .entry)) (now (answer .exit)) r ⌝ }
+{
+    let from = block[0] as usize;
+    let end = block[3] as usize;
+    match compound_read::find_in_block(file, from, end, name) {
         Record::Text { from: a, to: b } => {
             *answer = [0, 0, 0, 0, a as u64, b as u64];
             0

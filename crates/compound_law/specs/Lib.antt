@@ -1,0 +1,17 @@
+pub mod Shift
+pub mod Standing
+pub mod Graft
+pub mod Above
+pub mod Plain
+pub mod Found
+pub mod Lines
+pub mod Order
+pub mod Carry
+pub mod Old
+pub mod One
+pub mod Gather
+pub mod CutOut
+pub mod Places
+pub mod Theorems
+pub mod Samples
+pub mod Flat

@@ -1,0 +1,127 @@
+-- The turns of reading a data block and of finding a record of it: no place of the code is named here.
+use mathlib.Core.Path.{_≡_, refl, ap, sym, _∙_}
+use mathlib.Core.Bool.{true, false}
+use mathlib.Core.List.{List}
+use Prim.Native.Nat.{ℕ, _+_, _<_, _≤_}
+use native.Mathlib.Omega.{arith}
+use lib.IntN.{ℤ}
+use lib.ListN.{length}
+use borrow.Author.Tests.{le-leb, lt-leb, lt-ltb, le-ltb}
+use Rattle.terms.specs.Logic.{zero-one}
+use Rattle.terms.specs.Refusals.{fault-at, refusalIn}
+use Rattle.terms.specs.declared.Fault.{Fault}
+use Rattle.terms.specs.declared.Refusal.{Refusal}
+use Rattle.label_spec.specs.Labels.{from, hashed}
+use Rattle.label_spec.specs.File.{longestFile}
+use Rattle.label_spec.specs.Records.{recordOf, asRecord}
+use Rattle.label_spec.specs.declared.Spot.the-variants.{Place, Nowhere}
+use Rattle.label_spec.specs.declared.Found.{Found}
+use Rattle.label_spec.specs.declared.Record.{Record}
+use Rattle.label.specs.Answers.{foundIn, findIn}
+use Rattle.label.specs.Post.{Named}
+use Rattle.label_lines.specs.Post.{Marked}
+use Rattle.label.proofs.WalkTurns.{mark-is}
+use Rattle.file_spec.specs.declared.FileTable.{FileTable}
+use Rattle.file_spec.specs.declared.FileStaged.{FileStaged}
+use Rattle.file_spec.specs.Texts.{gatheredFrom}
+use Rattle.file_spec.specs.File.{FileAnswer, refuse-file, accept-file, staged, byRecords}
+use Rattle.file.specs.Answers.{StageSays}
+use Rattle.compound_spec.specs.declared.BlockRead.{BlockRead}
+use Rattle.compound_spec.specs.Compound.{inPlace}
+use Rattle.compound_spec.specs.Answers.{BlockAnswer, answer, no-block, readBlock, toldBlock, recordInBlock}
+use Rattle.compound_read.specs.Answers.{ReadsBlock}
+
+-- ---- `read_block`
+
+module _ (s : List ℕ) (start end : ℕ) (out : List ℤ) where
+  abbrev Is : BlockAnswer → Type 0
+  Is x = readBlock s (length out) start end ≡ x
+
+  pub read-long : longestFile < length s → (q : Refusal) → q ≡ refusalIn s 19 0 → ReadsBlock s start end out out (BlockRead.Refused q)
+  read-long h q e =
+      let z : Is (answer (refuse-file 19 0)) = (unfold readBlock in rw (lt-leb (length s) longestFile h) refl) in
+      record { answers = rw (z, e) refl; leaves = rw z refl }
+
+  module _ (h : length s ≤ longestFile) where
+    none : Is no-block → ReadsBlock s start end out out BlockRead.NoBlock
+    none z = record { answers = rw z refl; leaves = rw z refl }
+
+    pub read-crossed : end < start → ReadsBlock s start end out out BlockRead.NoBlock
+    read-crossed g = none (unfold readBlock in rw (le-leb (length s) longestFile h, lt-leb start end g) refl)
+
+    module _ (g : start ≤ end) where
+      pub read-outside : length s < end → ReadsBlock s start end out out BlockRead.NoBlock
+      read-outside f = none (unfold readBlock in rw (le-leb (length s) longestFile h, le-leb start end g, lt-leb end (length s) f) refl)
+
+      module _ (f : end ≤ length s) where
+        placed : Is (answer (byRecords s (length out) end (gatheredFrom s start end)))
+        placed = unfold readBlock inPlace in rw (le-leb (length s) longestFile h, le-leb start end g, le-leb end (length s) f) refl
+
+        pub read-table : (out' : List ℤ) (t : FileTable) → StageSays (byRecords s (length out) end (gatheredFrom s start end)) out out' (FileStaged.Accepted t)
+            → ReadsBlock s start end out out' (BlockRead.Accepted t)
+        read-table out' t x = record { answers = rw placed (cases (byRecords s (length out) end (gatheredFrom s start end)) (x .answers)); leaves = rw placed (x .leaves) }
+          where
+            cases : (r : FileAnswer) → FileStaged.Accepted t ≡ staged r → BlockRead.Accepted t ≡ toldBlock s (answer r)
+            cases (refuse-file c a) e = zero-one cc
+            cases (accept-file u ys) e = cc
+
+        pub read-fault : (out' : List ℤ) (r : Fault) → StageSays (byRecords s (length out) end (gatheredFrom s start end)) out out' (FileStaged.Refused r)
+            → (q : Refusal) → q ≡ refusalIn s (r .number) (r .place) → ReadsBlock s start end out out' (BlockRead.Refused q)
+        read-fault out' r x q k = record { answers = rw placed (cases (byRecords s (length out) end (gatheredFrom s start end)) (x .answers)); leaves = rw placed (x .leaves) }
+          where
+            cases : (w : FileAnswer) → FileStaged.Refused r ≡ staged w → BlockRead.Refused q ≡ toldBlock s (answer w)
+            cases (accept-file u ys) e = zero-one cc
+            cases (refuse-file c a) e = let z : r ≡ fault-at c a = cc in rw (k, z) refl
+
+-- ---- `find_from_mark`
+
+abbrev pub FindsFrom : List ℕ → ℕ → ℕ → List ℕ → Found → Type 0
+FindsFrom s m stop w r = (r ≡ recordOf (length s) stop w (from s m true)) × foundIn 0 (length s) r
+
+lower : (a len : ℕ) (r : Found) → foundIn a len r → foundIn 0 len r
+lower a len (Found.Text i j) x = (omega arith, x .1, x .2)
+lower a len Found.Absent x = tt
+
+module _ (s : List ℕ) (m stop : ℕ) (h : m < stop) (w : List ℕ) where
+  pub from-on : Named s m w Nowhere → (r : Found) → (r ≡ recordOf (length s) stop w (from s (m + 2) false)) × foundIn (m + 2) (length s) r → FindsFrom s m stop w r
+  from-on x r f = (f .0 ∙ sym (x .says (length s) stop h), lower (m + 2) (length s) r (f .1))
+
+  pub from-here : (e to : ℕ) → Named s m w (Place e) → Marked s (e + 1) to → FindsFrom s m stop w (Found.Text (e + 1) to)
+  unfolding recordOf
+  from-here e to x q = (
+    sym (ap (recordOf (length s) stop w) (x .says .2) ∙ rw (lt-ltb m stop h, x .says .3, ← mark-is s (e + 1) to q) refl),
+    (omega arith, q .low, q .high),
+  )
+
+-- ---- `find_in_block`
+
+abbrev pub FindsIn : List ℕ → ℕ → ℕ → List ℕ → Record → Type 0
+FindsIn s m end w r = (r ≡ recordInBlock s m end w) × findIn (length s) r
+
+module _ (s : List ℕ) (m end : ℕ) (w : List ℕ) where
+  pub in-long : longestFile < length s → (q : Refusal) → q ≡ refusalIn s 19 0 → FindsIn s m end w (Record.Refused q)
+  in-long h q e = (sym (unfold recordInBlock in rw (lt-leb (length s) longestFile h, e) refl), rw e (omega arith))
+
+  module _ (h : length s ≤ longestFile) where
+    pub in-outside : length s < end → FindsIn s m end w Record.Absent
+    in-outside g = (sym (unfold recordInBlock in rw (le-leb (length s) longestFile h, lt-leb end (length s) g) refl), tt)
+
+    module _ (g : end ≤ length s) where
+      pub in-crossed : end ≤ m → FindsIn s m end w Record.Absent
+      in-crossed f = (sym (unfold recordInBlock in rw (le-leb (length s) longestFile h, le-leb end (length s) g, le-ltb m end f) refl), tt)
+
+      module _ (f : m < end) where
+        pub in-bare : hashed s m ≡ false → FindsIn s m end w Record.Absent
+        in-bare k = (sym (unfold recordInBlock in rw (le-leb (length s) longestFile h, le-leb end (length s) g, lt-ltb m end f, k) refl), tt)
+
+        module _ (k : hashed s m ≡ true) where
+          there : recordInBlock s m end w ≡ asRecord (recordOf (length s) end w (from s m true))
+          there = unfold recordInBlock in rw (le-leb (length s) longestFile h, le-leb end (length s) g, lt-ltb m end f, k) refl
+
+          pub in-text : (a b : ℕ) → FindsFrom s m end w (Found.Text a b) → FindsIn s m end w (Record.Text a b)
+          unfolding asRecord
+          in-text a b x = (sym (there ∙ rw (← x .0) refl), (x .1 .1, x .1 .2))
+
+          pub in-absent : FindsFrom s m end w Found.Absent → FindsIn s m end w Record.Absent
+          unfolding asRecord
+          in-absent x = (sym (there ∙ rw (← x .0) refl), tt)

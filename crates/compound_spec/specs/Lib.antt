@@ -1,0 +1,4 @@
+pub mod Blocks
+pub mod Compound
+pub mod Cut
+pub mod Answers
