@@ -168,7 +168,17 @@ static void *filled_bytes(size_t n)
 /* ---- Counting and telling ---- */
 
 /* The kinds of case, writes by form, as they are counted; and what -1 means in answer to one. */
-enum kind_of_case { BODIES, WRITES, NO_FORM = WRITES + 4, FILES, RECORDS, WRITTEN_FILES, KINDS };
+enum kind_of_case {
+    BODIES,
+    WRITES,
+    NO_FORM = WRITES + 4,
+    FILES,
+    RECORDS,
+    WRITTEN_FILES,
+    COMPOUND,
+    BLOCK_RECORDS,
+    KINDS
+};
 static const struct {
     const char *name, *minus_one;
 } kinds[KINDS] = {
@@ -181,6 +191,8 @@ static const struct {
     [FILES] = {"files", ""},
     [RECORDS] = {"records", "absent"},
     [WRITTEN_FILES] = {"files to write", ""},
+    [COMPOUND] = {"files as compound ones", ""},
+    [BLOCK_RECORDS] = {"records of blocks", "absent"},
 };
 
 static unsigned long passed, failed;
@@ -521,6 +533,171 @@ static void compare_record(void)
     free(name);
 }
 
+/* A file that may be a compound one, and the second reader's answer: what it is, and each of its data blocks. */
+struct compound_case {
+    uint32_t room, length;
+    uint8_t *file;
+    struct refusal right;
+    int64_t compound, blocks;
+};
+
+/* A data block as the second reader answers it. */
+struct block_case {
+    int64_t from, to;
+    struct refusal right;
+    int64_t points, first, last;
+    int32_t *expected;
+};
+
+static struct block_case take_block(void)
+{
+    struct block_case b;
+    b.from = take_i64();
+    b.to = take_i64();
+    b.right = take_refusal();
+    b.points = take_i64();
+    b.first = take_i64();
+    b.last = take_i64();
+    b.expected = take_ordinates((size_t)b.points);
+    return b;
+}
+
+/* What is wrong with the answer to a block, or with the ordinates lent; NULL if nothing is. */
+static const char *block_differs(const struct block_case *b, struct refusal right, int64_t returned,
+                                 const struct lastarunc_file *answer, const int32_t *out, uint32_t room)
+{
+    struct refusal here = {answer->refused, answer->place, answer->line, answer->column};
+    const char *difference = refusal_differs(returned, here, right);
+    if (!difference && (answer->points != b->points || answer->first != b->first || answer->last != b->last))
+        difference = "N, F or L of a block";
+    if (!difference && guard_altered(answer, sizeof *answer))
+        difference = "what stands behind the answer is altered";
+    return difference ? difference : ordinates_differ(out, room, b->expected, (size_t)b->points);
+}
+
+/* Reads a block where it stands, and, cut out, as a file; the first difference, NULL if there is none. */
+static const char *read_block(const struct compound_case *c, const struct block_case *b,
+                              const struct lastarunc_block *found)
+{
+    if (found->from != b->from || found->to != b->to)
+        return "where a block stands";
+    int32_t *out = filled_ordinates(c->room);
+    struct lastarunc_file *answer = filled_bytes(sizeof *answer);
+    int64_t returned = lastarunc_read_block(c->file, c->length, found, out, c->room, answer);
+    const char *difference = block_differs(b, b->right, returned, answer, out, c->room);
+    free(out);
+    free(answer);
+    if (difference)
+        return difference;
+
+    size_t length = (size_t)(b->to - b->from);
+    uint8_t *cut = copy_of(c->file + b->from, length);
+    out = filled_ordinates(c->room);
+    answer = filled_bytes(sizeof *answer);
+    returned = lastarunc_read_file(cut, length, out, c->room, answer);
+    if (b->right.number > 2) { /* the place in the whole file; its line and column were compared above */
+        answer->place += b->from;
+        answer->line = b->right.line;
+        answer->column = b->right.column;
+    }
+    difference = block_differs(b, b->right, returned, answer, out, c->room);
+    free(cut);
+    free(out);
+    free(answer);
+    return difference ? "a block, cut out" : NULL;
+}
+
+/* Lends memory for as many blocks as there are, or one less or more, by turns. */
+static void compare_compound(void)
+{
+    struct compound_case c;
+    c.room = take_u32();
+    c.length = take_u32();
+    c.file = take_bytes(c.length);
+    c.right = take_refusal();
+    c.compound = take_u32();
+    c.blocks = take_i64();
+
+    uint8_t *before = copy_of(c.file, c.length);
+    size_t lent = (size_t)c.blocks + case_number % 3, most = lent ? lent - 1 : 0;
+    struct lastarunc_block *blocks = filled_bytes(most * sizeof *blocks);
+    struct lastarunc_block *untouched = filled_bytes(most * sizeof *blocks);
+    struct lastarunc_blocks *answer = filled_bytes(sizeof *answer);
+    int64_t returned = lastarunc_find_blocks(c.file, c.length, blocks, 4 * most, answer);
+    struct refusal here = {answer->refused, answer->place, answer->line, answer->column};
+    const char *difference = refusal_differs(returned, here, c.right);
+    if (!difference && (answer->compound != c.compound || answer->blocks != c.blocks))
+        difference = "how many blocks";
+    if (!difference && guard_altered(answer, sizeof *answer))
+        difference = "what stands behind the answer is altered";
+    for (size_t k = 0; k < (size_t)c.blocks; k++) {
+        struct block_case b = take_block();
+        if (!difference && k < most)
+            difference = read_block(&c, &b, &blocks[k]);
+        free(b.expected);
+    }
+    size_t stored = most < (size_t)c.blocks ? most : (size_t)c.blocks;
+    if (!difference && memcmp(blocks + stored, untouched + stored, (most - stored) * sizeof *blocks))
+        difference = "blocks past the last are altered";
+    if (!difference && memcmp(before, c.file, c.length))
+        difference = "the file is altered";
+    if (counted(COMPOUND, c.right.number, difference)) {
+        show_bytes("file", c.file, c.length);
+        show_refusal("second", c.right);
+        printf(", compound %" PRId64 ", blocks %" PRId64 "\n", c.compound, c.blocks);
+        show_refusal("here", here);
+        printf(", compound %" PRId64 ", blocks %" PRId64 ", returned %" PRId64 "\n", answer->compound, answer->blocks,
+               returned);
+    }
+    free(before);
+    free(blocks);
+    free(untouched);
+    free(answer);
+    free(c.file);
+}
+
+/* The record of data block k of a file; one of a block that is not there is asked of no places of the file. */
+static void compare_block_record(void)
+{
+    uint32_t length = take_u32();
+    uint8_t *file = take_bytes(length);
+    uint64_t k = take_u64();
+    uint32_t name_length = take_u32();
+    uint8_t *name = take_bytes(name_length);
+    struct refusal right = take_refusal();
+    if (right.number == UINT32_MAX)
+        right.number = LASTARUNC_ABSENT;
+    int64_t from = take_i64(), to = take_i64();
+
+    size_t most = (size_t)k + 1;
+    struct lastarunc_block *blocks = memory(most, sizeof *blocks), none = {0, 0, 1, 0};
+    struct lastarunc_blocks found;
+    struct lastarunc_record *answer = filled_bytes(sizeof *answer);
+    int64_t returned = lastarunc_find_blocks(file, length, blocks, 4 * most, &found);
+    if (!returned) {
+        returned = lastarunc_find_in_block(file, length, (int64_t)k < found.blocks ? &blocks[k] : &none, name,
+                                           name_length, answer);
+    } else {
+        *answer = (struct lastarunc_record){found.refused, found.place, found.line, found.column, 0, 0};
+    }
+    struct refusal here = {answer->refused, answer->place, answer->line, answer->column};
+    const char *difference = refusal_differs(returned, here, right);
+    if (!difference && (answer->from != from || answer->to != to))
+        difference = "from or to";
+    if (counted(BLOCK_RECORDS, right.number, difference)) {
+        show_bytes("name", name, name_length);
+        show_bytes("file", file, length);
+        show_refusal("second", right);
+        printf(", block %" PRIu64 ", from %" PRId64 " to %" PRId64 "\n", k, from, to);
+        show_refusal("here", here);
+        printf(", from %" PRId64 " to %" PRId64 ", returned %" PRId64 "\n", answer->from, answer->to, returned);
+    }
+    free(blocks);
+    free(answer);
+    free(file);
+    free(name);
+}
+
 /* A file to be written into `room` bytes, and the second writer's answer: F and L, and a text of `length` bytes. */
 struct file_case {
     uint32_t title_length, n, room;
@@ -709,6 +886,12 @@ int main(void)
             break;
         case 'V':
             compare_written_file();
+            break;
+        case 'C':
+            compare_compound();
+            break;
+        case 'K':
+            compare_block_record();
             break;
 #endif
         default:

@@ -33,7 +33,7 @@ extern "C" {
 /* The ordinate of a point that was not measured: `?` in a table. It is never an ordinary ordinate. */
 #define LASTARUNC_MISSING INT32_MIN
 
-/* What lastarunc_find_record answers for a record that is absent. No refusal has this number. */
+/* What is answered for a record, or a block, that is absent. No refusal has this number. */
 #define LASTARUNC_ABSENT INT64_C(-1)
 
 /* The forms in which a table is written. */
@@ -72,6 +72,20 @@ struct lastarunc_file {
 struct lastarunc_record {
     int64_t refused, place, line, column;
     int64_t from, to;
+};
+
+/*
+ * A data block of a file, as lastarunc_find_blocks stores it. The bytes from `from` up to, not with, `to` are the block
+ * cut out as a file, TITLE to END; its records begin at `start` and end at `end`.
+ */
+struct lastarunc_block {
+    int64_t from, to, start, end;
+};
+
+/* What lastarunc_find_blocks answers: whether the file is a compound one (1) or one data block (0), and how many. */
+struct lastarunc_blocks {
+    int64_t refused, place, line, column;
+    int64_t compound, blocks;
 };
 
 /* A decimal: mantissa times ten to the exponent. */
@@ -152,6 +166,47 @@ int64_t lastarunc_write_file(const uint8_t *title, size_t title_len, size_t poin
  */
 int64_t lastarunc_find_record(const uint8_t *file, size_t file_len, const uint8_t *name, size_t name_len,
                               struct lastarunc_record *answer);
+
+/*
+ * Finds the data blocks of a file, simple or compound. A compound file's outermost block has the DATA TYPE LINK; its
+ * blocks may be nested to a depth of eight.
+ * Accepted: answer->blocks is the number of data blocks, and blocks[0], blocks[1] .. are these, in the order of the
+ * file, as many as there is memory for: `numbers` is four for each block that is lent. The others are as they were. A
+ * simple file is one data block.
+ * Refused: place, line and column count in the file, and every block is as it was. The numbers:
+ *     19   the file is too long
+ *     21   TITLE is not first
+ *     then, in one walk over the labels:
+ *     20   a label without `=`, or too long
+ *     22   a block has no END
+ *     24   a TITLE at depth nine, or in a block that has not said that it is LINK
+ *     23   a label twice in its own block
+ *     33   a LINK block has a table
+ *     then, of a compound file:
+ *     25   BLOCKS is absent from the outermost block
+ *     32   BLOCKS is not the number of data blocks, or not spelled in digits
+ */
+int64_t lastarunc_find_blocks(const uint8_t *file, size_t file_len, struct lastarunc_block *blocks, size_t numbers,
+                              struct lastarunc_blocks *answer);
+
+/*
+ * Reads a data block that lastarunc_find_blocks has found in this file: from its records, as lastarunc_read_file reads
+ * a file from them. Cut out, the block is read by lastarunc_read_file just so, its places less block->from.
+ * Accepted: as lastarunc_read_file.
+ * Refused, 1 to 13, 16 or 25 to 29: place, line and column count in the whole file, and out is as it was; 19 if the
+ * file is too long.
+ * Any other numbers in *block: LASTARUNC_ABSENT if they are no places of the file, otherwise what stands between them
+ * is read as a block's records. Nothing outside what is lent is ever touched.
+ */
+int64_t lastarunc_read_block(const uint8_t *file, size_t file_len, const struct lastarunc_block *block, int32_t *out,
+                             size_t out_len, struct lastarunc_file *answer);
+
+/*
+ * Finds the record with this name in a data block that lastarunc_find_blocks has found, its TITLE too, and answers as
+ * lastarunc_find_record does; the refusals 19 to 24 do not occur but for 19.
+ */
+int64_t lastarunc_find_in_block(const uint8_t *file, size_t file_len, const struct lastarunc_block *block,
+                                const uint8_t *name, size_t name_len, struct lastarunc_record *answer);
 
 #ifdef __cplusplus
 }

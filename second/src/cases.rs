@@ -1,6 +1,7 @@
 //! The seeded generator of cases: bodies, tables to be written, files and records, files to be written.
 
 pub mod coarse;
+pub mod compound;
 pub mod damage;
 pub mod files;
 pub mod spell;
@@ -10,14 +11,17 @@ pub mod written_files;
 
 use crate::frame::{Frame, LONGEST, LONGEST_LINE};
 use crate::random::Random;
-use crate::stream::{put_body_case, put_file_case, put_record_case, put_write_case, put_written_file_case, BodyCase};
+use crate::stream::{
+    put_block_record_case, put_body_case, put_compound_case, put_file_case, put_record_case, put_write_case,
+    put_written_file_case, BodyCase,
+};
 use crate::text::{write_body, TextForm};
 use std::io::{self, Write};
 
-/// Writes as many cases of each kind as are asked for: bodies, tables to be written, files, files to be written. A file
-/// case is often followed by a record case.
-pub fn write_cases(out: &mut impl Write, seed: u64, counts: [usize; 4]) -> io::Result<()> {
-    let [bodies, writes, files, written] = counts;
+/// Writes as many cases of each kind as are asked for: bodies, tables to be written, files, files to be written,
+/// compound files. A file case is often followed by a record case, that of a compound file by one of a block's record.
+pub fn write_cases(out: &mut impl Write, seed: u64, counts: [usize; 5]) -> io::Result<()> {
+    let [bodies, writes, files, written, compound] = counts;
     let random = &mut Random::new(seed);
     for index in 0..bodies {
         put_body_case(out, &body_case(random, index, bodies))?;
@@ -34,6 +38,13 @@ pub fn write_cases(out: &mut impl Write, seed: u64, counts: [usize; 4]) -> io::R
     }
     for index in 0..written {
         put_written_file_case(out, &written_files::written_file_case(random, index, written))?;
+    }
+    for index in 0..compound {
+        let case = compound::compound_case(random, index, compound);
+        put_compound_case(out, &case)?;
+        if random.once_in(2) {
+            put_block_record_case(out, &compound::block_record_case(random, case))?;
+        }
     }
     Ok(())
 }

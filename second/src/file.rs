@@ -32,32 +32,50 @@ pub enum RecordText {
 
 /// A line of the file without its LF or CR LF: where it starts, where it ends, and where the next line starts.
 #[derive(Clone, Copy)]
-struct Line {
+pub struct Line {
     start: usize,
     end: usize,
     next: usize,
 }
 
 /// A label: the place of its `##`, its normalised name, the place of its `=` and its line.
-struct Label {
-    hashes: usize,
-    name: Vec<u8>,
-    equals: Option<usize>,
+pub struct Label {
+    pub hashes: usize,
+    pub name: Vec<u8>,
+    pub equals: Option<usize>,
     line: Line,
 }
 
+impl Label {
+    /// Whether the label has no `=` or its name is too long (20).
+    pub fn is_faulty(&self) -> bool {
+        self.equals.is_none() || self.name.len() > LONGEST_NAME
+    }
+
+    /// Where the line after the label's starts.
+    pub fn next_line(&self) -> usize {
+        self.line.next
+    }
+
+    /// The record of this label, which is not faulty; its text ends at a place.
+    pub fn record(&self, to: usize) -> Record {
+        let from = self.equals.expect("20 was not given") + 1;
+        Record { name: self.name.clone(), from, to, line: self.line }
+    }
+}
+
 /// A record before END: its name, its text and the line that its label is on.
-struct Record {
+pub struct Record {
     name: Vec<u8>,
     from: usize,
     to: usize,
     line: Line,
 }
 
-/// All records before END, and the place of END's `##`.
-struct Records {
-    all: Vec<Record>,
-    end: usize,
+/// All records of a block before its END, and the place of END's `##`.
+pub struct Records {
+    pub all: Vec<Record>,
+    pub end: usize,
 }
 
 /// The lines of a file.
@@ -96,8 +114,13 @@ fn label(file: &[u8], line: Line) -> Option<Label> {
     Some(Label { hashes, name, equals, line })
 }
 
+/// All labels of a file, faulty ones and those after END too.
+pub fn all_labels(file: &[u8]) -> Vec<Label> {
+    lines(file).into_iter().filter_map(|line| label(file, line)).collect()
+}
+
 /// The fault of a file that does not begin with TITLE (21).
-fn title_fault(file: &[u8]) -> Option<Refusal> {
+pub fn title_fault(file: &[u8]) -> Option<Refusal> {
     for line in lines(file) {
         let at = first_non_blank(file, &line);
         let rest = &file[at..line.end];
@@ -114,10 +137,10 @@ fn title_fault(file: &[u8]) -> Option<Refusal> {
 fn labels(file: &[u8]) -> Result<Vec<Label>, Refusal> {
     let mut before: HashSet<Vec<u8>> = HashSet::new();
     let mut found: Vec<Label> = Vec::new();
-    for label in lines(file).into_iter().filter_map(|line| label(file, line)) {
+    for label in all_labels(file) {
         let twice = !before.insert(label.name.clone());
         let is_title = label.name == b"TITLE";
-        if label.equals.is_none() || label.name.len() > LONGEST_NAME {
+        if label.is_faulty() {
             return Err(refusal(20, label.hashes));
         }
         if twice && !is_title && !label.name.is_empty() {
@@ -145,17 +168,13 @@ fn records(file: &[u8]) -> Result<Records, Refusal> {
     }
     let labels = labels(file)?;
     let end = labels.last().expect("END is there").hashes;
-    let mut all = Vec::new();
-    for pair in labels.windows(2) {
-        let from = pair[0].equals.expect("20 was not given") + 1;
-        all.push(Record { name: pair[0].name.clone(), from, to: pair[1].hashes, line: pair[0].line });
-    }
+    let all = labels.windows(2).map(|pair| pair[0].record(pair[1].hashes)).collect();
     Ok(Records { all, end })
 }
 
 impl Records {
     /// The first record with this normalised name.
-    fn named(&self, name: &[u8]) -> Option<&Record> {
+    pub fn named(&self, name: &[u8]) -> Option<&Record> {
         self.all.iter().find(|record| record.name == name)
     }
 
@@ -172,8 +191,23 @@ impl Record {
         (self.from..self.to).find(|at| !is_blank(file[*at]) && !ends_line(*at)).unwrap_or(self.to)
     }
 
+    /// The text, from and to.
+    pub fn part(&self) -> RecordText {
+        RecordText::Part(self.from as u64, self.to as u64)
+    }
+
+    /// The word that the text is, blanks, line ends and comments around it dropped; none if there are more, or none.
+    pub fn word<'a>(&self, file: &'a [u8]) -> Option<&'a [u8]> {
+        single_word(&file[self.from..self.to])
+    }
+
+    /// The number that the text spells in digits alone, as NPOINTS is spelled.
+    pub fn count(&self, file: &[u8]) -> Option<u64> {
+        self.word(file).and_then(digits).map(|n| n as u64)
+    }
+
     /// A refusal at the place of 26 to 29.
-    fn refused(&self, number: u32, file: &[u8]) -> Refusal {
+    pub fn refused(&self, number: u32, file: &[u8]) -> Refusal {
         refusal(number, self.place(file))
     }
 }
@@ -287,8 +321,7 @@ struct Numbers {
 
 /// A record's number, or 26.
 fn number(file: &[u8], record: &Record) -> Result<Decimal, Refusal> {
-    let word = single_word(&file[record.from..record.to]);
-    word.and_then(decimal).ok_or(record.refused(26, file))
+    record.word(file).and_then(decimal).ok_or(record.refused(26, file))
 }
 
 /// A record's number that must exceed zero, or 26.
@@ -303,8 +336,7 @@ fn factor(file: &[u8], record: &Record) -> Result<Decimal, Refusal> {
 
 /// A record's number that is digits only, or 26.
 fn count(file: &[u8], record: &Record) -> Result<u64, Refusal> {
-    let word = single_word(&file[record.from..record.to]);
-    word.and_then(digits).map(|n| n as u64).ok_or(record.refused(26, file))
+    record.count(file).ok_or(record.refused(26, file))
 }
 
 /// The seven records that a file must have.
@@ -373,10 +405,14 @@ fn in_file(fault: Refusal, start: usize) -> Refusal {
     }
 }
 
-/// Reads a file, or refuses with 19 to 29 and 1 to 13 in 01's order; `room` is the length of the ordinate slice.
+/// Reads a file, or refuses with 19 to 29, 1 to 13 and 16 in 01's order; `room` is the length of the ordinate slice.
 pub fn read_file(file: &[u8], room: usize) -> Result<FileTable, Refusal> {
-    let records = records(file)?;
-    let needed = Needed::of(&records)?;
+    read_records(file, &records(file)?, room)
+}
+
+/// Reads the table of one block from its records: 25 on.
+pub fn read_records(file: &[u8], records: &Records, room: usize) -> Result<FileTable, Refusal> {
+    let needed = Needed::of(records)?;
     let numbers = needed.numbers(file)?;
     let start = needed.body_start(file)?;
     let first = abscissa(file, needed.first_x, numbers.first_x, numbers.x_factor)?;
@@ -395,7 +431,7 @@ pub fn record_text(file: &[u8], name: &[u8]) -> RecordText {
     match records(file) {
         Err(fault) => RecordText::Refused(fault),
         Ok(records) => match records.named(&normalised(name)) {
-            Some(record) => RecordText::Part(record.from as u64, record.to as u64),
+            Some(record) => record.part(),
             None => RecordText::Absent,
         },
     }

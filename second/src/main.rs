@@ -2,6 +2,7 @@
 
 mod body;
 mod cases;
+mod compound;
 mod difdup;
 mod file;
 mod file_text;
@@ -30,13 +31,14 @@ const PROGRAM_POINTS: u64 = 4_096;
 
 /// Prints how the program is used, and ends it.
 fn usage() -> ! {
-    eprintln!("second cases --seed S --bodies A --writes B --files C --written-files D > stream");
+    eprintln!("second cases --seed S --bodies A --writes B --files C --written-files D --compound E > stream");
     eprintln!("second stored --seed S --bodies A --writes B --files C --written-files D --cases PATH --answers PATH");
     eprintln!("second count < stream");
     eprintln!("second body F L N [--room R] < body");
     eprintln!("second write FORM F L N [--room R] < ordinates    (FORM: difdup, affn, pac or sqz)");
     eprintln!("second write-file T N XFACTOR YFACTOR FIRSTX LASTX FIRSTY [--room R] < title and ordinates");
     eprintln!("second file [--whole] [--room R] < file    (--whole: the library's limits, not the program's)");
+    eprintln!("second compound [--room R] < file    (with the library's limits)");
     eprintln!("second selftest");
     exit(2)
 }
@@ -78,7 +80,7 @@ fn cases_command(arguments: &[String]) -> io::Result<()> {
     let out = &mut BufWriter::new(io::stdout().lock());
     let number = |name| option(arguments, name, 0) as usize;
     let seed = option(arguments, "--seed", 1);
-    let counts = ["--bodies", "--writes", "--files", "--written-files"].map(number);
+    let counts = ["--bodies", "--writes", "--files", "--written-files", "--compound"].map(number);
     cases::write_cases(out, seed, counts)?;
     out.flush()
 }
@@ -164,6 +166,28 @@ fn file_command(arguments: &[String]) -> io::Result<()> {
     Ok(())
 }
 
+/// Surveys a file from standard input and reads its data blocks.
+fn compound_command(arguments: &[String]) -> io::Result<()> {
+    let file = input()?;
+    let room = option(arguments, "--room", u64::MAX) as usize;
+    let found = match compound::survey(&file) {
+        Err(fault) => {
+            print_answer(&file, Err(fault));
+            return Ok(());
+        }
+        Ok(found) => found,
+    };
+    let kind = if found.is_compound() { "compound" } else { "one data block" };
+    println!("{kind} {}", found.blocks());
+    for k in 0..found.blocks() {
+        let (from, to) = found.extent(k).expect("the block is there");
+        println!("block {k} {from} {to}");
+        let answer = found.read(&file, k, room).expect("the block is there");
+        print_answer(&file, answer.map(|t| (t.points, t.first, t.last, t.ordinates)));
+    }
+    Ok(())
+}
+
 /// Does what the first argument asks for.
 fn main() -> io::Result<()> {
     let arguments: Vec<String> = std::env::args().skip(1).collect();
@@ -175,6 +199,7 @@ fn main() -> io::Result<()> {
         Some("write") => write_command(&arguments[1..]),
         Some("write-file") => write_file_command(&arguments[1..]),
         Some("file") => file_command(&arguments[1..]),
+        Some("compound") => compound_command(&arguments[1..]),
         Some("selftest") => exit(selftest::run()),
         _ => usage(),
     }

@@ -1,6 +1,7 @@
 //! The samples of document 01 and the readings, with answers written by hand from the documents, and four random
 //! comparisons: right spellings, written texts and written files read back, places found again by line and column.
 
+mod compound;
 mod forms;
 mod heads;
 mod lengths;
@@ -587,6 +588,7 @@ pub fn run() -> i32 {
     check_labels(report);
     check_tables(report);
     check_lines(report);
+    compound::check(report);
     let random = &mut Random::new(7);
     check_spellings(report, random);
     check_written(report, random);

@@ -1,6 +1,7 @@
 //! The stream of cases with their answers: writing it, and counting what is in it. README.md gives the format.
 
 use crate::body::read_body;
+use crate::compound::survey;
 use crate::file::{read_file, record_text, FileTable, RecordText};
 use crate::file_text::{write_file, Given, Scales, WrittenFile};
 use crate::file_tried;
@@ -88,7 +89,21 @@ pub struct RecordCase {
     pub name: Vec<u8>,
 }
 
-/// The number for an absent record, and for a form that is none; no refusal has it.
+/// A file to be surveyed, and its data blocks to be read.
+#[derive(Clone)]
+pub struct CompoundCase {
+    pub file: Vec<u8>,
+    pub room: u32,
+}
+
+/// A record of a data block to be shown.
+pub struct BlockRecordCase {
+    pub file: Vec<u8>,
+    pub block: u64,
+    pub name: Vec<u8>,
+}
+
+/// The number for an absent record or block, and for a form that is none; no refusal has it.
 const ABSENT: u32 = u32::MAX;
 
 /// A 32-bit number, little endian.
@@ -162,7 +177,12 @@ pub fn put_file_case(out: &mut impl Write, case: &FileCase) -> io::Result<()> {
     put_u32(out, case.room)?;
     put_bytes(out, &case.file)?;
     let answer = read_file(&case.file, case.room as usize);
-    put_told(out, answer.as_ref().err().map_or(Told::default(), |fault| fault.told(&case.file)))?;
+    put_file_answer(out, &case.file, answer)
+}
+
+/// The answer to a file, or to a block of it.
+fn put_file_answer(out: &mut impl Write, file: &[u8], answer: Result<FileTable, Refusal>) -> io::Result<()> {
+    put_told(out, answer.as_ref().err().map_or(Told::default(), |fault| fault.told(file)))?;
     let Ok(table) = answer else {
         return put_frame_of_file(out, 0, 0, 0);
     };
@@ -182,14 +202,58 @@ pub fn put_record_case(out: &mut impl Write, case: &RecordCase) -> io::Result<()
     out.write_all(b"R")?;
     put_bytes(out, &case.file)?;
     put_bytes(out, &case.name)?;
-    let (told, from, to) = match record_text(&case.file, &case.name) {
+    put_record_answer(out, &case.file, record_text(&case.file, &case.name))
+}
+
+/// The answer to a question for a record.
+fn put_record_answer(out: &mut impl Write, file: &[u8], answer: RecordText) -> io::Result<()> {
+    let (told, from, to) = match answer {
         RecordText::Part(from, to) => (Told::default(), from, to),
         RecordText::Absent => (Told { number: ABSENT, ..Told::default() }, 0, 0),
-        RecordText::Refused(fault) => (fault.told(&case.file), 0, 0),
+        RecordText::Refused(fault) => (fault.told(file), 0, 0),
     };
     put_told(out, told)?;
     put_u64(out, from)?;
     put_u64(out, to)
+}
+
+/// Writes a case of a compound file: what it is, and then the place and the answer of each data block.
+pub fn put_compound_case(out: &mut impl Write, case: &CompoundCase) -> io::Result<()> {
+    out.write_all(b"C")?;
+    put_u32(out, case.room)?;
+    put_bytes(out, &case.file)?;
+    let found = match survey(&case.file) {
+        Err(fault) => {
+            put_told(out, fault.told(&case.file))?;
+            put_u32(out, 0)?;
+            return put_u64(out, 0);
+        }
+        Ok(found) => found,
+    };
+    put_told(out, Told::default())?;
+    put_u32(out, u32::from(found.is_compound()))?;
+    put_u64(out, found.blocks() as u64)?;
+    for k in 0..found.blocks() {
+        let (from, to) = found.extent(k).expect("the block is there");
+        put_u64(out, from as u64)?;
+        put_u64(out, to as u64)?;
+        let answer = found.read(&case.file, k, case.room as usize).expect("the block is there");
+        put_file_answer(out, &case.file, answer)?;
+    }
+    Ok(())
+}
+
+/// Writes a case of a data block's record and its answer; a block that is not there is absent too.
+pub fn put_block_record_case(out: &mut impl Write, case: &BlockRecordCase) -> io::Result<()> {
+    out.write_all(b"K")?;
+    put_bytes(out, &case.file)?;
+    put_u64(out, case.block)?;
+    put_bytes(out, &case.name)?;
+    let answer = match survey(&case.file) {
+        Err(fault) => RecordText::Refused(fault),
+        Ok(found) => found.record(&case.file, case.block as usize, &case.name).unwrap_or(RecordText::Absent),
+    };
+    put_record_answer(out, &case.file, answer)
 }
 
 /// Writes a case of a file to be written, and its answer.
@@ -228,6 +292,8 @@ struct Stream<R: Read> {
     tried_lines: [usize; lengths::TRIED.len()],
     /// How many tables with |L-F| below N-1 were written.
     close: usize,
+    /// How many data blocks of compound files have each answer.
+    blocks: BTreeMap<u32, usize>,
     /// How many files to be written tried each of `file_tried::TRIED`.
     tried_files: [usize; file_tried::TRIED.len()],
 }
@@ -283,6 +349,8 @@ impl<R: Read> Stream<R> {
             b'F' => Ok(named("F", self.file_case()?)),
             b'R' => Ok(named("R", self.record_case()?)),
             b'V' => Ok(named("V", self.written_file_case()?)),
+            b'C' => self.compound_case(),
+            b'K' => Ok(named("K", self.block_record_case()?)),
             _ => Err(io::Error::new(io::ErrorKind::InvalidData, "no such kind of case")),
         }
     }
@@ -339,6 +407,41 @@ impl<R: Read> Stream<R> {
         Ok((number, length))
     }
 
+    /// The rest of a case of a compound file, which is told by what it is; the answers of its blocks are counted apart.
+    fn compound_case(&mut self) -> io::Result<(&'static str, u32, usize)> {
+        self.u32()?;
+        let file = self.counted()?;
+        let number = self.told()?;
+        let is_compound = self.u32()? == 1;
+        let blocks = self.u64()?;
+        for _ in 0..blocks {
+            let (from, to) = (self.u64()? as usize, self.u64()? as usize);
+            let answer = self.told()?;
+            let points = self.u64()? as usize;
+            self.bytes(16 + 4 * points)?;
+            if is_compound {
+                *self.blocks.entry(answer).or_default() += 1;
+            }
+            debug_assert!(from <= to && to <= file.len());
+        }
+        let name = match (number, is_compound) {
+            (0, false) => "C one data block",
+            (0, true) => "C compound",
+            _ => "C refused",
+        };
+        Ok((name, number, file.len()))
+    }
+
+    /// The rest of a case of a block's record.
+    fn block_record_case(&mut self) -> io::Result<(u32, usize)> {
+        let length = self.counted()?.len();
+        self.u64()?;
+        self.counted()?;
+        let number = self.told()?;
+        self.bytes(16)?;
+        Ok((number, length))
+    }
+
     /// The rest of a case of a file to be written.
     fn written_file_case(&mut self) -> io::Result<(u32, usize)> {
         let title = self.counted()?;
@@ -368,7 +471,8 @@ impl<R: Read> Stream<R> {
 pub fn count(input: impl Read) -> io::Result<()> {
     let tried_files = [0; file_tried::TRIED.len()];
     let tried_lines = [0; lengths::TRIED.len()];
-    let mut stream = Stream { input, tried: [0; TRIED.len()], tried_lines, close: 0, tried_files };
+    let mut stream =
+        Stream { input, tried: [0; TRIED.len()], tried_lines, close: 0, blocks: BTreeMap::new(), tried_files };
     let mut counts: BTreeMap<(&str, u32), usize> = BTreeMap::new();
     let mut sizes: BTreeMap<&str, (usize, usize)> = BTreeMap::new();
     while let Some(kind) = stream.kind()? {
@@ -383,7 +487,7 @@ pub fn count(input: impl Read) -> io::Result<()> {
         for ((_, number), times) in counts.range((name, 0)..=(name, u32::MAX)) {
             let answer = match *number {
                 0 => "accepted".into(),
-                ABSENT => if name == "R" { "absent" } else { "no form" }.into(),
+                ABSENT => if name == "R" || name == "K" { "absent" } else { "no form" }.into(),
                 n => format!("refused {n}"),
             };
             println!("  {answer}: {times}");
@@ -394,6 +498,10 @@ pub fn count(input: impl Read) -> io::Result<()> {
     }
     for (what, times) in lengths::TRIED.iter().zip(stream.tried_lines) {
         println!("bodies, {what}: {times}");
+    }
+    for (number, times) in &stream.blocks {
+        let answer = if *number == 0 { "accepted".into() } else { format!("refused {number}") };
+        println!("data blocks of compound files, {answer}: {times}");
     }
     println!("tables with |L-F| below N-1, written: {}", stream.close);
     for (what, times) in file_tried::TRIED.iter().zip(stream.tried_files) {

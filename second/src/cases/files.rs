@@ -15,7 +15,7 @@ struct Entry {
 }
 
 /// Names of records that the reader passes over.
-const UNKNOWN: &[&[u8]] = &[
+pub const UNKNOWN: &[&[u8]] = &[
     b"JCAMP-DX",
     b"DATA TYPE",
     b"ORIGIN",
@@ -268,7 +268,7 @@ struct Numbers {
 }
 
 /// A file for so many points, with faults if they are wanted, and its number of points.
-fn file(random: &mut Random, points: usize, faults: bool) -> (Vec<u8>, usize) {
+pub fn file(random: &mut Random, points: usize, faults: bool) -> (Vec<u8>, usize) {
     let style = spell::style(random);
     let numbers = numbers(random, points, faults);
     let body = body(random, &style, &numbers, points, faults);
@@ -301,7 +301,7 @@ fn write_entry(random: &mut Random, style: &Style, entry: &Entry, file: &mut Vec
 }
 
 /// A name in another case, with blanks, `-`, `/`, `_` put in, or as it is.
-fn spelled_name(random: &mut Random, name: &[u8]) -> Vec<u8> {
+pub fn spelled_name(random: &mut Random, name: &[u8]) -> Vec<u8> {
     if random.once_in(2) {
         return name.to_vec();
     }
@@ -319,7 +319,7 @@ fn spelled_name(random: &mut Random, name: &[u8]) -> Vec<u8> {
 }
 
 /// Text of a record that is not looked at, with its line ends.
-fn free_text(random: &mut Random, style: &Style) -> Vec<u8> {
+pub fn free_text(random: &mut Random, style: &Style) -> Vec<u8> {
     let mut text = Vec::new();
     for _ in 0..1 + random.below(2) {
         let words: [&[u8]; 8] = [b"", b" one count", b" a = b", b" x ## y", b" $$ c", b"\xe4\xff", b"a\rb", b" 1 2 3"];
@@ -397,7 +397,7 @@ fn table(random: &mut Random, style: &Style, list: &[u8], body: &[u8]) -> Vec<u8
 }
 
 /// A word with blanks, line ends and comments around it, and a last line end.
-fn around(random: &mut Random, style: &Style, word: &[u8]) -> Vec<u8> {
+pub fn around(random: &mut Random, style: &Style, word: &[u8]) -> Vec<u8> {
     let mut text = Vec::new();
     if random.once_in(12) {
         passed_over(random, style, &mut text);
