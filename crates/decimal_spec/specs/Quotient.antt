@@ -3,7 +3,7 @@
 use mathlib.Core.Path.{_≡_}
 use mathlib.Core.Bool.{Bool, true, false}
 use Prim.Native.Nat.{ℕ, _+_, _-_, _*_, _/_, _≤_, _<_}
-use lib.Dec.{ltb, leb}
+use lib.Dec.{ltb, leb, eqb}
 use Rattle.terms.specs.Logic.{pick}
 use Rattle.decimal_spec.specs.declared.Rounded.{Rounded}
 use Rattle.decimal_spec.specs.declared.Rounded.the-variants.{Whole, Beyond}
@@ -39,6 +39,30 @@ nearest true a b = (2 * a + b - 1) / (2 * b)
 unfoldable pub roundedOf : ℕ → Bool → ℕ → ℕ → Rounded
 roundedOf limit minus a b = pick (leb (nearest minus a b) limit) (Whole (pick minus (ltb 0 (nearest minus a b)) false) (nearest minus a b)) Beyond
 
--- what the division answers
+-- the answer is exact: the quotient times the divisor is the dividend (02, T-08). What lies beyond is no answer, and so is not exact.
+-- The sign of the answer is that of the quotient, so that sizes decide.
+abbrev pub Exact : ℕ → ℕ → Rounded → Type 0
+Exact a b (Whole sign q) = b * q ≡ a
+Exact a b Beyond = ⊥
+
+-- what the division may answer: the nearest number, and `exact` where it is so and nowhere else
+pub record IsQuotient (limit : ℕ) (minus : Bool) (a b : ℕ) (x : Quotient) : Type 0 where
+  pub rounds : IsRounded limit minus a b (x .rounded)
+  pub sound : x .exact ≡ true → Exact a b (x .rounded)
+  pub complete : Exact a b (x .rounded) → x .exact ≡ true
+
+-- exactness by computing
+unfoldable pub exactOf : ℕ → ℕ → Rounded → Bool
+exactOf a b (Whole sign q) = eqb (b * q) a
+exactOf a b Beyond = false
+
+-- what the division answers; QuotientLaws has that IsQuotient admits it and no other
 unfoldable pub quotientOf : ℕ → Bool → ℕ → ℕ → Quotient
-quotientOf limit minus a b = record { rounded = roundedOf limit minus a b }
+quotientOf limit minus a b = record { rounded = roundedOf limit minus a b; exact = exactOf a b (roundedOf limit minus a b) }
+
+-- the answers that are known without dividing: zero, and what lies beyond
+abbrev pub zero-quotient : Bool → Quotient
+zero-quotient exact = record { rounded = Whole false 0; exact = exact }
+
+abbrev pub beyond-quotient : Quotient
+beyond-quotient = record { rounded = Beyond; exact = false }

@@ -5,11 +5,12 @@ use Prim.Native.Nat.{ℕ, _+_, _-_, _*_, _≤_, _<_}
 use native.Mathlib.Omega.{arith}
 use native.Mathlib.Nat.{lt-of-mul-lt-mul-left, div-add-mod, mod-lt}
 use lib.Dec.{ltb, leb}
-use borrow.Author.Tests.{le-leb, lt-leb, leb-true, leb-false}
-use Rattle.terms.specs.Logic.{pick}
+use borrow.Author.Tests.{le-leb, lt-leb, leb-true, leb-false, eq-eqb, eqb-true}
+use Rattle.terms.specs.Logic.{pick, no-way}
 use Rattle.decimal_spec.specs.declared.Rounded.{Rounded}
 use Rattle.decimal_spec.specs.declared.Rounded.the-variants.{Whole, Beyond}
-use Rattle.decimal_spec.specs.Quotient.{Reaches, Covers, Nearest, IsRounded, nearest, roundedOf}
+use Rattle.decimal_spec.specs.declared.Quotient.{Quotient}
+use Rattle.decimal_spec.specs.Quotient.{Reaches, Covers, Nearest, IsRounded, nearest, roundedOf, Exact, IsQuotient, exactOf, quotientOf}
 
 -- what reaches is at most what covers
 pub reaches-le : (minus : Bool) (a b q r : ℕ) → 0 < b → Reaches minus a b q → Covers minus a b r → q ≤ r
@@ -58,3 +59,40 @@ rounded-has limit minus a b h = cases (leb (nearest minus a b) limit) refl
 -- so two answers that the inequalities admit are one
 pub rounded-unique : (limit : ℕ) (minus : Bool) (a b : ℕ) (r t : Rounded) → 0 < b → IsRounded limit minus a b r → IsRounded limit minus a b t → r ≡ t
 rounded-unique limit minus a b r t h x y = rounded-is limit minus a b r h x ∙ sym (rounded-is limit minus a b t h y)
+
+-- ---- exactness
+
+-- what is computed is that the quotient times the divisor is the dividend
+pub exact-sound : (a b : ℕ) (r : Rounded) → exactOf a b r ≡ true → Exact a b r
+unfolding exactOf
+exact-sound a b (Whole n q) e = eqb-true (b * q) a e
+exact-sound a b Beyond e = no-way e
+
+pub exact-complete : (a b : ℕ) (r : Rounded) → Exact a b r → exactOf a b r ≡ true
+unfolding exactOf
+exact-complete a b (Whole n q) e = eq-eqb (b * q) a e
+exact-complete a b Beyond e = absurd e
+
+-- two tests that hold together are one
+same-test : (t u : Bool) → (t ≡ true → u ≡ true) → (u ≡ true → t ≡ true) → t ≡ u
+same-test true u f g = sym (f refl)
+same-test false true f g = g refl
+same-test false false f g = refl
+
+-- the answer is determined, exactness too ..
+pub quotient-is : (limit : ℕ) (minus : Bool) (a b : ℕ) (x : Quotient) → 0 < b → IsQuotient limit minus a b x → x ≡ quotientOf limit minus a b
+unfolding quotientOf
+quotient-is limit minus a b x h k =
+    let e = rounded-is limit minus a b (x .rounded) h (k .rounds) in
+    let t = same-test (x .exact) (exactOf a b (x .rounded)) (λ z. exact-complete a b (x .rounded) (k .sound z)) (λ z. k .complete (exact-sound a b (x .rounded) z)) in
+    rw (← e, ← t) refl
+
+-- .. and is there
+pub quotient-has : (limit : ℕ) (minus : Bool) (a b : ℕ) → 0 < b → IsQuotient limit minus a b (quotientOf limit minus a b)
+unfolding quotientOf
+quotient-has limit minus a b h =
+    let r = roundedOf limit minus a b in record { rounds = rounded-has limit minus a b h; sound = exact-sound a b r; complete = exact-complete a b r }
+
+-- so two answers of a division are one
+pub quotient-unique : (limit : ℕ) (minus : Bool) (a b : ℕ) (x y : Quotient) → 0 < b → IsQuotient limit minus a b x → IsQuotient limit minus a b y → x ≡ y
+quotient-unique limit minus a b x y h j k = quotient-is limit minus a b x h j ∙ sym (quotient-is limit minus a b y h k)

@@ -12,7 +12,8 @@ use Rattle.decimal_spec.specs.declared.Number.{Number}
 use Rattle.decimal_spec.specs.declared.Count.{Count}
 use Rattle.decimal_spec.specs.declared.Rounded.{Rounded}
 use Rattle.decimal_spec.specs.Number.{mantissaOf, behindPoint, beforePoint, mantissaAt, powerOf, exponentAt, raised, unsigned, numberAt, countOf, countAt}
-use Rattle.decimal_spec.specs.Quotient.{nearest, roundedOf}
+use Rattle.decimal_spec.specs.declared.Quotient.{Quotient}
+use Rattle.decimal_spec.specs.Quotient.{nearest, roundedOf, exactOf, quotientOf}
 
 -- the bytes of a text of ASCII: n of them from the place i, and all of them
 abbrev pub part : String → ℕ → ℕ → List ℕ
@@ -113,44 +114,50 @@ countings-hold = refl
 
 -- ---- quotients
 
--- a sign, m1 times ten to the e1 by m2 times ten to the e2, exponents counted from -200 on as a number's are, and the answer within ten digits
+-- a sign, m1 times ten to the e1 by m2 times ten to the e2, exponents counted from -200 on as a number's are, the answer within ten digits, and whether it is exact
 pub data Division : Type 0 where
-  gives : Bool → ℕ → ℕ → ℕ → ℕ → Rounded → Division
+  gives : Bool → ℕ → ℕ → ℕ → ℕ → Rounded → Bool → Division
 
 abbrev pub divisions : List Division
 divisions =
-    -- FIRSTX to thousandths, its power raised by three, where XFACTOR is 1: 0.0005, -0.0005, 0.0015, -0.0015, -0.0016, 1E-99
-    gives false 5 199 1 200 (Rounded.Whole false 1) ∷
-    gives true 5 199 1 200 (Rounded.Whole false 0) ∷
-    gives false 15 199 1 200 (Rounded.Whole false 2) ∷
-    gives true 15 199 1 200 (Rounded.Whole true 1) ∷
-    gives true 16 199 1 200 (Rounded.Whole true 2) ∷
-    gives false 1 104 1 200 (Rounded.Whole false 0) ∷
-    -- FIRSTX = 1 where XFACTOR is 3, 0.3, 7E+99
-    gives false 1 203 3 200 (Rounded.Whole false 333) ∷
-    gives false 1 203 3 199 (Rounded.Whole false 3333) ∷
-    gives false 1 203 7 299 (Rounded.Whole false 0) ∷
+    -- FIRSTX to thousandths, its power raised by three, where XFACTOR is 1: 0.0005, -0.0005, 0.0015, -0.0015, -0.0016, 1E-99; 0E-99 is exact
+    gives false 5 199 1 200 (Rounded.Whole false 1) false ∷
+    gives true 5 199 1 200 (Rounded.Whole false 0) false ∷
+    gives false 15 199 1 200 (Rounded.Whole false 2) false ∷
+    gives true 15 199 1 200 (Rounded.Whole true 1) false ∷
+    gives true 16 199 1 200 (Rounded.Whole true 2) false ∷
+    gives false 1 104 1 200 (Rounded.Whole false 0) false ∷
+    gives false 0 104 1 200 (Rounded.Whole false 0) true ∷
+    -- 0.0010, whose last digit is no thousandth, and -0.0020
+    gives false 10 199 1 200 (Rounded.Whole false 1) true ∷
+    gives true 20 199 1 200 (Rounded.Whole true 2) true ∷
+    -- FIRSTX = 1 where XFACTOR is 3, 0.3, 7E+99, 8; 1E-99 where it is 1E-99
+    gives false 1 203 3 200 (Rounded.Whole false 333) false ∷
+    gives false 1 203 3 199 (Rounded.Whole false 3333) false ∷
+    gives false 1 203 7 299 (Rounded.Whole false 0) false ∷
+    gives false 1 203 8 200 (Rounded.Whole false 125) true ∷
+    gives false 1 104 1 101 (Rounded.Whole false 1000) true ∷
     -- about the limit: 9999999.99, 1E+07, 1E+99, -0E+99
-    gives false 999999999 201 1 200 (Rounded.Whole false 9999999990) ∷
-    gives false 1 210 1 200 Rounded.Beyond ∷
-    gives false 1 302 1 200 Rounded.Beyond ∷
-    gives true 0 302 1 200 (Rounded.Whole false 0) ∷
+    gives false 999999999 201 1 200 (Rounded.Whole false 9999999990) true ∷
+    gives false 1 210 1 200 Rounded.Beyond false ∷
+    gives false 1 302 1 200 Rounded.Beyond false ∷
+    gives true 0 302 1 200 (Rounded.Whole false 0) true ∷
     -- the same with more digits than a file can give: 9999999.9994, 9999999.9995, -9999999.9995, -9999999.9996
-    gives false 99999999994 199 1 200 (Rounded.Whole false 9999999999) ∷
-    gives false 99999999995 199 1 200 Rounded.Beyond ∷
-    gives true 99999999995 199 1 200 (Rounded.Whole true 9999999999) ∷
-    gives true 99999999996 199 1 200 Rounded.Beyond ∷
+    gives false 99999999994 199 1 200 (Rounded.Whole false 9999999999) false ∷
+    gives false 99999999995 199 1 200 Rounded.Beyond false ∷
+    gives true 99999999995 199 1 200 (Rounded.Whole true 9999999999) false ∷
+    gives true 99999999996 199 1 200 Rounded.Beyond false ∷
     -- to whole numbers: FIRSTY = 0.5 where YFACTOR is 0.1, and -5 where it is 2
-    gives false 5 199 1 199 (Rounded.Whole false 5) ∷
-    gives true 5 200 2 200 (Rounded.Whole true 2) ∷
+    gives false 5 199 1 199 (Rounded.Whole false 5) true ∷
+    gives true 5 200 2 200 (Rounded.Whole true 2) false ∷
     []
 
-abbrev pub answer : Division → Rounded
-answer (gives minus m1 e1 m2 e2 r) = r
+abbrev pub answer : Division → Quotient
+answer (gives minus m1 e1 m2 e2 r x) = record { rounded = r; exact = x }
 
-abbrev pub rounded : Division → Rounded
-rounded (gives minus m1 e1 m2 e2 r) = roundedOf 9999999999 minus (m1 * 10 ^ e1) (m2 * 10 ^ e2)
+abbrev pub divided : Division → Quotient
+divided (gives minus m1 e1 m2 e2 r x) = quotientOf 9999999999 minus (m1 * 10 ^ e1) (m2 * 10 ^ e2)
 
-pub divisions-hold : map rounded divisions ≡ map answer divisions
-unfolding nearest roundedOf
+pub divisions-hold : map divided divisions ≡ map answer divisions
+unfolding nearest roundedOf exactOf quotientOf
 divisions-hold = refl

@@ -35,7 +35,8 @@ pub enum Rounded {
     Beyond,
 }
 
-// The answer of the division of two decimals. It is a struct, so that it can come to say more (02, T-08).
+// The answer of the division of two decimals: the rounded quotient, and whether it is exact, nothing being rounded (02, T-08).
 pub struct Quotient {
     pub rounded: Rounded,
+    pub exact: bool,
 }

@@ -4,11 +4,12 @@ ghost use Prim.Native.Nat.{_<_, _≤_};
 ghost use lib.Dec.{eqb};
 ghost use Rattle.table_spec.specs.Frame.{largest-abscissa, zero-ordinate, ordinate-of};
 ghost use Rattle.table_spec.specs.Values.{signed};
-ghost use Rattle.file_spec.specs.Figures.{exceeding, ratio, whole, agrees};
+ghost use Rattle.file_spec.specs.Figures.{exceeding, ratio, whole, agrees, exact-with};
 ghost use Rattle.figure.specs.Bounds.{Small, givenIn, Factor, factorIn, roundedIn};
 use decimal_spec::Quotient;
 use decimal_spec::Rounded;
 use file_spec::Decimal;
+use file_spec::Exactness;
 use file_spec::Given;
 use frame::Frame;
 
@@ -86,4 +87,23 @@ fn equal_to(u: u64, minus: bool, size: u64) -> bool
         return u == zero - size;
     }
     u == zero + size
+}
+
+// Whether three quotients are exact, where the first ordinate is y: FIRSTY's is where it is missing, and so is not compared (02, T-08).
+pub fn exact_with(first: bool, last: bool, firsty: bool, y: i32) -> Exactness
+    ensures { λ r. ⌜ r ≡ exact-with first last firsty (ordinate-of y) ⌝ }
+{
+    let ordinate = signed::ordinate_of(y);
+    if ordinate == 0 {
+        return Exactness {
+            first,
+            last,
+            firsty: true,
+        };
+    }
+    Exactness {
+        first,
+        last,
+        firsty,
+    }
 }

@@ -8,14 +8,17 @@ ghost use Rattle.file_spec.specs.Figures.{figuresOf, ratio};
 ghost use Rattle.terms.specs.Refusals.{fault-at};
 ghost use Rattle.file_spec.specs.File.{inFile, byTable, byAbscissas, byFigures, byRecords, readFile};
 ghost use Rattle.file_spec.specs.declared.FileStaged.{FileStaged};
+ghost use Rattle.figure.specs.Carried.{Carried};
 ghost use Rattle.file_records.specs.Bounds.{AllWithin, AllSmall};
 ghost use Rattle.file.specs.Answers.{StageSays, FileSays};
 use decimal_spec::Rounded;
 use figure::agree;
+use figure::exact_with;
 use figure::ratio_of;
 use figure::whole_of;
 use file_records::figures;
 use file_records::gather;
+use file_spec::Exactness;
 use file_spec::Figures;
 use file_spec::FileRead;
 use file_spec::FileStaged;
@@ -36,6 +39,18 @@ fn refused(number: u64, place: usize) -> FileStaged
     ensures { λ r. ⌜ r ≡ FileStaged.Refused (fault-at number place) ⌝ }
 {
     FileStaged::Refused(Fault::new(number, place))
+}
+
+// The table of a file that has no fault.
+fn accepted(points: usize, first: i64, last: i64, exact: Exactness) -> FileStaged
+    ensures { λ r. ⌜ r ≡ FileStaged.Accepted (record { points = points; first = first; last = last; exact = exact }) ⌝ }
+{
+    FileStaged::Accepted(FileTable {
+        points,
+        first,
+        last,
+        exact,
+    })
 }
 
 // A fault of the body, with its place counted in the file; 1 and 2 stand at 0.
@@ -59,8 +74,10 @@ fn read_body(
     start: usize,
     first: i64,
     last: i64,
+    first_exact: bool,
+    last_exact: bool,
 ) -> FileStaged
-    requires { ⌜ AllWithin (length (now file)) x × AllSmall n × (start ≤ x .xydata .to - x .xydata .from) × (length (now file) ≤ longestFile) ⌝ }
+    requires { ⌜ AllWithin (length (now file)) x × AllSmall n × (start ≤ x .xydata .to - x .xydata .from) × (length (now file) ≤ longestFile) × Carried n «first_exact» «last_exact» ⌝ }
     ensures { λ r. ⌜ StageSays (byTable (now (file .entry)) (length (now (out .entry))) x n start first last) (now (out .entry)) (now (out .exit)) r ⌝ }
 {
     let s = x.xydata;
@@ -81,11 +98,8 @@ fn read_body(
                 return refused(29, mark_in(file, t));
             }
             table_read::store_table(first, last, points, body, out);
-            FileStaged::Accepted(FileTable {
-                points,
-                first,
-                last,
-            })
+            let exact = exact_with(first_exact, last_exact, q.exact, y);
+            accepted(points, first, last, exact)
         }
     }
 }
@@ -116,7 +130,7 @@ fn read_abscissas(file: &[u8], out: &mut [i32], x: Needed, n: Numbers, start: us
                 Rounded::Whole { minus: k, size: q } => {
                     let first = whole_of(m, p);
                     let last = whole_of(k, q);
-                    read_body(file, out, x, n, start, first, last)
+                    read_body(file, out, x, n, start, first, last, f.exact, l.exact)
                 }
             }
         }
@@ -164,7 +178,7 @@ fn read_labelled(file: &[u8], out: &mut [i32]) -> FileStaged
     }
 }
 
-// Reads a file: any bytes, any slice. Accepted: N, F and L, and the first N entries are the ordinates. Refused: number, place, line and column in the file, and every entry is what it was.
+// Reads a file: any bytes, any slice. Accepted: N, F, L and what is exact, and the first N entries are the ordinates. Refused: number, place, line and column in the file, and every entry is what it was.
 pub fn read_file(file: &[u8], out: &mut [i32]) -> FileRead
     ensures { λ r. ⌜ FileSays (now (file .entry)) (now (out .entry)) (now (out .exit)) r ⌝ }
 {

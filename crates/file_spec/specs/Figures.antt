@@ -19,6 +19,8 @@ use Rattle.file_spec.specs.declared.Needed.{Needed}
 use Rattle.file_spec.specs.declared.Decimal.{Decimal}
 use Rattle.file_spec.specs.declared.Given.{Given}
 use Rattle.file_spec.specs.declared.Given.the-variants as given
+use Rattle.file_spec.specs.declared.Numbers.{Numbers}
+use Rattle.file_spec.specs.declared.Exactness.{Exactness}
 use Rattle.file_spec.specs.declared.Figures.{Figures}
 use Rattle.file_spec.specs.declared.Figures.the-variants as figures
 use Rattle.file_spec.specs.Texts.{textIn, markOf}
@@ -91,3 +93,13 @@ equals u Rounded.Beyond = false
 
 abbrev pub agrees : ℕ → Rounded → Bool
 agrees u r = pick (eqb u 0) true (equals u r)
+
+-- ---- 02, T-08: "The file reader's answer carries that for F, L and FIRSTY (exact if not compared)"
+
+-- of three quotients, where the first ordinate is u: a missing one is not compared
+abbrev pub exact-with : Bool → Bool → Bool → ℕ → Exactness
+exact-with f l y u = record { first = f; last = l; firsty = pick (eqb u 0) true y }
+
+-- of the quotients that the numbers of a file make
+abbrev pub exactness-of : Numbers → ℕ → Exactness
+exactness-of n u = exact-with (abscissa-of (n .firstx) (n .xfactor) .exact) (abscissa-of (n .lastx) (n .xfactor) .exact) (ratio 0 (n .firsty) (n .yfactor) .exact) u

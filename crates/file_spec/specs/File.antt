@@ -26,9 +26,9 @@ use Rattle.file_spec.specs.declared.FileStaged.the-variants as stages
 use Rattle.file_spec.specs.declared.FileRead.{FileRead}
 use Rattle.file_spec.specs.declared.FileRead.the-variants as reads
 use Rattle.file_spec.specs.Texts.{gatheredFrom, textIn, markOf, listedIn}
-use Rattle.file_spec.specs.Figures.{figuresOf, ratio, abscissa-of, whole, agrees}
+use Rattle.file_spec.specs.Figures.{figuresOf, ratio, abscissa-of, whole, agrees, exactness-of}
 
--- what a file answers: a refusal, its number and place; or its table (N, F and L) and the ordinates
+-- what a file answers: a refusal, its number and place; or its table (N, F and L, and what is exact) and the ordinates
 pub data FileAnswer : Type 0 where
   refuse-file : ℕ → ℕ → FileAnswer
   accept-file : FileTable → List ℕ → FileAnswer
@@ -43,7 +43,7 @@ module _ (s : List ℕ) (space : ℕ) where
   byFirst t n f l start (refuse c a) = refuse-file c (inFile start c a)
   byFirst t n f l start (accept ys) =
       pick (agrees (getD ys 0 0) (ratio 0 (n .firsty) (n .yfactor) .rounded))
-      (accept-file (record { points = n .npoints; first = f; last = l }) ys) (refuse-file 29 (markOf s (t .firsty)))
+      (accept-file (record { points = n .npoints; first = f; last = l; exact = exactness-of n (getD ys 0 0) }) ys) (refuse-file 29 (markOf s (t .firsty)))
 
   -- 1 to 13, and 16 (02, T-06), on the body: "from the line after the list to the next label's `##`", so the text of XYDATA from its start on
   unfoldable pub byTable : Needed → Numbers → ℕ → ℤ → ℤ → FileAnswer

@@ -60,11 +60,19 @@ pub enum Listed {
     Unlisted,
 }
 
-// What a file's table has: how many points, and its first and last abscissa in whole thousandths.
+// Whether the quotients of a file are exact, nothing being rounded (02, T-08): F's, L's, and FIRSTY's, which is exact too where it is not compared.
+pub struct Exactness {
+    pub first: bool,
+    pub last: bool,
+    pub firsty: bool,
+}
+
+// What a file's table has: how many points, its first and last abscissa in whole thousandths, and what of it is exact.
 pub struct FileTable {
     pub points: usize,
     pub first: i64,
     pub last: i64,
+    pub exact: Exactness,
 }
 
 // What a stage of reading a file answers: the table, or a fault, its place counted in the file.

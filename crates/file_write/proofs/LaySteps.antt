@@ -10,6 +10,7 @@ use lib.Seq.{sets, drop-drop, length-take-le}
 use borrow.Author.Tests.{lt-ltb, le-ltb, ltb-true, ltb-false}
 use borrow.Rule.Slice.PartMut.{midOf, putMid, put-same}
 use Rattle.terms.specs.Logic.{pick, by-case, zero-one}
+use Rattle.terms.specs.Refusals.{fault-at}
 use Rattle.terms.specs.declared.Fault.{Fault}
 use Rattle.terms.specs.declared.TableWritten.{TableWritten}
 use Rattle.terms.specs.declared.TableWritten.the-variants.{Length, Refused}
@@ -20,11 +21,12 @@ use Rattle.table_write_law.specs.ReadBack.{wrote-body}
 use Rattle.table_text.specs.Answers.{told, Tells}
 use Rattle.table_text.specs.Pieces.{Put}
 use Rattle.file_spec.specs.declared.Numbers.{Numbers}
+use Rattle.file_spec.specs.declared.Exactness.{Exactness}
 use Rattle.file_write_spec.specs.declared.FileWritten.{FileWritten}
 use Rattle.file_write_spec.specs.Records.{Entry, entryText, entriesText}
 use Rattle.file_write_spec.specs.File.{end-line}
 use Rattle.file_lines.specs.Lines.{headingOf}
-use Rattle.file_write.specs.Answers.{told-file, FileTells}
+use Rattle.file_write.specs.Answers.{FileTells}
 use Rattle.file_write.specs.Stages.{laidOut, bodyOf, Framed}
 use Rattle.file_write.proofs.Laying.{parts-laid}
 
@@ -82,19 +84,19 @@ module _ (title : List ℕ) (m : Numbers) (body t : List ℕ) where
   whole-length : length (laidOut title m body) ≡ length H + length body + 8
   whole-length = omega (arith, length-append H (body ++ G), length-append body G, ending-length)
 
-  tells-15 : {r : FileWritten} → length t < length (laidOut title m body) → r ≡ told-file (declined 15) → FileTells (fitted (length t) (laidOut title m body)) t t r
+  tells-15 : {q : Exactness} {r : FileWritten} → length t < length (laidOut title m body) → r ≡ FileWritten.Refused (fault-at 15 0) → FileTells q (fitted (length t) (laidOut title m body)) t t r
   unfolding laid
-  tells-15 {r} h e = let q = lt-ltb (length t) (length (laidOut title m body)) h in record { answer = rw (q, e) refl; bytes = rw q refl }
+  tells-15 {q} {r} h e = let l = lt-ltb (length t) (length (laidOut title m body)) h in record { answer = rw (l, e) refl; bytes = rw l refl }
 
-  pub too-short : {r : FileWritten} (h : ℕ) → h ≡ length H → length t < h + 8 → r ≡ told-file (declined 15) → FileTells (fitted (length t) (laidOut title m body)) t t r
+  pub too-short : {q : Exactness} {r : FileWritten} (h : ℕ) → h ≡ length H → length t < h + 8 → r ≡ FileWritten.Refused (fault-at 15 0) → FileTells q (fitted (length t) (laidOut title m body)) t t r
   too-short h e l x = tells-15 (omega (arith, whole-length)) x
 
-  pub not-fitting : {r : FileWritten} {o : List ℕ} (h : ℕ) → h ≡ length H → h + 8 ≤ length t → length (midOf h (length t - 8 - h) t) < length body → o ≡ midOf h (length t - 8 - h) t
-      → r ≡ told-file (declined 15) → FileTells (fitted (length t) (laidOut title m body)) t (putMid h (length t - 8 - h) t o) r
-  not-fitting {r} {o} h e l b q x =
+  pub not-fitting : {q : Exactness} {r : FileWritten} {o : List ℕ} (h : ℕ) → h ≡ length H → h + 8 ≤ length t → length (midOf h (length t - 8 - h) t) < length body → o ≡ midOf h (length t - 8 - h) t
+      → r ≡ FileWritten.Refused (fault-at 15 0) → FileTells q (fitted (length t) (laidOut title m body)) t (putMid h (length t - 8 - h) t o) r
+  not-fitting {q} {r} {o} h e l b s x =
       let k = length t - 8 - h in
       let w : length t < length (laidOut title m body) = omega (arith, whole-length, mid-length t h l) in
-      subst (λ (u : List ℕ). FileTells (fitted (length t) (laidOut title m body)) t u r) (sym (ap (putMid h k t) q ∙ put-same h k t)) (tells-15 w x)
+      subst (λ (u : List ℕ). FileTells q (fitted (length t) (laidOut title m body)) t u r) (sym (ap (putMid h k t) s ∙ put-same h k t)) (tells-15 w x)
 
   laid-whole : (k h j : ℕ) (o u v : List ℕ) → h ≡ length H → length H + k ≤ length t → length body ≤ k → j ≡ length body → o ≡ sets (midOf h k t) 0 body
       → u ≡ sets (putMid h k t o) 0 H → v ≡ sets u (h + j) G
@@ -103,15 +105,15 @@ module _ (title : List ℕ) (m : Numbers) (body t : List ℕ) where
       y
       ∙ rw (x, s, q, e, drop-drop k (length H) t, ← append-assoc (take (length H) t) (sets (take k (drop (length H) t)) 0 body) (drop (length H + k) t)) (parts-laid H body G t k a b)
 
-  pub fitting : {o u v : List ℕ} {h' r : ℕ} (h j : ℕ) → h ≡ length H → h + 8 ≤ length t → length body ≤ length (midOf h (length t - 8 - h) t) → j ≡ length body
+  pub fitting : {q : Exactness} {o u v : List ℕ} {h' r : ℕ} (h j : ℕ) → h ≡ length H → h + 8 ≤ length t → length body ≤ length (midOf h (length t - 8 - h) t) → j ≡ length body
       → o ≡ sets (midOf h (length t - 8 - h) t) 0 body → Put (putMid h (length t - 8 - h) t o) 0 u h' H → Put u (h + j) v r (entryText end-line)
-      → FileTells (fitted (length t) (laidOut title m body)) t v (FileWritten.Length (record { length = r }))
+      → FileTells q (fitted (length t) (laidOut title m body)) t v (FileWritten.Length (record { length = r; exact = q }))
   unfolding laid
-  fitting {o} {u} {v} {h'} {r} h j e l b q s x y =
+  fitting {q} {o} {u} {v} {h'} {r} h j e l b i s x y =
       let k = length t - 8 - h in
       let z : length (laidOut title m body) ≤ length t = omega (arith, whole-length, mid-length t h l) in
       let c = le-ltb (length t) (length (laidOut title m body)) z in
       let g : entryText end-line ≡ G = sym (last-entry end-line) in
       let n : r ≡ length (laidOut title m body) = omega (arith, y .next, whole-length, ending-length, ap length g) in
-      let p : v ≡ sets t 0 (laidOut title m body) = laid-whole k h j o u v e (omega arith) (omega (arith, mid-length t h l)) q s (x .stored) (y .stored ∙ ap (λ (w : List ℕ). sets u (h + j) w) g) in
+      let p : v ≡ sets t 0 (laidOut title m body) = laid-whole k h j o u v e (omega arith) (omega (arith, mid-length t h l)) i s (x .stored) (y .stored ∙ ap (λ (w : List ℕ). sets u (h + j) w) g) in
       record { answer = rw (c, n) refl; bytes = rw c p }

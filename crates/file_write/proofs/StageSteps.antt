@@ -7,6 +7,7 @@ use native.Mathlib.Omega.{arith}
 use lib.IntN.{ℤ, pos}
 use lib.ListN.{length, getD}
 use borrow.Author.Tests.{lt-ltb, le-ltb}
+use Rattle.terms.specs.Refusals.{fault-at}
 use Rattle.table_spec.specs.Frame.{frame-legal, ordinate-of}
 use Rattle.table_spec.specs.Writing.{Outcome, declined, fitted, laid}
 use Rattle.decimal_spec.specs.declared.Rounded.{Rounded}
@@ -16,20 +17,21 @@ use Rattle.frame.specs.FrameLaws.{Framing}
 use Rattle.figure.specs.Bounds.{Small, Factor}
 use Rattle.file_spec.specs.declared.Decimal.{Decimal}
 use Rattle.file_spec.specs.declared.Numbers.{Numbers}
+use Rattle.file_spec.specs.declared.Exactness.{Exactness}
 use Rattle.file_spec.specs.Figures.{ratio, whole, agrees}
 use Rattle.file_write_spec.specs.declared.FileWritten.{FileWritten}
 use Rattle.file_write_spec.specs.File.{ordinates}
 use Rattle.file_lines.specs.Lines.{Writable, AllWritable}
-use Rattle.file_write.specs.Answers.{told-file, FileTells}
+use Rattle.file_write.specs.Answers.{FileTells}
 use Rattle.file_write.specs.Stages.{laidOut, bodyOf, Scaled, inFrame, first-from, last-from, fromNumbers}
 
 -- a stage that refuses, and one that is what a later one is
-pub tells-refused : {x : Outcome} {o : List ℕ} {r : FileWritten} {k : ℕ} → x ≡ declined k → r ≡ told-file (declined k) → FileTells x o o r
+pub tells-refused : {q : Exactness} {x : Outcome} {o : List ℕ} {r : FileWritten} {k : ℕ} → x ≡ declined k → r ≡ FileWritten.Refused (fault-at k 0) → FileTells q x o o r
 unfolding laid
-tells-refused {x} {o} {r} {k} e h = record { answer = rw (e, h) refl; bytes = rw e refl }
+tells-refused {q} {x} {o} {r} {k} e h = record { answer = rw (e, h) refl; bytes = rw e refl }
 
-pub tells-same : {x y : Outcome} {o o' : List ℕ} {r : FileWritten} → x ≡ y → FileTells y o o' r → FileTells x o o' r
-tells-same {x} {y} {o} {o'} {r} e g = record { answer = rw e (g .answer); bytes = rw e (g .bytes) }
+pub tells-same : {q : Exactness} {x y : Outcome} {o o' : List ℕ} {r : FileWritten} → x ≡ y → FileTells q y o o' r → FileTells q x o o' r
+tells-same {q} {x} {y} {o} {o'} {r} e g = record { answer = rw e (g .answer); bytes = rw e (g .bytes) }
 
 -- what is taken can be divided
 pub small : {d : Decimal} → Writable d → Small d

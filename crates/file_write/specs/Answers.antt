@@ -5,17 +5,18 @@ use Prim.Native.Nat.{ℕ}
 use lib.ListN.{length}
 use Rattle.terms.specs.Refusals.{fault-at}
 use Rattle.table_spec.specs.Writing.{Outcome, declined, wrote, laid}
+use Rattle.file_spec.specs.declared.Exactness.{Exactness}
 use Rattle.file_write_spec.specs.declared.FileWritten.{FileWritten}
 
--- the answer for each case of the outcome; a refusal stands at place 0
-abbrev pub told-file : Outcome → FileWritten
-told-file (declined k) = FileWritten.Refused (fault-at k 0)
-told-file (wrote t) = FileWritten.Length (record { length = length t })
+-- the answer for each case of the outcome, where this is exact; a refusal stands at place 0, and says nothing else
+abbrev pub told-file : Exactness → Outcome → FileWritten
+told-file e (declined k) = FileWritten.Refused (fault-at k 0)
+told-file e (wrote t) = FileWritten.Length (record { length = length t; exact = e })
 
 -- what writing a file ensures: its answer, and every entry of the lent bytes afterwards
-pub record FileTells (x : Outcome) (out₀ out : List ℕ) (r : FileWritten) : Type 0 where
-  pub answer : r ≡ told-file x
+pub record FileTells (e : Exactness) (x : Outcome) (out₀ out : List ℕ) (r : FileWritten) : Type 0 where
+  pub answer : r ≡ told-file e x
   pub bytes : out ≡ laid out₀ x
 
-pub outcome-unique : {x : Outcome} {out a b : List ℕ} {r q : FileWritten} → FileTells x out a r → FileTells x out b q → (r ≡ q) × (a ≡ b)
+pub outcome-unique : {e : Exactness} {x : Outcome} {out a b : List ℕ} {r q : FileWritten} → FileTells e x out a r → FileTells e x out b q → (r ≡ q) × (a ≡ b)
 outcome-unique x y = (x .answer ∙ sym (y .answer), x .bytes ∙ sym (y .bytes))

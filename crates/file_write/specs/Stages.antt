@@ -12,7 +12,8 @@ use Rattle.table_spec.specs.Writing.{Outcome, declined, fitted, written}
 use Rattle.table_spec.specs.declared.Style.the-variants.{Difdup}
 use Rattle.decimal_spec.specs.declared.Rounded.{Rounded}
 use Rattle.file_spec.specs.declared.Numbers.{Numbers}
-use Rattle.file_spec.specs.Figures.{ratio, abscissa-of, agrees}
+use Rattle.file_spec.specs.declared.Exactness.{Exactness}
+use Rattle.file_spec.specs.Figures.{ratio, abscissa-of, agrees, exactness-of}
 use Rattle.file_write_spec.specs.Records.{entriesText}
 use Rattle.file_write_spec.specs.File.{end-line, within-limit, ordinates, limited}
 use Rattle.file_lines.specs.Lines.{Writable, headingOf}
@@ -39,6 +40,10 @@ pub record Scaled (n : Numbers) : Type 0 where
   pub firsty : Writable (n .firsty)
   pub some-x : 0 < n .xfactor .mantissa
   pub some-y : 0 < n .yfactor .mantissa
+
+-- what is exact
+abbrev pub exactIn : Numbers → List ℤ → Exactness
+exactIn n es = exactness-of n (getD (ordinates (n .npoints) es) 0 0)
 
 -- 1, 2, 29, 15, in F and L
 unfoldable pub inFrame : List ℕ → Numbers → List ℤ → ℕ → ℤ → ℤ → Outcome

@@ -2,19 +2,24 @@
 ghost use mathlib.Core.Path.{_≡_};
 ghost use Prim.Native.Nat.{_≤_};
 ghost use lib.ListN.{length};
-ghost use Rattle.table_spec.specs.Writing.{declined, fitted};
-ghost use Rattle.file_write_spec.specs.File.{writeFile};
+ghost use Rattle.terms.specs.Refusals.{fault-at};
+ghost use Rattle.table_spec.specs.Writing.{fitted};
+ghost use Rattle.file_write_spec.specs.File.{file-exact, writeFile};
+ghost use Rattle.file_write_spec.specs.declared.FileWritten.{FileWritten};
+ghost use Rattle.figure.specs.Carried.{Carried};
 ghost use Rattle.file_lines.specs.Lines.{AllWritable};
-ghost use Rattle.file_write.specs.Answers.{told-file, FileTells};
-ghost use Rattle.file_write.specs.Stages.{laidOut, bodyOf, Framed, Scaled, inFrame, fromNumbers};
+ghost use Rattle.file_write.specs.Answers.{FileTells};
+ghost use Rattle.file_write.specs.Stages.{laidOut, bodyOf, Framed, Scaled, exactIn, inFrame, fromNumbers};
 use decimal_spec::Rounded;
 use figure::agree;
+use figure::exact_with;
 use figure::ratio_of;
 use figure::whole_of;
 use file_given::figures_of;
 use file_given::title_fair;
 use file_lines::put_heading;
 use file_lines::put_line;
+use file_spec::Exactness;
 use file_spec::Figures;
 use file_spec::Numbers;
 use file_write_spec::FileLength;
@@ -30,7 +35,7 @@ const END_LINE: usize = 8;
 
 // A refusal of the writer: its place is 0.
 fn refused(number: u64) -> FileWritten
-    ensures { λ r. ⌜ r ≡ told-file (declined number) ⌝ }
+    ensures { λ r. ⌜ r ≡ FileWritten.Refused (fault-at number 0) ⌝ }
 {
     FileWritten::Refused(Fault::new(number, 0))
 }
@@ -41,11 +46,12 @@ fn lay(
     n: Numbers,
     first: i64,
     last: i64,
+    exact: Exactness,
     ordinates: &[i32],
     text: &mut [u8],
 ) -> FileWritten
     requires { ⌜ (length (now title) ≤ 72) × AllWritable n × Framed first last (n .npoints) (now ordinates) ⌝ }
-    ensures { λ r. ⌜ FileTells (fitted (length (now (text .entry))) (laidOut (now (title .entry)) n (bodyOf first last (n .npoints) (now (ordinates .entry))))) (now (text .entry)) (now (text .exit)) r ⌝ }
+    ensures { λ r. ⌜ FileTells exact (fitted (length (now (text .entry))) (laidOut (now (title .entry)) n (bodyOf first last (n .npoints) (now (ordinates .entry))))) (now (text .entry)) (now (text .exit)) r ⌝ }
 {
     let mut none = [0u8; 1];
     let head = put_heading(&mut none[..0], title, n);
@@ -61,7 +67,7 @@ fn lay(
             put_heading(text, title, n);
             let at = head + k;
             let length = put_line(text, at, b"END", &title[..0]);
-            FileWritten::Length(FileLength { length })
+            FileWritten::Length(FileLength { length, exact })
         }
     }
 }
@@ -72,11 +78,13 @@ fn write_in(
     n: Numbers,
     first: i64,
     last: i64,
+    first_exact: bool,
+    last_exact: bool,
     ordinates: &[i32],
     text: &mut [u8],
 ) -> FileWritten
-    requires { ⌜ (length (now title) ≤ 72) × Scaled n ⌝ }
-    ensures { λ r. ⌜ FileTells (inFrame (now (title .entry)) n (now (ordinates .entry)) (length (now (text .entry))) first last) (now (text .entry)) (now (text .exit)) r ⌝ }
+    requires { ⌜ (length (now title) ≤ 72) × Scaled n × Carried n «first_exact» «last_exact» ⌝ }
+    ensures { λ r. ⌜ FileTells (exactIn n (now (ordinates .entry))) (inFrame (now (title .entry)) n (now (ordinates .entry)) (length (now (text .entry))) first last) (now (text .entry)) (now (text .exit)) r ⌝ }
 {
     let points = n.npoints as usize;
     match Frame::new(first, last, points) {
@@ -92,7 +100,8 @@ fn write_in(
             if !agree(ordinates[0], rounded) {
                 return refused(29);
             }
-            lay(title, n, first, last, ordinates, text)
+            let exact = exact_with(first_exact, last_exact, q.exact, ordinates[0]);
+            lay(title, n, first, last, exact, ordinates, text)
         }
     }
 }
@@ -100,7 +109,7 @@ fn write_in(
 // F and L within their limits (28), then the rest.
 fn write_numbers(title: &[u8], n: Numbers, ordinates: &[i32], text: &mut [u8]) -> FileWritten
     requires { ⌜ (length (now title) ≤ 72) × Scaled n ⌝ }
-    ensures { λ r. ⌜ FileTells (fromNumbers (now (title .entry)) n (now (ordinates .entry)) (length (now (text .entry)))) (now (text .entry)) (now (text .exit)) r ⌝ }
+    ensures { λ r. ⌜ FileTells (exactIn n (now (ordinates .entry))) (fromNumbers (now (title .entry)) n (now (ordinates .entry)) (length (now (text .entry)))) (now (text .entry)) (now (text .exit)) r ⌝ }
 {
     let firstx = n.firstx;
     let lastx = n.lastx;
@@ -117,14 +126,14 @@ fn write_numbers(title: &[u8], n: Numbers, ordinates: &[i32], text: &mut [u8]) -
                 Rounded::Whole { minus: k, size: q } => {
                     let first = whole_of(m, p);
                     let last = whole_of(k, q);
-                    write_in(title, n, first, last, ordinates, text)
+                    write_in(title, n, first, last, f.exact, l.exact, ordinates, text)
                 }
             }
         }
     }
 }
 
-// Writes a file: any title, N, decimals and slices. Written: its length, and the file stands from the first of the lent bytes on. Refused, at place 0: every lent byte is what it was.
+// Writes a file: any title, N, decimals and slices. Written: its length and what of it is exact, and the file stands from the first of the lent bytes on. Refused, at place 0: every lent byte is what it was.
 pub fn write_file(
     title: &[u8],
     points: usize,
@@ -132,7 +141,7 @@ pub fn write_file(
     ordinates: &[i32],
     text: &mut [u8],
 ) -> FileWritten
-    ensures { λ r. ⌜ FileTells (writeFile (now (title .entry)) points scales (now (ordinates .entry)) (length (now (text .entry)))) (now (text .entry)) (now (text .exit)) r ⌝ }
+    ensures { λ r. ⌜ FileTells (file-exact scales points (now (ordinates .entry))) (writeFile (now (title .entry)) points scales (now (ordinates .entry)) (length (now (text .entry)))) (now (text .entry)) (now (text .exit)) r ⌝ }
 {
     if !title_fair(title) {
         return refused(37);

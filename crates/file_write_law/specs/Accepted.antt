@@ -1,4 +1,4 @@
--- 02, T-04: "Our reader must accept each file written and return the same ordinates, F and L." Each line has at most 80 bytes, and the file is within its limit. Assumes nothing.
+-- 02, T-04: "Our reader must accept each file written and return the same ordinates, F and L"; T-08: and say of the same that it is exact. Each line has at most 80 bytes, and the file is within its limit. Assumes nothing.
 use mathlib.Core.Path.{_≡_, refl}
 use mathlib.Core.Bool.{Bool, true, false}
 use mathlib.Core.List.{List, _++_}
@@ -23,7 +23,7 @@ use Rattle.file_spec.specs.Texts.{spacing, LIST, listedAs, listedIn}
 use Rattle.file_spec.specs.File.{accept-file, byFirst, byTable, byLast, byAbscissas, byList, byFigures, byRecords, byLabels, readFile, storedFile}
 use Rattle.file_write_spec.specs.declared.Scales.{Scales}
 use Rattle.file_write_spec.specs.Records.{crlf}
-use Rattle.file_write_spec.specs.File.{title-legal, scales-legal, numbers, within-limit, first-quotient, last-quotient, first-of, last-of, ordinates, firsty-agrees, limited}
+use Rattle.file_write_spec.specs.File.{title-legal, scales-legal, numbers, within-limit, first-quotient, last-quotient, first-of, last-of, ordinates, firsty-agrees, file-exact, limited}
 use Rattle.file_write_spec.specs.File.{body-text, file-text, byFrame, writeFile}
 use Rattle.file_write_law.specs.Lengths.{title-fits, scales-fit, file-most, file-lined}
 use Rattle.file_write_law.specs.Found.{Parts, wholeFile, spans, file-short, labelled-is, gathered-is, texts-written, figures-are}
@@ -156,8 +156,8 @@ module _ (title : List ℕ) (n : ℕ) (c : Scales) (es : List ℤ) where
           rw (k .1) at (file-lined title c n body (title-fits title (p .titled)) (scales-fit c (p .scaled)) (p .few) (inner-lined (p .lined)))
 
       module _ (h : Entries es) where
-        -- and it is accepted, with the same N, F, L and ordinates, missing ones too, where there is room for them;
-        pub accepts-written : (room : ℕ) → n ≤ room → readFile s room ≡ accept-file (record { points = n; first = first-of c n; last = last-of c n }) (ordinates n es)
+        -- and it is accepted, with the same N, F, L and ordinates, missing ones too, and with what the writer said is exact, where there is room for them;
+        pub accepts-written : (room : ℕ) → n ≤ room → readFile s room ≡ accept-file (record { points = n; first = first-of c n; last = last-of c n; exact = file-exact c n es }) (ordinates n es)
         unfolding byFirst
         accepts-written room r =
             let k = went w in

@@ -13,7 +13,8 @@ use Rattle.label_spec.specs.Names.{TITLE, END}
 use Rattle.decimal_spec.specs.declared.Rounded.{Rounded}
 use Rattle.file_spec.specs.declared.Numbers.{Numbers}
 use Rattle.file_spec.specs.Texts.{XFACTOR, YFACTOR, FIRSTX, LASTX, NPOINTS, FIRSTY, XYDATA, LIST}
-use Rattle.file_spec.specs.Figures.{ratio, abscissa-of, whole, agrees}
+use Rattle.file_spec.specs.declared.Exactness.{Exactness}
+use Rattle.file_spec.specs.Figures.{ratio, abscissa-of, whole, agrees, exactness-of}
 use Rattle.table_spec.specs.Groups.{plainText}
 use Rattle.file_write_spec.specs.declared.Scales.{Scales}
 use Rattle.file_write_spec.specs.Records.{Entry, crlf, entriesText, line}
@@ -119,6 +120,11 @@ ordinates n es = map ordinate-of (take n es)
 
 abbrev pub firsty-agrees : Scales → ℕ → List ℤ → Bool
 firsty-agrees c n es = agrees (getD (ordinates n es) 0 0) (ratio 0 (numbers c n .firsty) (numbers c n .yfactor) .rounded)
+
+-- ---- 02, T-08: what is exact, as the reader finds it in the file
+
+abbrev pub file-exact : Scales → ℕ → List ℤ → Exactness
+file-exact c n es = exactness-of (numbers c n) (getD (ordinates n es) 0 0)
 
 -- ---- the outcome for a title, N, the five decimals, the lent ordinates, and how many bytes there is room for
 

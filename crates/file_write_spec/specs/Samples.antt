@@ -1,5 +1,6 @@
 -- 02, T-04: a table of files to be written and what writing them answers, under one theorem about the definitions, by computation. Assumes nothing.
 use mathlib.Core.Path.{_≡_, refl}
+use mathlib.Core.Bool.{Bool, true, false}
 use mathlib.Core.List.{List, [], _∷_, _++_}
 use Prim.Native.Nat.{ℕ}
 use Prim.Native.String.{String}
@@ -11,13 +12,13 @@ use Rattle.table_spec.specs.Numerals.{top, low, numeral, fraction, magnitude, h
 use Rattle.table_spec.specs.Groups.{form, sqzText, plainText, tokenText, many, dupText, group}
 use Rattle.table_spec.specs.Writing.{Outcome, declined, wrote, written, lines-of, text, put, check, open-line, go-on, close}
 use Rattle.decimal_spec.specs.Samples.{bytes}
-use Rattle.decimal_spec.specs.Quotient.{nearest as nearest-whole, roundedOf, quotientOf}
+use Rattle.decimal_spec.specs.Quotient.{nearest as nearest-whole, roundedOf, exactOf, quotientOf}
 use Rattle.file_spec.specs.Figures.{ratio, equals}
 use Rattle.file_write_spec.specs.declared.GivenDecimal.{GivenDecimal}
 use Rattle.file_write_spec.specs.declared.Scales.{Scales}
 use Rattle.file_write_spec.specs.Records.{crlf, entryText, entriesText}
 use Rattle.file_write_spec.specs.Decimals.{mantissaText, exponentText, decimalText, decimal-taken, factor-taken}
-use Rattle.file_write_spec.specs.File.{printable, dollars, title-legal, scales-legal, fileText, byFrame, writeFile}
+use Rattle.file_write_spec.specs.File.{printable, dollars, title-legal, scales-legal, fileText, file-exact, byFrame, writeFile}
 
 -- a mantissa and an exponent
 abbrev pub dec : ℤ → ℤ → GivenDecimal
@@ -91,6 +92,20 @@ samples =
     "##XYDATA=(X++(Y..Y))" ∷
     "-2.5?a" ∷
     "##END=" ∷ []))) ∷
+    -- F is rounded: a third of 1
+    sample "a third" 2 (scales d3 tenth d1 d3 d0) (pos 0 ∷ pos 1 ∷ []) 200
+    (wrote (printed (
+    "##TITLE=a third" ∷
+    "##XFACTOR=3E+00" ∷
+    "##YFACTOR=1E-01" ∷
+    "##FIRSTX=1E+00" ∷
+    "##LASTX=3E+00" ∷
+    "##NPOINTS=2" ∷
+    "##FIRSTY=0E+00" ∷
+    "##XYDATA=(X++(Y..Y))" ∷
+    "0.333@J" ∷
+    "1A" ∷
+    "##END=" ∷ []))) ∷
     -- `a$$b`: 37
     sample "a$$b" 4 usual four 154 (declined 37) ∷
     -- byte 127, and a factor of zero: 37 first
@@ -132,4 +147,34 @@ pub samples-hold : AllHold samples
 unfolding samples writeFile byFrame title-legal printable dollars scales-legal decimal-taken factor-taken fileText entriesText entryText plainText
     mantissaText exponentText decimalText TITLE END ratio equals quotientOf roundedOf nearest-whole frame-legal exact nearest written lines-of text
     put check open-line go-on close group many form tokenText sqzText dupText numeral top low fraction magnitude headText
-samples-hold = (refl, (refl, (refl, (refl, (refl, (refl, (refl, (refl, (refl, (refl, (refl, (refl, (refl, (refl, (refl, (refl, (refl, (refl, (refl, tt)))))))))))))))))))
+samples-hold = (refl, (refl, (refl, (refl, (refl, (refl, (refl, (refl, (refl, (refl, (refl, (refl, (refl, (refl, (refl, (refl, (refl, (refl, (refl, (refl, tt))))))))))))))))))))
+
+-- ---- 02, T-08: decimals, the first ordinate, and whether F, L and FIRSTY's quotient are exact
+
+pub data Exacting : Type 0 where
+  exacting : Scales → ℤ → Bool → Bool → Bool → Exacting
+
+abbrev pub exactings : List Exacting
+exactings =
+    -- 01's file
+    exacting usual (pos 0) true true true ∷
+    -- F is a third of 1, and L of 3; and the other way round
+    exacting (scales d3 tenth d1 d3 d0) (pos 0) false true true ∷
+    exacting (scales d3 tenth d3 d1 d0) (pos 0) true false true ∷
+    -- FIRSTY is a half, rounded to 1; not compared
+    exacting (scales d1 (dec (pos 2) (pos 0)) d0 d3 d1) (pos 1) true true false ∷
+    exacting (scales d1 (dec (pos 2) (pos 0)) d0 d3 d1) (negsuc 2147483647) true true true ∷
+    -- F is 1E-99 over 1E+99, and L 0 over it
+    exacting (scales (dec (pos 1) (pos 99)) tenth (dec (pos 1) (negsuc 98)) d0 d0) (pos 0) false true true ∷
+    []
+
+abbrev pub Exacts : Exacting → Type 0
+Exacts (exacting c y f l q) = file-exact c 1 (y ∷ []) ≡ record { first = f; last = l; firsty = q }
+
+abbrev pub AllExact : List Exacting → Type 0
+AllExact [] = Unit {0}
+AllExact (x ∷ xs) = Exacts x × AllExact xs
+
+pub exactings-hold : AllExact exactings
+unfolding ratio quotientOf roundedOf exactOf nearest-whole
+exactings-hold = (refl, (refl, (refl, (refl, (refl, (refl, tt))))))

@@ -1,4 +1,5 @@
 // The types that the definition of the written file and its code share (02, T-04).
+use file_spec::Exactness;
 use terms::Fault;
 
 // A decimal as the caller gives it: a whole mantissa, and the exponent of ten.
@@ -16,9 +17,10 @@ pub struct Scales {
     pub firsty: GivenDecimal,
 }
 
-// The length of a written file. It is a struct, so that it can come to say more (02, T-08).
+// The length of a written file, and what of it is exact, as its reader finds it (02, T-08).
 pub struct FileLength {
     pub length: usize,
+    pub exact: Exactness,
 }
 
 // What writing a file answers: its length, or a fault at place 0.

@@ -2,7 +2,7 @@
 // Every argument is answered, every number is set, and what is not given is 0.
 ghost use mathlib.Core.Path.{_≡_};
 ghost use Rattle.table_spec.specs.declared.Style.the-variants.{Difdup};
-ghost use Rattle.host.specs.Answers.{bits, TableTold, TextTold, FormTold, FileTold, scalesOf, FileTextTold, RecordTold};
+ghost use Rattle.host.specs.Answers.{bits, flag, TableTold, TextTold, FormTold, FileTold, scalesOf, FileTextTold, RecordTold};
 ghost use Rattle.host.specs.Blocks.{BlocksTold, BlockTold, BlockRecordTold};
 use compound_spec::BlockRead;
 use compound_spec::BlocksFound;
@@ -45,7 +45,7 @@ pub extern "C" fn lastarunc_read_table(
     }
 }
 
-// Writes a table in a form: refused, length.
+// Writes a table in a form: refused, length, and three zeros where a file has what is exact.
 fn write_style(
     style: Style,
     first: i64,
@@ -53,23 +53,23 @@ fn write_style(
     points: usize,
     ordinates: &[i32],
     text: &mut [u8],
-    answer: &mut [u64; 2],
+    answer: &mut [u64; 5],
 ) -> u64
     ensures { λ r. ⌜ TextTold style first last points (now (ordinates .entry)) (now (text .entry)) (now (text .exit)) (now (answer .exit)) r ⌝ }
 {
     match table_write::write_form(style, first, last, points, ordinates, text) {
         TableWritten::Length(n) => {
-            *answer = [0, n as u64];
+            *answer = [0, n as u64, 0, 0, 0];
             0
         }
         TableWritten::Refused(f) => {
-            *answer = [f.number, 0];
+            *answer = [f.number, 0, 0, 0, 0];
             f.number
         }
     }
 }
 
-// Writes a table in DIFDUP form: refused, length.
+// Writes a table in DIFDUP form, and answers as the form does.
 #[no_mangle]
 pub extern "C" fn lastarunc_write_table(
     first: i64,
@@ -77,14 +77,14 @@ pub extern "C" fn lastarunc_write_table(
     points: usize,
     ordinates: &[i32],
     text: &mut [u8],
-    answer: &mut [u64; 2],
+    answer: &mut [u64; 5],
 ) -> u64
     ensures { λ r. ⌜ TextTold Difdup first last points (now (ordinates .entry)) (now (text .entry)) (now (text .exit)) (now (answer .exit)) r ⌝ }
 {
     write_style(Style::Difdup, first, last, points, ordinates, text, answer)
 }
 
-// Writes a table in the form of this number (02, T-02): refused, length. A number that is no form's is answered too.
+// Writes a table in the form of this number (02, T-02), and answers as the form does. A number that is no form's is answered too.
 #[no_mangle]
 pub extern "C" fn lastarunc_write_form(
     form: u64,
@@ -93,7 +93,7 @@ pub extern "C" fn lastarunc_write_form(
     points: usize,
     ordinates: &[i32],
     text: &mut [u8],
-    answer: &mut [u64; 2],
+    answer: &mut [u64; 5],
 ) -> u64
     ensures { λ r. ⌜ FormTold form first last points (now (ordinates .entry)) (now (text .entry)) (now (text .exit)) (now (answer .exit)) r ⌝ }
 {
@@ -103,7 +103,7 @@ pub extern "C" fn lastarunc_write_form(
         2 => write_style(Style::Pac, first, last, points, ordinates, text, answer),
         3 => write_style(Style::Sqz, first, last, points, ordinates, text, answer),
         _ => {
-            *answer = [NO_FORM, 0];
+            *answer = [NO_FORM, 0, 0, 0, 0];
             NO_FORM
         }
     }
@@ -120,9 +120,19 @@ fn bits_of(x: i64) -> u64
     x as u64
 }
 
-// Reads a file: refused, place, line, column, points, first, last.
+// Whether something is exact, as C has it (02, T-08): 1, or 0.
+fn flag_of(exact: bool) -> u64
+    ensures { λ r. ⌜ r ≡ flag exact ⌝ }
+{
+    if exact {
+        return 1;
+    }
+    0
+}
+
+// Reads a file: refused, place, line, column, points, first, last, and whether F, L and FIRSTY's quotient are exact.
 #[no_mangle]
-pub extern "C" fn lastarunc_read_file(file: &[u8], out: &mut [i32], answer: &mut [u64; 7]) -> u64
+pub extern "C" fn lastarunc_read_file(file: &[u8], out: &mut [i32], answer: &mut [u64; 10]) -> u64
     ensures { λ r. ⌜ FileTold (now (file .entry)) (now (out .entry)) (now (out .exit)) (now (answer .exit)) r ⌝ }
 {
     match file::read_file(file, out) {
@@ -130,7 +140,11 @@ pub extern "C" fn lastarunc_read_file(file: &[u8], out: &mut [i32], answer: &mut
             let n = t.points;
             let f = bits_of(t.first);
             let l = bits_of(t.last);
-            *answer = [0, 0, 0, 0, n as u64, f, l];
+            let exact = t.exact;
+            let ef = flag_of(exact.first);
+            let el = flag_of(exact.last);
+            let ey = flag_of(exact.firsty);
+            *answer = [0, 0, 0, 0, n as u64, f, l, ef, el, ey];
             0
         }
         FileRead::Refused(r) => {
@@ -139,6 +153,9 @@ pub extern "C" fn lastarunc_read_file(file: &[u8], out: &mut [i32], answer: &mut
                 r.place as u64,
                 r.line as u64,
                 r.column as u64,
+                0,
+                0,
+                0,
                 0,
                 0,
                 0,
@@ -176,7 +193,7 @@ fn scales_of(scales: &[i64; 10]) -> Scales
     }
 }
 
-// Writes a file (02, T-04): refused, length.
+// Writes a file (02, T-04): refused, length, and whether F, L and FIRSTY's quotient are exact.
 #[no_mangle]
 pub extern "C" fn lastarunc_write_file(
     title: &[u8],
@@ -184,17 +201,21 @@ pub extern "C" fn lastarunc_write_file(
     scales: &[i64; 10],
     ordinates: &[i32],
     text: &mut [u8],
-    answer: &mut [u64; 2],
+    answer: &mut [u64; 5],
 ) -> u64
     ensures { λ r. ⌜ FileTextTold (now (title .entry)) points (now (scales .entry)) (now (ordinates .entry)) (now (text .entry)) (now (text .exit)) (now (answer .exit)) r ⌝ }
 {
     match file_write::write_file(title, points, scales_of(scales), ordinates, text) {
         FileWritten::Length(n) => {
-            *answer = [0, n.length as u64];
+            let exact = n.exact;
+            let ef = flag_of(exact.first);
+            let el = flag_of(exact.last);
+            let ey = flag_of(exact.firsty);
+            *answer = [0, n.length as u64, ef, el, ey];
             0
         }
         FileWritten::Refused(refusal) => {
-            *answer = [refusal.number, 0];
+            *answer = [refusal.number, 0, 0, 0, 0];
             refusal.number
         }
     }

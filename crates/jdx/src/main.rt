@@ -21,6 +21,18 @@ fn show(table: FileTable, out: &[i32; MOST_POINTS]) {
     report::print_abscissa(table.last);
     report::end_line();
     show_points(out, table.points);
+    explain_rounded(table);
+}
+
+// On standard error, which of F and L was rounded (02, T-08); nothing where both are exact.
+fn explain_rounded(table: FileTable) {
+    let exact = table.exact;
+    if !exact.first {
+        report::explain_rounded(b"FIRSTX", table.first);
+    }
+    if !exact.last {
+        report::explain_rounded(b"LASTX", table.last);
+    }
 }
 
 // The first n ordinates, a line each.

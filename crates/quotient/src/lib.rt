@@ -1,8 +1,8 @@
-// The rounded quotient of two decimals (01, The file: "from a table of powers of ten"), for F, L and FIRSTY. An inner function: mantissas are below 10^9, and the divisor is above 0.
+// The rounded quotient of two decimals (01, The file: "from a table of powers of ten"), for F, L and FIRSTY, and whether it is exact (02, T-08). An inner function: mantissas are below 10^9, and the divisor is above 0.
 ghost use mathlib.Core.Path.{_≡_};
 ghost use Prim.Native.Nat.{_+_, _-_, _*_, _<_, _≤_, _^_};
 ghost use Rattle.decimal_spec.specs.Number.{bound};
-ghost use Rattle.decimal_spec.specs.Quotient.{Nearest, IsRounded, roundedOf, quotientOf};
+ghost use Rattle.decimal_spec.specs.Quotient.{Nearest, IsQuotient, quotientOf, zero-quotient, beyond-quotient};
 use decimal_spec::Quotient;
 use decimal_spec::Rounded;
 
@@ -55,69 +55,77 @@ fn nearest(minus: bool, a: u64, b: u64) -> u64
     if minus { q } else { more }
 }
 
-// The same held to the limit, with no sign for zero.
-fn limited(minus: bool, a: u64, b: u64, limit: u64) -> Rounded
+// Zero, exact or not.
+fn zero(exact: bool) -> Quotient
+    ensures { λ r. ⌜ r ≡ zero-quotient exact ⌝ }
+{
+    Quotient {
+        rounded: Rounded::Whole {
+            minus: false,
+            size: 0,
+        },
+        exact,
+    }
+}
+
+// What lies beyond the limit.
+fn beyond() -> Quotient
+    ensures { λ r. ⌜ r ≡ beyond-quotient ⌝ }
+{
+    Quotient {
+        rounded: Rounded::Beyond,
+        exact: false,
+    }
+}
+
+// The same held to the limit, with no sign for zero; exact if nothing is left.
+fn limited(minus: bool, a: u64, b: u64, limit: u64) -> Quotient
     requires { ⌜ (0 < b) × (b ≤ 1000000000000000000) × (a < 10000000000000000000) ⌝ }
-    ensures { λ r. ⌜ IsRounded limit minus a b r ⌝ }
+    ensures { λ r. ⌜ IsQuotient limit minus a b r ⌝ }
 {
     let q = nearest(minus, a, b);
     if q > limit {
-        return Rounded::Beyond;
+        return beyond();
     }
+    let exact = a % b == 0;
     if q == 0 {
-        return Rounded::Whole {
-            minus: false,
-            size: 0,
-        };
+        return zero(exact);
     }
-    Rounded::Whole { minus, size: q }
+    Quotient {
+        rounded: Rounded::Whole { minus, size: q },
+        exact,
+    }
 }
 
-// The quotient of two decimals, m1 times ten to the e1 by m2 times ten to the e2. A product is formed only where it is below
-// ten to the 19; where it is not, the answer is zero or beyond without it.
-fn divided(minus: bool, m1: u64, e1: u64, m2: u64, e2: u64, limit: u64) -> Rounded
+// The quotient of two decimals, m1 times ten to the e1 by m2 times ten to the e2, as a file's F, L and first ordinate ask it: for all
+// exponents, which are counted from one origin below the least. A product is formed only where it is below ten to the 19; where it
+// is not, the answer is zero, and exact if the dividend is zero, or beyond without it. An inner function: what it requires of the
+// mantissas is what `number` ensures and, of the divisor, that a factor exceeds zero (01, The file); the limit is the caller's.
+pub fn quotient(minus: bool, m1: u64, e1: u64, m2: u64, e2: u64, limit: u64) -> Quotient
     requires { ⌜ (m1 < bound) × (0 < m2) × (m2 < bound) × (limit < 10000000000) ⌝ }
-    ensures { λ r. ⌜ r ≡ roundedOf limit minus (m1 * 10 ^ e1) (m2 * 10 ^ e2) ⌝ }
+    ensures { λ r. ⌜ r ≡ quotientOf limit minus (m1 * 10 ^ e1) (m2 * 10 ^ e2) ⌝ }
 {
     if e1 < e2 {
         let down = e2 - e1;
         if down > 9 {
-            return Rounded::Whole {
-                minus: false,
-                size: 0,
-            };
+            return zero(m1 == 0);
         }
         let p = power(down as usize);
         let b = m2 * p;
         return limited(minus, m1, b, limit);
     }
     if m1 == 0 {
-        return Rounded::Whole {
-            minus: false,
-            size: 0,
-        };
+        return zero(true);
     }
     let up = e1 - e2;
     if up > 18 {
-        return Rounded::Beyond;
+        return beyond();
     }
     let p = power(up as usize);
     let most = 9999999999999999999 / p;
     if m1 > most {
-        return Rounded::Beyond;
+        return beyond();
     }
     let a = m1 * p;
     limited(minus, a, m2, limit)
-}
-
-// The quotient of two decimals, as a file's F, L and first ordinate ask it: exact for all exponents, which are counted from one
-// origin below the least. An inner function: what it requires of the mantissas is what `number` ensures and, of the divisor,
-// that a factor exceeds zero (01, The file); the limit is the caller's.
-pub fn quotient(minus: bool, m1: u64, e1: u64, m2: u64, e2: u64, limit: u64) -> Quotient
-    requires { ⌜ (m1 < bound) × (0 < m2) × (m2 < bound) × (limit < 10000000000) ⌝ }
-    ensures { λ r. ⌜ r ≡ quotientOf limit minus (m1 * 10 ^ e1) (m2 * 10 ^ e2) ⌝ }
-{
-    Quotient {
-        rounded: divided(minus, m1, e1, m2, e2, limit),
-    }
 }

@@ -1,8 +1,10 @@
 // Runs the samples of samples/ and the stored cases of the second reader (second/README.md, "The stored cases"): tables
 // to read, tables to write and read back, and files to read. Standard input has the cases, the file stdout their
 // answers. Lent memory is filled first; a line `touched` tells that an entry past the answer was altered.
+use file_spec::Exactness;
 use file_spec::FileRead;
 use file_spec::FileTable;
+use file_write_spec::FileLength;
 use file_write_spec::FileWritten;
 use file_write_spec::GivenDecimal;
 use file_write_spec::Scales;
@@ -164,19 +166,27 @@ fn show_text(a: Asked, ys: &[i32], text: &[u8], n: usize) {
     report::end_line();
 }
 
-// Does reading the written file give back N and the ordinates?
-fn file_reads_back(a: Asked, ys: &[i32], text: &[u8]) -> bool {
+// Is the same exact?
+fn same_exact(x: Exactness, y: Exactness) -> bool {
+    x.first == y.first && x.last == y.last && x.firsty == y.firsty
+}
+
+// Does reading the written file give back N and the ordinates, and what the writer said is exact?
+fn file_reads_back(a: Asked, exact: Exactness, ys: &[i32], text: &[u8]) -> bool {
     let mut back = [FILL; WRITTEN];
     match file::read_file(text, &mut back) {
-        FileRead::Accepted(t) => t.points == a.points && same(ys, &back, t.points),
+        FileRead::Accepted(t) => {
+            t.points == a.points && same_exact(t.exact, exact) && same(ys, &back, t.points)
+        }
         FileRead::Refused(_) => false,
     }
 }
 
-// The written file in the first n bytes: whether it reads back, and from the next line on itself.
-fn show_file_text(a: Asked, ys: &[i32], text: &[u8], n: usize) {
+// The written file in its bytes: whether it reads back, and from the next line on itself.
+fn show_file_text(a: Asked, f: FileLength, ys: &[i32], text: &[u8]) {
+    let n = f.length;
     if n <= text.len() {
-        if file_reads_back(a, ys, &text[0..n]) {
+        if file_reads_back(a, f.exact, ys, &text[0..n]) {
             io::write_all(1, b" same\n");
         } else {
             io::write_all(1, b" differs\n");
@@ -393,7 +403,7 @@ fn show_file_written(a: Asked, answer: FileWritten, ys: &[i32], text: &[u8]) {
             let n = f.length;
             io::write_all(1, b"ok ");
             io::print_decimal(1, n as u64);
-            show_file_text(a, ys, text, n);
+            show_file_text(a, f, ys, text);
             show_touched_text(text, n);
         }
         FileWritten::Refused(f) => {

@@ -198,3 +198,34 @@ pub fn explain(text: &[u8], r: Refusal) {
         show_caret(before);
     }
 }
+
+// A number of thousandths as a decimal, on standard error.
+fn show_thousandths(size: u64) {
+    io::print_decimal(ERRORS, size / 1000);
+    io::write_all(ERRORS, b".");
+    io::print_decimal(ERRORS, size / 100 % 10);
+    io::print_decimal(ERRORS, size / 10 % 10);
+    io::print_decimal(ERRORS, size % 10);
+}
+
+// An abscissa as a decimal, on standard error.
+fn show_abscissa(x: i64) {
+    let u = frame::lift(x);
+    if u < ZERO_ABSCISSA {
+        show_byte(b'-');
+        show_thousandths(ZERO_ABSCISSA - u);
+    } else {
+        show_thousandths(u - ZERO_ABSCISSA);
+    }
+}
+
+// That an abscissa was rounded, for a person (02, T-08): the record that was divided, and what it was rounded to.
+pub fn explain_rounded(record: &[u8], x: i64) {
+    io::write_all(ERRORS, record);
+    io::write_all(
+        ERRORS,
+        b" / XFACTOR is not a whole number of thousandths: rounded to ",
+    );
+    show_abscissa(x);
+    say(b"");
+}

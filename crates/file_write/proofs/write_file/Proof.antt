@@ -1,12 +1,11 @@
 -- `file_write::write_file` meets its contract: 37 and 26, then what the numbers say.
-use mathlib.Core.Path.{_≡_, sym, ap, _∙_, subst}
+use mathlib.Core.Path.{_≡_, sym, _∙_, subst}
 use mathlib.Core.Bool.{true}
 use lib.ListN.{length}
 use borrow.Author.Tests.{not-true, not-false}
-use Rattle.file_spec.specs.declared.Numbers.{Numbers}
 use Rattle.file_write_spec.specs.File.{title-legal, scales-legal, numbers}
 use Rattle.file_write_law.specs.Lengths.{title-fits}
-use Rattle.file_write.specs.Stages.{Scaled, fromNumbers}
+use Rattle.file_write.specs.Stages.{Scaled}
 use Rattle.file_write.proofs.Joined.{figures-wrong, figures-all, all-scaled, title-declined, scales-declined, numbers-next}
 use Rattle.file_write.proofs.StageSteps.{tells-refused, tells-same}
 use borrow.Author.Needs.{needs}
@@ -73,7 +72,7 @@ returns-3 : tie.Need-returns-3
 returns-3 c =
     let read = c .before .before in let n = read .before .before .before in let test = n .before .before .before in let a = start (test .before) .args in let k = numbers-are n in
     let next = numbers-next (a .title .now) (a .points) (a .scales) (a .ordinates .now) (length (a .text .now)) (title-is test) (k .0) in
-    tells-same (next ∙ ap (λ (m : Numbers). fromNumbers (a .title .now) m (a .ordinates .now) (length (a .text .now))) (sym (k .1))) (read .write-numbers .ensures)
+    tells-same next (rw (k .1) at (read .write-numbers .ensures))
 
 pub write-file-spec : {M : Type 1} → statement M
 write-file-spec =

@@ -1,5 +1,5 @@
 -- `file_write::write_in` meets its contract: 1, 2 and 29, and only then the file is laid.
-use mathlib.Core.Path.{_≡_, sym, _∙_}
+use mathlib.Core.Path.{_≡_, sym, ap, _∙_}
 use mathlib.Core.Bool.{true}
 use Prim.Native.Nat.{_≤_}
 use native.Mathlib.Omega.{arith}
@@ -11,9 +11,10 @@ use borrow.Author.Needs.{sfits-of}
 use borrow.Author.Tests.{not-true, not-false}
 use Rattle.table_spec.specs.Frame.{frame-legal, ordinate-of}
 use Rattle.frame.specs.FrameLaws.{framed-legal, framed-outside}
-use Rattle.file_spec.specs.Figures.{ratio, agrees}
-use Rattle.file_write.specs.Stages.{Framed}
-use Rattle.file_write.proofs.StageSteps.{tells-refused, tells-same, all-writable, framing-points, outside, too-few, unequal, equal}
+use Rattle.file_spec.specs.Figures.{ratio, agrees, exactness-of}
+use Rattle.figure.specs.Carried.{carried-exact}
+use Rattle.file_write.specs.Stages.{Framed, exactIn}
+use Rattle.file_write.proofs.StageSteps.{tells-refused, tells-same, all-writable, framing-points, first-ordinate, outside, too-few, unequal, equal}
 use borrow.Author.Needs.{needs}
 use Rattle.file_write.proofs.write_in.Statement.{statement}
 use Rattle.file_write.proofs.write_in.Tie as tie
@@ -45,6 +46,15 @@ compared : (c : tie.After-agree) → c .agree .result
 compared c =
     let first = getD (c .before .before .before .before .before .before .before .before .before .before .before .args .ordinates .now) 0 (pos 0) in
     rw (toZ-ofZ (sfits-of {w = w32} {z = first} (c .before .agree-arg .given)), c .before .before .ratio-of .ensures .0) at (c .agree .ensures)
+
+-- what is exact, where the first ordinate agrees
+exact-here : (c : tie.After-exact-with) → c .exact-with .result ≡ exactIn (begin (c .before .before .before) .args .n) (begin (c .before .before .before) .args .ordinates .now)
+exact-here c =
+    let g = c .before .before .before in let e = enough g in let z = begin g in let a = z .args in
+    let first = getD (g .before .before .before .before .before .before .before .before .before .before .before .args .ordinates .now) 0 (pos 0) in
+    let read = first-ordinate (a .n .npoints) (a .ordinates .now) (points-at (e .before) .0) (e .if1 .left) in
+    rw (toZ-ofZ (sfits-of {w = w32} {z = first} (c .before .exact-with-arg .given)), g .before .before .ratio-of .ensures .0) at (c .exact-with .ensures)
+    ∙ carried-exact (ordinate-of first) (z .pre .2) ∙ ap (exactness-of (a .n)) (sym read)
 
 new-requires : tie.Need-new-requires
 new-requires c κs = search needs
@@ -85,9 +95,15 @@ returns-2 c =
     tells-refused (unequal (a .title .now) (a .n) (a .ordinates .now) (length (a .text .now)) (a .first) (a .last) (legal-at k) (e .if1 .left) (points-at k .0) no)
     (c .refused3 .ensures)
 
+shared-slice-copy-out-exact-with : tie.Need-shared-slice-copy-out-exact-with
+shared-slice-copy-out-exact-with c = let e = enough (c .before) in let p = points-at (e .before) in omega (arith, p .0, e .if1 .left)
+
+exact-with-requires : tie.Need-exact-with-requires
+exact-with-requires c κs = search needs
+
 lay-requires : tie.Need-lay-requires
 lay-requires c κs =
-    let g = c .before .before in let e = enough g in let k = e .before in let z = start (k .before .before) in let a = z .args in
+    let g = c .before .before .before .before in let e = enough g in let k = e .before in let z = start (k .before .before) in let a = z .args in
     let framed : Framed (a .first) (a .last) (a .n .npoints) (a .ordinates .now) = record { legal = legal-at k; enough = e .if1 .left } in
     (z .pre .0, all-writable (z .pre .1) (points-at k .1), rw (toZ-ofZ (z .fits .first), toZ-ofZ (z .fits .last)) framed)
 
@@ -102,10 +118,10 @@ same-length c = search needs
 
 returns-4 : tie.Need-returns-4
 returns-4 c =
-    let laid = c .before .before in let test = laid .before .before in let g = test .before in let e = enough g in let k = e .before in let z = start (k .before .before) in let a = z .args in
+    let laid = c .before .before in let x = laid .before .before in let test = x .before .before in let g = test .before in let e = enough g in let k = e .before in let z = start (k .before .before) in let a = z .args in
     let yes = sym (compared g) ∙ not-false (g .agree .result) (test .if2 .left) in
     tells-same (equal (a .title .now) (a .n) (a .ordinates .now) (length (a .text .now)) (a .first) (a .last) (legal-at k) (e .if1 .left) (points-at k .0) yes)
-    (rw (toZ-ofZ (z .fits .first), toZ-ofZ (z .fits .last)) at (laid .lay .ensures))
+    (rw (toZ-ofZ (z .fits .first), toZ-ofZ (z .fits .last), exact-here x) at (laid .lay .ensures))
 
 pub write-in-spec : {M : Type 1} → statement M
 write-in-spec =
@@ -122,6 +138,8 @@ write-in-spec =
     agree-requires
     refused-requires-3
     returns-2
+    shared-slice-copy-out-exact-with
+    exact-with-requires
     lay-requires
     returns-3
     same-length

@@ -15,9 +15,12 @@ use Rattle.file_write.proofs.write_numbers.Tie as tie
 abbrev start : tie.After-ratio-of → tie.Start
 start c = c .before .before .before .before .before .before
 
--- what is known of the rounded part of a quotient
+-- what is known of the parts of a quotient
 rounded-is : {q r : Quotient} {x : Rounded} → q ≡ r → q .rounded ≡ x → r .rounded ≡ x
 rounded-is e h = ap (λ (q : Quotient). q .rounded) (sym e) ∙ h
+
+exact-is : {q r : Quotient} → q ≡ r → q .exact ≡ r .exact
+exact-is e = ap (λ (q : Quotient). q .exact) e
 
 ratio-of-requires : tie.Need-ratio-of-requires
 ratio-of-requires c κs = search needs
@@ -50,7 +53,9 @@ whole-of-requires-2 : tie.Need-whole-of-requires-2
 whole-of-requires-2 c κs = rw (c .before .before .last-rounded .given .1) at (c .before .before .before .before .ratio-of2 .ensures .1)
 
 write-in-requires : tie.Need-write-in-requires
-write-in-requires c κs = search needs
+write-in-requires c κs =
+    let l = c .before .before .before .before .before .before in let f = l .before .before .before .before in let p = start f .pre in
+    (p .0, p .1, record { first = exact-is (f .ratio-of .ensures .0); last = exact-is (l .ratio-of2 .ensures .0) })
 
 returns : tie.Need-returns
 returns c =

@@ -13,6 +13,15 @@ write-file-requires c κs = search needs
 enum-known-n : tie.Need-enum-known-n
 enum-known-n c = search needs
 
+flag-of-requires : tie.Need-flag-of-requires
+flag-of-requires c κs = search needs
+
+flag-of-requires-2 : tie.Need-flag-of-requires-2
+flag-of-requires-2 c κs = search needs
+
+flag-of-requires-3 : tie.Need-flag-of-requires-3
+flag-of-requires-3 c κs = search needs
+
 enum-known-refusal : tie.Need-enum-known-refusal
 enum-known-refusal c = search needs
 
@@ -21,9 +30,10 @@ same-length c = search needs
 
 returns : tie.Need-returns
 returns c =
-    let k = c .before .before in
+    let third = c .before in let second = third .before in let flagged = second .before in let k = flagged .before .before .before in
     let w = k .before .before .before .before in
     told-file-wrote _ (rw (w .before .before .scales-of .ensures, k .n .given .1) at (w .write-file .ensures))
+    (flagged .flag-of .ensures) (second .flag-of2 .ensures) (third .flag-of3 .ensures)
 
 same-length-2 : tie.Need-same-length-2
 same-length-2 c = search needs
@@ -41,6 +51,9 @@ lastarunc-write-file-spec =
     scales-of-requires
     write-file-requires
     enum-known-n
+    flag-of-requires
+    flag-of-requires-2
+    flag-of-requires-3
     enum-known-refusal
     same-length
     returns
