@@ -55,17 +55,23 @@ struct lastarunc_table {
 
 /*
  * What lastarunc_write_table, lastarunc_write_form and lastarunc_write_file answer. The place of a writer's refusal is
- * always 0.
+ * always 0. The last three are those of struct lastarunc_file, of a file that is written; of a table they are 0.
  */
 struct lastarunc_text {
     int64_t refused;
     int64_t length;
+    int64_t first_exact, last_exact, firsty_exact;
 };
 
-/* What lastarunc_read_file answers. */
+/*
+ * What lastarunc_read_file answers. The last three are 1 if the quotient was exact, 0 if it was rounded: FIRSTX and
+ * LASTX over XFACTOR in thousandths, and FIRSTY over YFACTOR, which is 1 too if the first ordinate is missing, so that
+ * it is not compared.
+ */
 struct lastarunc_file {
     int64_t refused, place, line, column;
     int64_t points, first, last;
+    int64_t first_exact, last_exact, firsty_exact;
 };
 
 /* What lastarunc_find_record answers. */
