@@ -42,7 +42,7 @@ static int64_t write_table(int64_t first, int64_t last, size_t points, const int
                            uint8_t *text, size_t room, struct lastarunc_text *answer)
 {
     uint64_t length, refused = c_write_table(first, last, points, ordinates, n, text, room, &length);
-    *answer = (struct lastarunc_text){(int64_t)refused, (int64_t)length};
+    *answer = (struct lastarunc_text){.refused = (int64_t)refused, .length = (int64_t)length};
     return answer->refused;
 }
 
@@ -51,7 +51,7 @@ static int64_t write_form(uint64_t form, int64_t first, int64_t last, size_t poi
                           size_t n, uint8_t *text, size_t room, struct lastarunc_text *answer)
 {
     uint64_t length, refused = c_write_form(form, first, last, points, ordinates, n, text, room, &length);
-    *answer = (struct lastarunc_text){(int64_t)refused, (int64_t)length};
+    *answer = (struct lastarunc_text){.refused = (int64_t)refused, .length = (int64_t)length};
     return answer->refused;
 }
 #endif
@@ -409,6 +409,8 @@ static const char *written_differs(const struct write_case *c, const struct writ
         return "number";
     if (w->answer->length != (int64_t)c->length)
         return "length";
+    if (w->answer->first_exact || w->answer->last_exact || w->answer->firsty_exact)
+        return "what is exact";
     if (guard_altered(w->answer, sizeof *w->answer))
         return "what stands behind the answer is altered";
     if (memcmp(w->lent, c->ordinates, c->n * sizeof *c->ordinates))
@@ -454,12 +456,37 @@ static void compare_write(void)
 }
 
 #ifndef COMPARE_C
+/* Whether F, L and FIRSTY's quotient are exact. */
+struct exact {
+    int64_t first, last, firsty;
+};
+
+static struct exact take_exact(void)
+{
+    struct exact e;
+    e.first = take_u32();
+    e.last = take_u32();
+    e.firsty = take_u32();
+    return e;
+}
+
+static bool is_same(struct exact a, struct exact b)
+{
+    return a.first == b.first && a.last == b.last && a.firsty == b.firsty;
+}
+
+static struct exact exact_of(const struct lastarunc_file *answer)
+{
+    return (struct exact){answer->first_exact, answer->last_exact, answer->firsty_exact};
+}
+
 static void compare_file(void)
 {
     uint32_t room = take_u32(), length = take_u32();
     uint8_t *file = take_bytes(length);
     struct refusal right = take_refusal();
     int64_t points = take_i64(), first = take_i64(), last = take_i64();
+    struct exact exact = take_exact();
     int32_t *expected = take_ordinates((size_t)points);
 
     uint8_t *lent = copy_of(file, length);
@@ -473,6 +500,8 @@ static void compare_file(void)
         difference = "count";
     if (!difference && (answer->first != first || answer->last != last))
         difference = "F or L";
+    if (!difference && !is_same(exact_of(answer), exact))
+        difference = "what is exact";
     if (!difference && guard_altered(answer, sizeof *answer))
         difference = "what stands behind the answer is altered";
     if (!difference && memcmp(lent, file, length))
@@ -546,6 +575,7 @@ struct block_case {
     int64_t from, to;
     struct refusal right;
     int64_t points, first, last;
+    struct exact exact;
     int32_t *expected;
 };
 
@@ -558,6 +588,7 @@ static struct block_case take_block(void)
     b.points = take_i64();
     b.first = take_i64();
     b.last = take_i64();
+    b.exact = take_exact();
     b.expected = take_ordinates((size_t)b.points);
     return b;
 }
@@ -570,6 +601,8 @@ static const char *block_differs(const struct block_case *b, struct refusal righ
     const char *difference = refusal_differs(returned, here, right);
     if (!difference && (answer->points != b->points || answer->first != b->first || answer->last != b->last))
         difference = "N, F or L of a block";
+    if (!difference && !is_same(exact_of(answer), b->exact))
+        difference = "what is exact in a block";
     if (!difference && guard_altered(answer, sizeof *answer))
         difference = "what stands behind the answer is altered";
     return difference ? difference : ordinates_differ(out, room, b->expected, (size_t)b->points);
@@ -706,6 +739,7 @@ struct file_case {
     struct lastarunc_scales scales;
     int32_t *ordinates;
     int64_t number, place, first, last;
+    struct exact exact;
     size_t length;
 };
 
@@ -735,6 +769,7 @@ static struct file_case take_file_case(void)
     c.place = take_i64();
     c.first = take_i64();
     c.last = take_i64();
+    c.exact = take_exact();
     c.length = take_u64();
     c.expected = take_bytes(c.length);
     return c;
@@ -774,6 +809,8 @@ static const char *read_back_differs(const struct file_case *c, const uint8_t *t
         difference = "read back, it has another N";
     else if (file.first != c->first || file.last != c->last)
         difference = "read back, it has another F or L";
+    else if (!is_same(exact_of(&file), c->exact))
+        difference = "read back, something else is exact";
     else
         difference = ordinates_differ(out, c->points, c->ordinates, c->points);
     free(out);
@@ -787,6 +824,8 @@ static const char *written_file_differs(const struct file_case *c, const struct 
         return "number";
     if (w->answer->length != (int64_t)c->length)
         return "length";
+    if (!is_same((struct exact){w->answer->first_exact, w->answer->last_exact, w->answer->firsty_exact}, c->exact))
+        return "what is exact";
     if (guard_altered(w->answer, sizeof *w->answer))
         return "what stands behind the answer is altered";
     if (memcmp(w->title, c->title, c->title_length))

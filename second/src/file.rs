@@ -16,7 +16,17 @@ pub struct FileTable {
     pub points: u64,
     pub first: i64,
     pub last: i64,
+    pub exact: Exact,
     pub ordinates: Vec<i32>,
+}
+
+/// Whether F, L and FIRSTY's quotient are exact, or were rounded; FIRSTY's counts as exact if it is not compared
+/// (02, T-08).
+#[derive(Clone, Copy, Debug, Default, PartialEq, Eq)]
+pub struct Exact {
+    pub first: bool,
+    pub last: bool,
+    pub first_y: bool,
 }
 
 /// The answer to a question for the text of a record.
@@ -309,6 +319,17 @@ pub fn quotient(above: Decimal, below: Decimal, places: i32) -> Option<i128> {
     })
 }
 
+/// Whether such a quotient is a whole number, so that nothing is rounded. The divisor exceeds zero.
+pub fn is_exact(above: Decimal, below: Decimal, places: i32) -> bool {
+    let shift = above.exponent + places - below.exponent;
+    if shift >= 0 {
+        // The dividend is a multiple of the divisor if its remainder, shifted a place at a time, comes to 0.
+        return (0..shift).fold(above.mantissa % below.mantissa, |rest, _| rest * 10 % below.mantissa) == 0;
+    }
+    // A mantissa below 10 to the 9 that is not 0 has at most eight zeros at its end.
+    above.mantissa == 0 || (shift > -9 && above.mantissa % (below.mantissa * 10i128.pow(shift.unsigned_abs())) == 0)
+}
+
 /// The numbers of a file, in the order in which 26 judges them.
 struct Numbers {
     x_factor: Decimal,
@@ -423,7 +444,12 @@ pub fn read_records(file: &[u8], records: &Records, room: usize) -> Result<FileT
     if ordinates[0] != MISSING && expected != Some(i128::from(ordinates[0])) {
         return Err(needed.first_y.refused(29, file));
     }
-    Ok(FileTable { points: numbers.points, first, last, ordinates })
+    let exact = Exact {
+        first: is_exact(numbers.first_x, numbers.x_factor, 3),
+        last: is_exact(numbers.last_x, numbers.x_factor, 3),
+        first_y: ordinates[0] == MISSING || is_exact(numbers.first_y, numbers.y_factor, 0),
+    };
+    Ok(FileTable { points: numbers.points, first, last, exact, ordinates })
 }
 
 /// The text of the record with this name: the first one, for names that may stand more than once.

@@ -1,6 +1,6 @@
 //! Writing a file: the title, the numbers, the table in DIFDUP form (02, T-04).
 
-use crate::file::{quotient, Decimal};
+use crate::file::{is_exact, quotient, Decimal, Exact};
 use crate::frame::{refusal, Frame, Refusal, LARGEST_ABSCISSA, MISSING};
 use crate::text::{write_body, TextForm, LINE_END};
 
@@ -58,10 +58,11 @@ impl Scales<Given> {
     }
 }
 
-/// A file that was written, and the frame of its table.
+/// A file that was written, the frame of its table, and whether F, L and FIRSTY's quotient are exact (02, T-08).
 #[derive(Clone, Debug, PartialEq, Eq)]
 pub struct WrittenFile {
     pub frame: Frame,
+    pub exact: Exact,
     pub text: Vec<u8>,
 }
 
@@ -128,5 +129,10 @@ pub fn write_file(
     if text.len() > room {
         return Err(refusal(15, 0));
     }
-    Ok(WrittenFile { frame, text })
+    let exact = Exact {
+        first: is_exact(scales.first_x, scales.x_factor, 3),
+        last: is_exact(scales.last_x, scales.x_factor, 3),
+        first_y: ordinates[0] == MISSING || is_exact(scales.first_y, scales.y_factor, 0),
+    };
+    Ok(WrittenFile { frame, exact, text })
 }

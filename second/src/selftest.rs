@@ -2,6 +2,7 @@
 //! comparisons: right spellings, written texts and written files read back, places found again by line and column.
 
 mod compound;
+mod exact;
 mod forms;
 mod heads;
 mod lengths;
@@ -9,7 +10,7 @@ mod written_files;
 
 use crate::body::read_body;
 use crate::cases::{coarse, damage, spell, tables};
-use crate::file::{read_file, record_text, FileTable, RecordText};
+use crate::file::{read_file, record_text, Exact, FileTable, RecordText};
 use crate::frame::{refusal, Frame, Refusal, MISSING, UNITS};
 use crate::line::line_and_column;
 use crate::random::Random;
@@ -271,7 +272,8 @@ fn place(file: &[u8], piece: &str) -> usize {
 
 /// 01's file and its answer.
 fn check_file_sample(report: &mut Report) {
-    let table = FileTable { points: 4, first: 0, last: 3000, ordinates: vec![0, 1, 0, 0] };
+    let exact = Exact { first: true, last: true, first_y: true };
+    let table = FileTable { points: 4, first: 0, last: 3000, exact, ordinates: vec![0, 1, 0, 0] };
     let file = file_with("", "");
     report.compare("01's file", plain(read_file(&file, 4)), Ok(table));
     report.compare("room", plain(read_file(&file, 3)), Err((2, 0)));
@@ -589,6 +591,7 @@ pub fn run() -> i32 {
     check_tables(report);
     check_lines(report);
     compound::check(report);
+    exact::check(report);
     let random = &mut Random::new(7);
     check_spellings(report, random);
     check_written(report, random);

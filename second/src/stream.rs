@@ -2,7 +2,7 @@
 
 use crate::body::read_body;
 use crate::compound::survey;
-use crate::file::{read_file, record_text, FileTable, RecordText};
+use crate::file::{read_file, record_text, Exact, FileTable, RecordText};
 use crate::file_text::{write_file, Given, Scales, WrittenFile};
 use crate::file_tried;
 use crate::frame::{Frame, Refusal};
@@ -71,7 +71,8 @@ impl WrittenFileCase {
     /// What reading the written file must give: N, F, L and the ordinates (02, T-04).
     pub fn table(&self, written: &WrittenFile) -> FileTable {
         let Frame { first, last, points } = written.frame;
-        FileTable { points, first, last, ordinates: self.ordinates[..points as usize].to_vec() }
+        let ordinates = self.ordinates[..points as usize].to_vec();
+        FileTable { points, first, last, exact: written.exact, ordinates }
     }
 
     /// Fails if this reader does not read the written file back as that.
@@ -184,10 +185,17 @@ pub fn put_file_case(out: &mut impl Write, case: &FileCase) -> io::Result<()> {
 fn put_file_answer(out: &mut impl Write, file: &[u8], answer: Result<FileTable, Refusal>) -> io::Result<()> {
     put_told(out, answer.as_ref().err().map_or(Told::default(), |fault| fault.told(file)))?;
     let Ok(table) = answer else {
-        return put_frame_of_file(out, 0, 0, 0);
+        put_frame_of_file(out, 0, 0, 0)?;
+        return put_exact(out, Exact::default());
     };
     put_frame_of_file(out, table.points, table.first, table.last)?;
+    put_exact(out, table.exact)?;
     put_ordinates(out, &table.ordinates)
+}
+
+/// Whether F, L and FIRSTY's quotient are exact.
+fn put_exact(out: &mut impl Write, exact: Exact) -> io::Result<()> {
+    [exact.first, exact.last, exact.first_y].iter().try_for_each(|yes| put_u32(out, u32::from(*yes)))
 }
 
 /// N, F and L, in the order of a file's answer.
@@ -268,17 +276,18 @@ pub fn put_written_file_case(out: &mut impl Write, case: &WrittenFileCase) -> io
     put_u32(out, case.ordinates.len() as u32)?;
     put_ordinates(out, &case.ordinates)?;
     put_u32(out, case.room)?;
-    let (number, place, frame, text) = match case.answer() {
+    let (number, place, frame, exact, text) = match case.answer() {
         Ok(written) => {
             case.read_back(&written)?;
-            (0, 0, written.frame, written.text)
+            (0, 0, written.frame, written.exact, written.text)
         }
-        Err(fault) => (fault.number, fault.place, Frame { first: 0, last: 0, points: 0 }, Vec::new()),
+        Err(fault) => (fault.number, fault.place, Frame { first: 0, last: 0, points: 0 }, Exact::default(), Vec::new()),
     };
     put_u32(out, number)?;
     put_u64(out, place)?;
     put_u64(out, frame.first as u64)?;
     put_u64(out, frame.last as u64)?;
+    put_exact(out, exact)?;
     put_u64(out, text.len() as u64)?;
     out.write_all(&text)
 }
@@ -292,6 +301,8 @@ struct Stream<R: Read> {
     tried_lines: [usize; lengths::TRIED.len()],
     /// How many tables with |L-F| below N-1 were written.
     close: usize,
+    /// How many accepted files have F, L and FIRSTY's quotient exact, and not.
+    exact: BTreeMap<[bool; 3], usize>,
     /// How many data blocks of compound files have each answer.
     blocks: BTreeMap<u32, usize>,
     /// How many files to be written tried each of `file_tried::TRIED`.
@@ -332,6 +343,11 @@ impl<R: Read> Stream<R> {
         let number = self.u32()?;
         self.bytes(24)?;
         Ok(number)
+    }
+
+    /// Which of F, L and FIRSTY's quotient are exact.
+    fn exact(&mut self) -> io::Result<[bool; 3]> {
+        Ok([self.u32()? == 1, self.u32()? == 1, self.u32()? == 1])
     }
 
     /// The kind of the next case, or nothing at the end.
@@ -394,7 +410,12 @@ impl<R: Read> Stream<R> {
         let length = self.counted()?.len();
         let number = self.told()?;
         let points = self.u64()? as usize;
-        self.bytes(16 + 4 * points)?;
+        self.bytes(16)?;
+        let exact = self.exact()?;
+        self.bytes(4 * points)?;
+        if number == 0 {
+            *self.exact.entry(exact).or_default() += 1;
+        }
         Ok((number, length))
     }
 
@@ -418,7 +439,7 @@ impl<R: Read> Stream<R> {
             let (from, to) = (self.u64()? as usize, self.u64()? as usize);
             let answer = self.told()?;
             let points = self.u64()? as usize;
-            self.bytes(16 + 4 * points)?;
+            self.bytes(16 + 12 + 4 * points)?;
             if is_compound {
                 *self.blocks.entry(answer).or_default() += 1;
             }
@@ -455,7 +476,7 @@ impl<R: Read> Stream<R> {
         let ordinates = bytes.chunks(4).map(|y| i32::from_le_bytes(y.try_into().expect("four bytes"))).collect();
         let room = self.u32()?;
         let number = self.u32()?;
-        self.bytes(24)?;
+        self.bytes(24 + 12)?;
         let length = self.u64()? as usize;
         self.bytes(length)?;
         let case = WrittenFileCase { title, points, scales: Scales::of(scales), ordinates, room };
@@ -471,8 +492,15 @@ impl<R: Read> Stream<R> {
 pub fn count(input: impl Read) -> io::Result<()> {
     let tried_files = [0; file_tried::TRIED.len()];
     let tried_lines = [0; lengths::TRIED.len()];
-    let mut stream =
-        Stream { input, tried: [0; TRIED.len()], tried_lines, close: 0, blocks: BTreeMap::new(), tried_files };
+    let mut stream = Stream {
+        input,
+        tried: [0; TRIED.len()],
+        tried_lines,
+        close: 0,
+        exact: BTreeMap::new(),
+        blocks: BTreeMap::new(),
+        tried_files,
+    };
     let mut counts: BTreeMap<(&str, u32), usize> = BTreeMap::new();
     let mut sizes: BTreeMap<&str, (usize, usize)> = BTreeMap::new();
     while let Some(kind) = stream.kind()? {
@@ -498,6 +526,10 @@ pub fn count(input: impl Read) -> io::Result<()> {
     }
     for (what, times) in lengths::TRIED.iter().zip(stream.tried_lines) {
         println!("bodies, {what}: {times}");
+    }
+    for ([first, last, first_y], times) in &stream.exact {
+        let word = |exact: &bool| if *exact { "exact" } else { "rounded" };
+        println!("files accepted, F {}, L {}, FIRSTY {}: {times}", word(first), word(last), word(first_y));
     }
     for (number, times) in &stream.blocks {
         let answer = if *number == 0 { "accepted".into() } else { format!("refused {number}") };
