@@ -26,7 +26,7 @@ use Rattle.file_spec.specs.declared.Figures.the-variants as figures
 use Rattle.file_spec.specs.declared.Listed.{Listed}
 use Rattle.file_spec.specs.declared.Listed.the-variants as listed
 use Rattle.file_spec.specs.Texts.{textIn, withText, markIn, markOf, listedIn}
-use Rattle.file_spec.specs.Figures.{decimalIn, countIn, exceeding, withDecimal, withCount, figuresOf, ratio, abscissa-of, whole, agrees}
+use Rattle.file_spec.specs.Figures.{decimalIn, countIn, exceeding, withDecimal, withCount, figuresOf, ratio, abscissa-of, whole, agrees, exactness-of}
 use Rattle.file_spec.specs.File.{FileAnswer, refuse-file, accept-file, inFile, byFirst, byTable, byLast, byAbscissas, byList, byFigures, byRecords}
 use Rattle.compound_spec.specs.Cut.{shifted}
 use Rattle.compound_law.specs.Carry.{shiftFound, foundIn}
@@ -146,7 +146,7 @@ module _ (s u : List ℕ) (m : ℕ)
       first-cut f l start (accept ys) =
           rw (mark-cut (t .firsty) (i .firsty))
           (pick-file m (agrees (getD ys 0 0) (ratio 0 (n .firsty) (n .yfactor) .rounded))
-          (accept-file (record { points = n .npoints; first = f; last = l }) ys) (refuse-file 29 (markOf u (t .firsty))))
+          (accept-file (record { points = n .npoints; first = f; last = l; exact = exactness-of n (getD ys 0 0) }) ys) (refuse-file 29 (markOf u (t .firsty))))
 
       module _ (start : ℕ) where
         table-cut : (f l : ℤ) → byTable s space (shiftNeeded m t) n start f l ≡ shifted m (byTable u space t n start f l)

@@ -17,7 +17,7 @@ use Rattle.compound_spec.specs.Compound.{BlocksAnswer, refuse-blocks, one-block
 use Rattle.compound_spec.specs.Answers.{toldBlocks, BlockAnswer, answer, no-block, readBlock, toldBlock, recordInBlock}
 use Rattle.compound_find.specs.Answers.{FindsBlocks}
 use Rattle.compound_read.specs.Answers.{ReadsBlock}
-use Rattle.host.specs.Answers.{refusedOf, bits, absent, recordAnswer}
+use Rattle.host.specs.Answers.{refusedOf, bits, absent, recordAnswer, flag, flags, no-flags}
 use Rattle.host.specs.Blocks.{blocksAnswer, BlocksTold, blockAnswer, startOf, endOf, fromOf, BlockTold, BlockRecordTold}
 
 -- ---- the data blocks of a file
@@ -50,35 +50,36 @@ module _ {file out out' : List ℕ} where
 
 -- ---- a data block read
 
-block-accepted : (s : List ℕ) (x : BlockAnswer) {t : FileTable} → BlockRead.Accepted t ≡ toldBlock s x → 0 ∷ 0 ∷ 0 ∷ 0 ∷ t .points ∷ bits (t .first) ∷ bits (t .last) ∷ [] ≡ blockAnswer s x
+block-accepted : (s : List ℕ) (x : BlockAnswer) {t : FileTable} → BlockRead.Accepted t ≡ toldBlock s x → 0 ∷ 0 ∷ 0 ∷ 0 ∷ t .points ∷ bits (t .first) ∷ bits (t .last) ∷ flags (t .exact) ≡ blockAnswer s x
 block-accepted s (answer (refuse-file c a)) e = zero-one cc
 block-accepted s (answer (accept-file x ys)) {t} e = let z : t ≡ x = cc in rw z refl
 block-accepted s no-block e = zero-one cc
 
-block-refused : (s : List ℕ) (x : BlockAnswer) {r : Refusal} → BlockRead.Refused r ≡ toldBlock s x → r .number ∷ r .place ∷ r .line ∷ r .column ∷ 0 ∷ 0 ∷ 0 ∷ [] ≡ blockAnswer s x
+block-refused : (s : List ℕ) (x : BlockAnswer) {r : Refusal} → BlockRead.Refused r ≡ toldBlock s x → r .number ∷ r .place ∷ r .line ∷ r .column ∷ 0 ∷ 0 ∷ 0 ∷ no-flags ≡ blockAnswer s x
 block-refused s (answer (refuse-file c a)) {r} e = let z : r ≡ refusalIn s c a = cc in rw z refl
 block-refused s (answer (accept-file t ys)) e = zero-one cc
 block-refused s no-block e = zero-one cc
 
-block-none : (s : List ℕ) (x : BlockAnswer) → BlockRead.NoBlock ≡ toldBlock s x → absent ∷ 0 ∷ 0 ∷ 0 ∷ 0 ∷ 0 ∷ 0 ∷ [] ≡ blockAnswer s x
+block-none : (s : List ℕ) (x : BlockAnswer) → BlockRead.NoBlock ≡ toldBlock s x → absent ∷ 0 ∷ 0 ∷ 0 ∷ 0 ∷ 0 ∷ 0 ∷ no-flags ≡ blockAnswer s x
 block-none s (answer (refuse-file c a)) e = zero-one cc
 block-none s (answer (accept-file t ys)) e = zero-one cc
 block-none s no-block e = refl
 
 module _ {file block : List ℕ} {out out' : List ℤ} where
-  pub told-block : {t : FileTable} {f l : ℕ} → ReadsBlock file (startOf block) (endOf block) out out' (BlockRead.Accepted t) → f ≡ bits (t .first) → l ≡ bits (t .last)
-      → BlockTold file block out out' (0 ∷ 0 ∷ 0 ∷ 0 ∷ t .points ∷ f ∷ l ∷ []) 0
-  told-block g a b =
+  pub told-block : {t : FileTable} {f l ef el ey : ℕ} → ReadsBlock file (startOf block) (endOf block) out out' (BlockRead.Accepted t) → f ≡ bits (t .first) → l ≡ bits (t .last)
+      → ef ≡ flag (t .exact .first) → el ≡ flag (t .exact .last) → ey ≡ flag (t .exact .firsty)
+      → BlockTold file block out out' (0 ∷ 0 ∷ 0 ∷ 0 ∷ t .points ∷ f ∷ l ∷ ef ∷ el ∷ ey ∷ []) 0
+  told-block g a b c d e =
       let z = block-accepted file (readBlock file (length out) (startOf block) (endOf block)) (g .answers) in
-      record { numbers = rw (a, b) z; returned = ap refusedOf z; leaves = g .leaves }
+      record { numbers = rw (a, b, c, d, e) z; returned = ap refusedOf z; leaves = g .leaves }
 
   pub told-block-refused : {r : Refusal} → ReadsBlock file (startOf block) (endOf block) out out' (BlockRead.Refused r)
-      → BlockTold file block out out' (r .number ∷ r .place ∷ r .line ∷ r .column ∷ 0 ∷ 0 ∷ 0 ∷ []) (r .number)
+      → BlockTold file block out out' (r .number ∷ r .place ∷ r .line ∷ r .column ∷ 0 ∷ 0 ∷ 0 ∷ no-flags) (r .number)
   told-block-refused g =
       let z = block-refused file (readBlock file (length out) (startOf block) (endOf block)) (g .answers) in
       record { numbers = z; returned = ap refusedOf z; leaves = g .leaves }
 
-  pub told-no-block : ReadsBlock file (startOf block) (endOf block) out out' BlockRead.NoBlock → BlockTold file block out out' (absent ∷ 0 ∷ 0 ∷ 0 ∷ 0 ∷ 0 ∷ 0 ∷ []) absent
+  pub told-no-block : ReadsBlock file (startOf block) (endOf block) out out' BlockRead.NoBlock → BlockTold file block out out' (absent ∷ 0 ∷ 0 ∷ 0 ∷ 0 ∷ 0 ∷ 0 ∷ no-flags) absent
   told-no-block g =
       let z = block-none file (readBlock file (length out) (startOf block) (endOf block)) (g .answers) in
       record { numbers = z; returned = ap refusedOf z; leaves = g .leaves }

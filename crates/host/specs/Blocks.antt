@@ -8,7 +8,7 @@ use Rattle.terms.specs.Places.{lineOf, columnOf}
 use Rattle.label_spec.specs.Names.{norm}
 use Rattle.compound_spec.specs.Compound.{BlocksAnswer, refuse-blocks, one-block, all-blocks, findBlocks}
 use Rattle.compound_spec.specs.Answers.{storedBlocks, BlockAnswer, answer, no-block, readBlock, storedBlock, recordInBlock}
-use Rattle.host.specs.Answers.{refusedOf, fileAnswer, absent, recordAnswer}
+use Rattle.host.specs.Answers.{refusedOf, no-flags, fileAnswer, absent, recordAnswer}
 
 -- the data blocks of a file: refused, place, line, column, whether it is compound, how many
 abbrev pub blocksAnswer : List ℕ → BlocksAnswer → List ℕ
@@ -24,7 +24,7 @@ pub record BlocksTold (file blocks blocks' : List ℕ) (numbers' : List ℕ) (r 
 -- a data block read, as a file is; or no block
 abbrev pub blockAnswer : List ℕ → BlockAnswer → List ℕ
 blockAnswer s (answer x) = fileAnswer s x
-blockAnswer s no-block = absent ∷ 0 ∷ 0 ∷ 0 ∷ 0 ∷ 0 ∷ 0 ∷ []
+blockAnswer s no-block = absent ∷ 0 ∷ 0 ∷ 0 ∷ 0 ∷ 0 ∷ 0 ∷ no-flags
 
 -- the numbers of a block, in the header's order: from, to, start, end
 abbrev pub fromOf : List ℕ → ℕ

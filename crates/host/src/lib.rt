@@ -281,13 +281,13 @@ pub extern "C" fn lastarunc_find_blocks(
     }
 }
 
-// Reads a data block (02, T-07), whose numbers are from, to, start, end: refused, place, line, column, points, first, last. A negative number is one beyond every file here.
+// Reads a data block (02, T-07), whose numbers are from, to, start, end: as a file is read. A negative number is one beyond every file here.
 #[no_mangle]
 pub extern "C" fn lastarunc_read_block(
     file: &[u8],
     block: &[u64; 4],
     out: &mut [i32],
-    answer: &mut [u64; 7],
+    answer: &mut [u64; 10],
 ) -> u64
     ensures { λ r. ⌜ BlockTold (now (file .entry)) (now (block .entry)) (now (out .entry)) (now (out .exit)) (now (answer .exit)) r ⌝ }
 {
@@ -298,7 +298,11 @@ pub extern "C" fn lastarunc_read_block(
             let n = t.points;
             let f = bits_of(t.first);
             let l = bits_of(t.last);
-            *answer = [0, 0, 0, 0, n as u64, f, l];
+            let exact = t.exact;
+            let first = flag_of(exact.first);
+            let last = flag_of(exact.last);
+            let firsty = flag_of(exact.firsty);
+            *answer = [0, 0, 0, 0, n as u64, f, l, first, last, firsty];
             0
         }
         BlockRead::Refused(r) => {
@@ -310,11 +314,14 @@ pub extern "C" fn lastarunc_read_block(
                 0,
                 0,
                 0,
+                0,
+                0,
+                0,
             ];
             r.number
         }
         BlockRead::NoBlock => {
-            *answer = [ABSENT, 0, 0, 0, 0, 0, 0];
+            *answer = [ABSENT, 0, 0, 0, 0, 0, 0, 0, 0, 0];
             ABSENT
         }
     }

@@ -25,6 +25,15 @@ bits-of-requires c κs = search needs
 bits-of-requires-2 : tie.Need-bits-of-requires-2
 bits-of-requires-2 c κs = search needs
 
+flag-of-requires : tie.Need-flag-of-requires
+flag-of-requires c κs = search needs
+
+flag-of-requires-2 : tie.Need-flag-of-requires-2
+flag-of-requires-2 c κs = search needs
+
+flag-of-requires-3 : tie.Need-flag-of-requires-3
+flag-of-requires-3 c κs = search needs
+
 enum-known-r : tie.Need-enum-known-r
 enum-known-r c = search needs
 
@@ -36,9 +45,11 @@ same-length c = search needs
 
 returns : tie.Need-returns
 returns c =
-    let k = c .before .before .before .before .struct-told .given in let j = c .before .before .struct-told2 .given in
-    told-block (rw (c .before .before .before .before .before .before .t .given .1) at (c .before .before .before .before .before .before .before .before .before .read-block .ensures))
-    (rw (toZ-ofZ (sfits-of {w = w64} (k .1 .0 .1))) at (c .before .before .before .bits-of .ensures)) (rw (toZ-ofZ (sfits-of {w = w64} (j .1 .1 .0 .1))) at (c .before .bits-of2 .ensures))
+    let third = c .before in let second = third .before in let flagged = second .before in let last = flagged .before .before in let first = last .before .before in
+    let k = first .before .struct-told .given in let j = last .before .struct-told2 .given in let known = first .before .before .before in
+    told-block (rw (known .t .given .1) at (known .before .before .before .read-block .ensures))
+    (rw (toZ-ofZ (sfits-of {w = w64} (k .1 .0 .1))) at (first .bits-of .ensures)) (rw (toZ-ofZ (sfits-of {w = w64} (j .1 .1 .0 .1))) at (last .bits-of2 .ensures))
+    (flagged .flag-of .ensures) (second .flag-of2 .ensures) (third .flag-of3 .ensures)
 
 same-length-2 : tie.Need-same-length-2
 same-length-2 c = search needs
@@ -62,6 +73,9 @@ lastarunc-read-block-spec =
     enum-known-t
     bits-of-requires
     bits-of-requires-2
+    flag-of-requires
+    flag-of-requires-2
+    flag-of-requires-3
     enum-known-r
     enum-told
     same-length
