@@ -50,7 +50,8 @@ module _ {file out out' : List ℕ} where
 
 -- ---- a data block read
 
-block-accepted : (s : List ℕ) (x : BlockAnswer) {t : FileTable} → BlockRead.Accepted t ≡ toldBlock s x → 0 ∷ 0 ∷ 0 ∷ 0 ∷ t .points ∷ bits (t .first) ∷ bits (t .last) ∷ flags (t .exact) ≡ blockAnswer s x
+block-accepted : (s : List ℕ) (x : BlockAnswer) {t : FileTable} → BlockRead.Accepted t ≡ toldBlock s x
+    → 0 ∷ 0 ∷ 0 ∷ 0 ∷ t .points ∷ bits (t .first) ∷ bits (t .last) ∷ flags (t .exact) ≡ blockAnswer s x
 block-accepted s (answer (refuse-file c a)) e = zero-one cc
 block-accepted s (answer (accept-file x ys)) {t} e = let z : t ≡ x = cc in rw z refl
 block-accepted s no-block e = zero-one cc

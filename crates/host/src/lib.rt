@@ -296,13 +296,13 @@ pub extern "C" fn lastarunc_read_block(
     match compound_read::read_block(file, start, end, out) {
         BlockRead::Accepted(t) => {
             let n = t.points;
-            let f = bits_of(t.first);
-            let l = bits_of(t.last);
+            let from = bits_of(t.first);
+            let to = bits_of(t.last);
             let exact = t.exact;
             let first = flag_of(exact.first);
             let last = flag_of(exact.last);
             let firsty = flag_of(exact.firsty);
-            *answer = [0, 0, 0, 0, n as u64, f, l, first, last, firsty];
+            *answer = [0, 0, 0, 0, n as u64, from, to, first, last, firsty];
             0
         }
         BlockRead::Refused(r) => {
@@ -340,8 +340,8 @@ pub extern "C" fn lastarunc_find_in_block(
     let from = block[0] as usize;
     let end = block[3] as usize;
     match compound_read::find_in_block(file, from, end, name) {
-        Record::Text { from: a, to: b } => {
-            *answer = [0, 0, 0, 0, a as u64, b as u64];
+        Record::Text { from: a, to } => {
+            *answer = [0, 0, 0, 0, a as u64, to as u64];
             0
         }
         Record::Absent => {
