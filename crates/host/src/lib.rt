@@ -275,9 +275,9 @@ pub extern "C" fn lastarunc_read_block(
     match compound_read::read_block(file, start, end, out) {
         BlockRead::Accepted(t) => {
             let n = t.points;
-            let f = bits_of(t.first);
-            let l = bits_of(t.last);
-            *answer = [0, 0, 0, 0, n as u64, f, l];
+            let from = bits_of(t.first);
+            let to = bits_of(t.last);
+            *answer = [0, 0, 0, 0, n as u64, from, to];
             0
         }
         BlockRead::Refused(r) => {
@@ -312,8 +312,8 @@ pub extern "C" fn lastarunc_find_in_block(
     let from = block[0] as usize;
     let end = block[3] as usize;
     match compound_read::find_in_block(file, from, end, name) {
-        Record::Text { from: a, to: b } => {
-            *answer = [0, 0, 0, 0, a as u64, b as u64];
+        Record::Text { from: a, to } => {
+            *answer = [0, 0, 0, 0, a as u64, to as u64];
             0
         }
         Record::Absent => {
