@@ -239,7 +239,7 @@ module _ (s : List ℕ) (b : Block) (d : DataBlock s b) (i : Bounds s b) (u w : 
       let z = rw (t .at) at (sound u 0 true) in
       let y : b .title + t .eq ≡ b .eq = t .place in
       let f = first-cut s (b .title) u w c fits (t .eq) (b .end - b .title) (b .last - b .title) in-cut end-cut labels-there (omega (arith, i .open-low, i .close-low)) (d .text) (t .text)
-          (d .name) k in
+      (d .name) k in
       rw (d .at, t .at, z .0 .on) (rw (start-is, end-is, y) at f)
 
   record-alone : (k : List ℕ) → length s ≤ longestFile → recordInBlock s (b .title) (b .end) k ≡ shiftRecord (b .title) (recordFor u k)
