@@ -118,7 +118,8 @@ same-length c = search needs
 
 returns-4 : tie.Need-returns-4
 returns-4 c =
-    let laid = c .before .before in let x = laid .before .before in let test = x .before .before in let g = test .before in let e = enough g in let k = e .before in let z = start (k .before .before) in let a = z .args in
+    let laid = c .before .before in let x = laid .before .before in let test = x .before .before in let g = test .before in
+    let e = enough g in let k = e .before in let z = start (k .before .before) in let a = z .args in
     let yes = sym (compared g) ∙ not-false (g .agree .result) (test .if2 .left) in
     tells-same (equal (a .title .now) (a .n) (a .ordinates .now) (length (a .text .now)) (a .first) (a .last) (legal-at k) (e .if1 .left) (points-at k .0) yes)
     (rw (toZ-ofZ (z .fits .first), toZ-ofZ (z .fits .last), exact-here x) at (laid .lay .ensures))
