@@ -178,7 +178,8 @@ fn read_labelled(file: &[u8], out: &mut [i32]) -> FileStaged
     }
 }
 
-// Reads a file: any bytes, any slice. Accepted: N, F, L and what is exact, and the first N entries are the ordinates. Refused: number, place, line and column in the file, and every entry is what it was.
+// Reads a file: any bytes, any slice. Accepted: N, F, L and what is exact, and the first N entries are the ordinates.
+// Refused: number, place, line and column in the file, and every entry is what it was.
 pub fn read_file(file: &[u8], out: &mut [i32]) -> FileRead
     ensures { λ r. ⌜ FileSays (now (file .entry)) (now (out .entry)) (now (out .exit)) r ⌝ }
 {

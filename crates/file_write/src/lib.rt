@@ -133,7 +133,8 @@ fn write_numbers(title: &[u8], n: Numbers, ordinates: &[i32], text: &mut [u8]) -
     }
 }
 
-// Writes a file: any title, N, decimals and slices. Written: its length and what of it is exact, and the file stands from the first of the lent bytes on. Refused, at place 0: every lent byte is what it was.
+// Writes a file: any title, N, decimals and slices. Written: its length and what of it is exact, and the file stands from the first
+// of the lent bytes on. Refused, at place 0: every lent byte is what it was.
 pub fn write_file(
     title: &[u8],
     points: usize,

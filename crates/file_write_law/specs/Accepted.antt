@@ -1,5 +1,5 @@
--- 02, T-04: "Our reader must accept each file written and return the same ordinates, F and L"; T-08: and say of the same that it is exact. Each line has at most 80 bytes, and
--- the file is within its limit. Assumes nothing.
+-- 02, T-04: "Our reader must accept each file written and return the same ordinates, F and L"; T-08: and the same exactness.
+-- Each line has at most 80 bytes, and the file is within its limit. Assumes nothing.
 use mathlib.Core.Path.{_≡_, refl}
 use mathlib.Core.Bool.{Bool, true, false}
 use mathlib.Core.List.{List, _++_}

@@ -1,4 +1,5 @@
-// The rounded quotient of two decimals (01, The file: "from a table of powers of ten"), for F, L and FIRSTY, and whether it is exact (02, T-08). An inner function: mantissas are below 10^9, and the divisor is above 0.
+// The rounded quotient of two decimals (01, The file: "from a table of powers of ten"), for F, L and FIRSTY, and whether it is exact (02, T-08).
+// An inner function: mantissas are below 10^9, and the divisor is above 0.
 ghost use mathlib.Core.Path.{_≡_};
 ghost use Prim.Native.Nat.{_+_, _-_, _*_, _<_, _≤_, _^_};
 ghost use Rattle.decimal_spec.specs.Number.{bound};
