@@ -110,6 +110,17 @@ static void run_labels(size_t length, long times)
             wrong("labels");
 }
 
+/* Finds the data block of a compound file, whose labels are each compared with those before it in their own block. */
+static void run_blocks(size_t length, long times)
+{
+    uint8_t *file = make_blocks(length);
+    struct lastarunc_block block;
+    struct lastarunc_blocks answer;
+    for (long i = 0; i < times; i++)
+        if (lastarunc_find_blocks(file, length, &block, 4, &answer) || answer.blocks != 1)
+            wrong("blocks");
+}
+
 /* Runs the named function; false if there is none of that name. */
 static bool run(const char *name, const char *table, const char *times)
 {
@@ -127,6 +138,8 @@ static bool run(const char *name, const char *table, const char *times)
     }
     if (!strncmp(table, "labels-", 7))
         return run_labels(strtoul(table + 7, NULL, 10), atol(times)), true;
+    if (!strncmp(table, "blocks-", 7))
+        return run_blocks(strtoul(table + 7, NULL, 10), atol(times)), true;
     struct table *t = make_table(table);
     if (!t)
         return false;
@@ -150,7 +163,7 @@ int main(int argc, char **argv)
     bool timed = argc == 5 && !strcmp(argv[1], "-time");
     if (argc != 4 + timed) {
         fprintf(stderr, "measure [-time] FUNCTION TABLE TIMES|size, where TABLE is (typical|quiet|noisy)[-POINTS]"
-                        "[.AFFN|.PAC|.SQZ], plain[-POINTS], file-POINTS or labels-BYTES\n");
+                        "[.AFFN|.PAC|.SQZ], plain[-POINTS], file-POINTS, labels-BYTES or blocks-BYTES\n");
         return 2;
     }
     struct timespec before, after;

@@ -157,14 +157,11 @@ uint8_t *make_file(size_t points, size_t *length)
     return (uint8_t *)file;
 }
 
-uint8_t *make_labels(size_t length)
+/* Fills file[at] up to file[end] with short different labels that begin alike, as many as fit; the place after them. */
+static size_t put_labels(uint8_t *file, size_t at, size_t end)
 {
     static const char letters[] = "ABCDEFGHIJKLM0123456789"; /* no N: END would end the file */
-    uint8_t *file = malloc(length);
-    size_t at = 9;
-    memset(file, '\n', length);
-    memcpy(file, "##TITLE=\n", 9);
-    for (unsigned n = 0; at + 9 + 6 <= length; n++) {
+    for (unsigned n = 0; at + 9 <= end; n++) {
         file[at++] = '#';
         file[at++] = '#';
         file[at++] = 'A'; /* names that begin alike take longer to tell apart */
@@ -174,6 +171,36 @@ uint8_t *make_labels(size_t length)
         file[at++] = '=';
         file[at++] = '\n';
     }
-    memcpy(file + at, "##END=", 6);
+    return at;
+}
+
+/* Puts a text at a place of the file; the place after it. */
+static size_t put_text(uint8_t *file, size_t at, const char *text)
+{
+    memcpy(file + at, text, strlen(text));
+    return at + strlen(text);
+}
+
+uint8_t *make_labels(size_t length)
+{
+    uint8_t *file = memory(length);
+    memset(file, '\n', length);
+    size_t at = put_text(file, 0, "##TITLE=\n");
+    put_text(file, put_labels(file, at, length - 6), "##END=");
+    return file;
+}
+
+uint8_t *make_blocks(size_t length)
+{
+    uint8_t *file = memory(length);
+    memset(file, '\n', length);
+    size_t at = put_text(file, 0, "##TITLE=\n##DATATYPE=LINK\n##BLOCKS=1\n");
+    for (int depth = 2; depth < 8; depth++)
+        at = put_text(file, at, "##TITLE=\n##DATATYPE=LINK\n");
+    at = put_text(file, at, "##TITLE=\n");
+    at = put_text(file, put_labels(file, at, length / 2), "##END=\n");
+    for (int depth = 2; depth < 8; depth++)
+        at = put_text(file, at, "##END=\n");
+    put_text(file, put_labels(file, at, length - 6), "##END=");
     return file;
 }

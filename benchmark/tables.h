@@ -30,4 +30,7 @@ uint8_t *make_file(size_t points, size_t *length);
 /* Makes a file of so many bytes, full of short different labels that begin alike: the worst case of comparing each with all before it. */
 uint8_t *make_labels(size_t length);
 
+/* Makes a compound file of so many bytes: half of such labels stand in a data block at depth eight, half in the outermost block after it. */
+uint8_t *make_blocks(size_t length);
+
 #endif
