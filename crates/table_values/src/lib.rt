@@ -5,7 +5,7 @@ ghost use lib.Dec.{leb};
 ghost use Rattle.alphabet_spec.specs.Entries.{entryAt};
 ghost use Rattle.table_spec.specs.Values.{own, by, times};
 ghost use Rattle.table_numbers.specs.Numbers.{Token};
-ghost use Rattle.table_values.specs.States.{«lettered», formed, difForm, rowAfter, Sits, Valued, Again, Went, Stepped, FirstValue, Lined};
+ghost use Rattle.table_values.specs.States.{beginsDifference, formed, difForm, rowAfter, Sits, Valued, Again, Went, Stepped, FirstValue, Lined};
 use alphabet::DIF;
 use alphabet::DIF_MINUS;
 use alphabet::KIND;
@@ -63,21 +63,22 @@ pub enum LineRead {
 // The byte of j: from it on the letters are minus.
 const LOWER: u64 = 106;
 
+// The byte of `%`, the difference 0.
+const PERCENT: u64 = 37;
+
 // ---- one value
 
-// Does a difference other than 0 begin with the byte b: J to R, or j to r?
-fn lettered(b: u64) -> bool
-    ensures { λ r. ⌜ r ≡ lettered b ⌝ }
+// Does a difference begin with the byte b: %, J to R, or j to r? J and j are 10 after a multiple of 32: one test for both signs, since no processor can foresee a jump on the sign.
+fn begins_difference(b: u64) -> bool
+    ensures { λ r. ⌜ r ≡ beginsDifference b ⌝ }
 {
-    if b >= 74 {
-        if b < 83 {
-            return true;
-        }
+    if b == PERCENT {
+        return true;
     }
-    if b < LOWER {
+    if b / 64 != 1 {
         return false;
     }
-    b < 115
+    (b + 22) % 32 < 9
 }
 
 // The form after a run of differences: that before it, if there was none (0), or that of a difference that begins with the byte `last`.
@@ -108,39 +109,27 @@ fn differences(s: &[u8], points: usize, out: &mut [i32], c: Cur) -> Cur
     }
     let mut b = standing(s, at);
     while k < points {
-        if lettered(b) {
-            let next = at + 1;
-            let r = digits(s, next, (b + 7) % KIND, 9);
-            if is_digit(r.b) {
-                break;
-            }
-            let u = shifted(q, b >= LOWER, r.v);
-            if u == 0 {
-                break;
-            }
-            put(out, k, u);
-            k += 1;
-            q = u;
-            step = r.v;
-            at = r.at;
-            last = b;
-            b = r.b;
-            continue;
-        }
-        if b != 37 {
+        if !begins_difference(b) {
             break;
         }
         let next = at + 1;
-        let f = standing(s, next);
-        if is_digit(f) {
+        let lead = if b == PERCENT { 0 } else { (b + 7) % KIND };
+        let most = if b == PERCENT { 0 } else { 9 };
+        let r = digits(s, next, lead, most);
+        if is_digit(r.b) {
             break;
         }
-        put(out, k, q);
+        let u = shifted(q, b >= LOWER, r.v);
+        if u == 0 {
+            break;
+        }
+        put(out, k, u);
         k += 1;
-        step = 0;
-        at = next;
+        q = u;
+        step = r.v;
+        at = r.at;
         last = b;
-        b = f;
+        b = r.b;
     }
     let form = form_after(c.form, last);
     Cur {
