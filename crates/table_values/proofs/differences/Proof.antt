@@ -1,8 +1,9 @@
 -- `table_values::differences` meets its contract: THE HOT LOOP.
 use mathlib.Core.Path.{_≡_, refl, sym, _∙_}
 use mathlib.Core.Bool.{true}
+use mathlib.Core.List.{List}
 use mathlib.Core.Logic.{⊎-elim}
-use Prim.Native.Nat.{_-_, _<_, _≤_}
+use Prim.Native.Nat.{ℕ, _-_, _<_, _≤_}
 use native.Mathlib.Omega.{arith}
 use lib.Dec.{leb}
 use lib.ListN.{length}
@@ -34,8 +35,11 @@ lead-is c = ⊎-elim (λ x. rw (eq-eqb _ _ (x .0 .taken)) (x .1)) (λ x. rw (ne-
 most-is : (c : tie.Joined4 Inv-loop μ-loop) → c .if4 .most ≡ mostAfter (c .before .before .before .before .before .loop .b)
 most-is c = ⊎-elim (λ x. rw (eq-eqb _ _ (x .0 .taken)) (x .1)) (λ x. rw (ne-eqb _ _ (x .0 .left)) (x .1)) (c .if4 .came)
 
--- after its digits no digit stands
-over : (c : tie.Else5 Inv-loop μ-loop) → 16 ≤ entryAt (c .before .before .before .before .before .before .before .before .before .before .before .before .args .s .now) (c .before .before .digits .result .at)
+-- the text; after its digits no digit stands
+abbrev bytes : tie.Joined4 Inv-loop μ-loop → List ℕ
+bytes c = c .before .before .before .before .before .before .before .before .before .args .s .now
+
+over : (c : tie.Else5 Inv-loop μ-loop) → 16 ≤ entryAt (bytes (c .before .before .before)) (c .before .before .digits .result .at)
 over c = digit-seen-not _ _ (c .before .before .digits .ensures .1) (c .before .is-digit .ensures) (c .if5 .left)
 
 returns : tie.Need-returns Inv-loop μ-loop
