@@ -51,6 +51,10 @@ formed form b = pick (eqb b 0) form (difFormOf b)
 abbrev pub difForm : ℕ → Bool
 difForm form = pick (eqb form 1) true (leb 32 form)
 
+-- a state at another place
+abbrev pub placed : Cur → ℕ → Cur
+placed c j = record { at = j; k = c .k; q = c .q; want = c .want; step = c .step; form = c .form }
+
 -- how it keeps the ordinate before and the spot, in q, want, step and form
 pub data Holds : ℕ → ℕ → ℕ → ℕ → ℕ → Spot → Type 0 where
   opening : {p d : ℕ} → Holds 0 0 d 0 p (first false)

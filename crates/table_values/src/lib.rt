@@ -2,10 +2,12 @@
 ghost use mathlib.Core.Path.{_≡_};
 ghost use Prim.Native.Nat.{_<_, _≤_};
 ghost use lib.Dec.{leb};
+ghost use lib.ListN.{length};
 ghost use Rattle.alphabet_spec.specs.Entries.{entryAt};
 ghost use Rattle.table_spec.specs.Values.{own, by, times};
+ghost use Rattle.table_lines.specs.Ends.{Blanked};
 ghost use Rattle.table_numbers.specs.Numbers.{Token};
-ghost use Rattle.table_values.specs.States.{beginsDifference, formed, difForm, rowAfter, Sits, Valued, Again, Went, Stepped, FirstValue, Lined};
+ghost use Rattle.table_values.specs.States.{beginsDifference, formed, difForm, placed, rowAfter, Sits, Valued, Again, Went, Stepped, FirstValue, Lined};
 use alphabet::DIF;
 use alphabet::DIF_MINUS;
 use alphabet::KIND;
@@ -328,6 +330,33 @@ fn value(s: &[u8], points: usize, out: &mut [i32], c: Cur, e: u64, v: u64, j: us
     own_value(s, points, out, c, kind % 4 == 1, v, j)
 }
 
+// The entry of what stands at a place. A digit is asked for first: it needs no ranges.
+fn entry_there(s: &[u8], at: usize) -> u64
+    ensures { λ r. ⌜ r ≡ entryAt (now (s .entry)) at ⌝ }
+{
+    let b = standing(s, at);
+    if is_digit(b) {
+        return b - 48;
+    }
+    entry_at(s, at)
+}
+
+// The state past the blanks that stand at its place: they say nothing.
+fn past_blanks(s: &[u8], c: Cur) -> Cur
+    requires { ⌜ c .at ≤ length (now s) ⌝ }
+    ensures { λ r. ⌜ Blanked (now (s .entry)) (c .at) (r .at) × (r ≡ placed c (r .at)) ⌝ }
+{
+    let at = blanks(s, c.at);
+    Cur {
+        at,
+        k: c.k,
+        q: c.q,
+        want: c.want,
+        step: c.step,
+        form: c.form,
+    }
+}
+
 // Whatever stands next on a line.
 fn token(s: &[u8], points: usize, out: &mut [i32], c: Cur) -> Step
     requires { ⌜ (points ≤ 65536) × Sits points (now s) c ⌝ }
@@ -335,17 +364,9 @@ fn token(s: &[u8], points: usize, out: &mut [i32], c: Cur) -> Step
 {
     let at = c.at;
     if is_blank(standing(s, at)) {
-        let j = blanks(s, at);
-        return Step::Go(Cur {
-            at: j,
-            k: c.k,
-            q: c.q,
-            want: c.want,
-            step: c.step,
-            form: c.form,
-        });
+        return Step::Go(past_blanks(s, c));
     }
-    let e = entry_at(s, at);
+    let e = entry_there(s, at);
     if e >= POINT {
         return match line_end(s, at, e) {
             Ending::Next(j) => Step::Line(j),
@@ -398,7 +419,8 @@ pub fn values(s: &[u8], points: usize, out: &mut [i32], at: usize, k: usize, wan
         form: 0,
     };
     loop {
-        let b = differences(s, points, out, c);
+        let a = past_blanks(s, c);
+        let b = differences(s, points, out, a);
         match token(s, points, out, b) {
             Step::Go(d) => {
                 c = d;
