@@ -1,7 +1,7 @@
 -- From the run of digits that was read to the token of a value. No place of the code is named here. Assumes nothing.
 use mathlib.Core.Path.{_≡_, refl, sym, ap, _∙_}
 use mathlib.Core.Bool.{Bool, true, false}
-use mathlib.Core.List.{List}
+use mathlib.Core.List.{List, [], _∷_}
 use Prim.Native.Nat.{ℕ, zero, suc, _+_, _-_, _*_, _^_, _/_, _%_, _≤_, _<_}
 use native.Mathlib.Omega.{arith}
 use native.Mathlib.Numerals.{add-one}
@@ -12,18 +12,19 @@ use borrow.Author.Tests.{eq-eqb, ne-eqb, lt-ltb, le-ltb, lt-leb, le-leb, ltb-tru
 use mathlib.Core.Logic.{_⊎_, inl, inr, ⊎-elim}
 use Rattle.terms.specs.Logic.{pick, by-case}
 use Rattle.alphabet_spec.specs.Kinds.{Lead, sqz, dif, dup, tabs-too, Pseudo, sqz-up, sqz-down, dif-zero, dif-up, dif-down, dup-low, dup-nine}
-use Rattle.alphabet_spec.specs.Digits.{long, run}
+use Rattle.alphabet_spec.specs.Digits.{within, Run, long, run, digits}
 use Rattle.alphabet_spec.specs.Bytes.{Byte, digit, lead, sign, quest, blank, point, lf, cr, dollar, other, kind}
 use Rattle.alphabet_spec.specs.KindLaws.{Back, kind-back}
 use Rattle.alphabet_spec.specs.Entries.{code, entry, entryAt, kindOf}
 use Rattle.alphabet_spec.specs.EntryLaws.{entry-in, at-entry}
-use Rattle.alphabet_spec.specs.DigitLaws.{digit-at}
-use Rattle.alphabet.specs.Ran.{AllDigits, Ran, ran-below}
+use Rattle.alphabet_spec.specs.DigitLaws.{digits-on, digit-at}
+use Rattle.alphabet.specs.Ran.{AllDigits, Ran, ran-is, ran-below}
 use Rattle.table_spec.specs.Values.{Value, own, gap, by, times, valueOf, room}
 use Rattle.table_spec.specs.Reading.{Tokens, value, fault, Mode, inner, valued, inside, step}
 use Rattle.table_lines.specs.Seen.{behind, here, later-seen, later-none, seen-kind, byte-back, not-behind}
-use Rattle.table_lines.proofs.HeadLaws.{clear-after, digit-kind, sign-kind, sign-first, some-more, some-none, run-there}
-use Rattle.table_numbers.specs.Numbers.{leadOf, most, valueAt, below, Clear, Token, Numbered}
+use Rattle.table_lines.proofs.HeadLaws.{clear-after, digit-kind, sign-kind, some-more, some-none, run-there}
+use Rattle.table_numbers.specs.Numbers.{leadOf, most, valueAt, below, Clear, Token, Numbered, Plain}
+use Rattle.table_numbers.specs.declared.NumberRead.{NumberRead}
 use Rattle.table_numbers.specs.declared.NumberRead.the-variants.{Read, Misspelled}
 
 -- ---- entries of pseudo-digits
@@ -84,6 +85,11 @@ room-small e (suc d) = by-case (λ t. room (pick t dup (pick (ltb e 48) (dif fal
     (λ _. by-case (λ t. room (pick t (dif true) (pick (ltb e 80) (sqz false) (sqz true))) (suc d) ≤ 9) (ltb e 64) (λ _. omega arith)
     (λ _. by-case (λ t. room (pick t (sqz false) (sqz true)) (suc d) ≤ 9) (ltb e 80) (λ _. omega arith) (λ _. omega arith))))
 
+pub below-ten : (e : ℕ) → below e ≤ 10000000000
+below-ten e =
+    by-case (λ t. pick t 10000000000 (pick (ltb e 32) 100000 10000000000) ≤ 10000000000) (ltb e 16) (λ _. omega arith)
+    (λ _. by-case (λ t. pick t 100000 10000000000 ≤ 10000000000) (ltb e 32) (λ _. omega arith) (λ _. omega arith))
+
 -- ---- the token of a run
 
 -- a byte that begins a value, and digits
@@ -92,9 +98,20 @@ clear-run s i j l f k a b =
     by-case (λ t. ltb i k ≡ t → entryAt s k < 160) (ltb i k) (λ _ x. let y = ltb-true i k x in let z = f k (omega arith) b in omega arith)
     (λ _ x. let y = ltb-false i k x in let z : k ≡ i = omega arith in rw z l) refl
 
+-- digits stand after the place i up to j, where the entry f stands
+record Followed (s : List ℕ) (i j f : ℕ) : Type 0 where
+  low : i < j
+  high : j ≤ length s
+  all : AllDigits s (i + 1) j
+  stands : f ≡ entryAt s j
+  clear : (entryAt s i ≡ 112 → ⊥) → behind s j ≡ false
+
+followed : (s : List ℕ) (i : ℕ) {v most w j f : ℕ} → Ran s (i + 1) v most w j f → Followed s i j f
+followed s i r = let l = r .low in record { low = omega arith; high = r .high; all = r .all; stands = r .stands; clear = λ nb. clear-after r (not-behind s i nb) }
+
 -- a byte whose step is a value made of the run of digits after it
-module _ (s : List ℕ) (i : ℕ) {v most w j f : ℕ} (c : Byte) (x : ℕ → Value) (h : i < length s) (k : kindOf (entryAt s i) ≡ c) (nb : entryAt s i ≡ 112 → ⊥) (lo : entryAt s i < 160)
-    (r : Ran s (i + 1) v most w j f)
+module _ (s : List ℕ) (i w : ℕ) {j f : ℕ} (c : Byte) (x : ℕ → Value) (h : i < length s) (k : kindOf (entryAt s i) ≡ c) (nb : entryAt s i ≡ 112 → ⊥) (lo : entryAt s i < 160)
+    (r : Followed s i j f)
     (g : (K : ℕ → Mode → Tokens) → inside K i (drop (suc i) s) (behind s i) c ≡ valued K i x (pick (ltb f 16) long (run w (j - (i + 1))))) where
   run-long : f < 16 → here s i ≡ fault 5 i
   unfolding step
@@ -105,11 +122,11 @@ module _ (s : List ℕ) (i : ℕ) {v most w j f : ℕ} (c : Byte) (x : ℕ → V
   run-token l =
       let low = r .low in let z : j - (i + 1) ≡ j - suc i = omega arith in
       record {
-        low = omega arith;
+        low = r .low;
         clear = clear-run s i j lo (r .all);
         high = r .high;
         law = seen-kind s i (inner (behind s i)) c h k ∙ g _
-            ∙ rw (le-ltb f 16 l, z, clear-after r (not-behind s i nb)) (ap (value i (x w)) (later-seen s (suc i) j (inner false) (omega arith) (r .high)));
+            ∙ rw (le-ltb f 16 l, z, r .clear nb) (ap (value i (x w)) (later-seen s (suc i) j (inner false) (omega arith) (r .high)));
       }
 
 -- ---- a pseudo-digit
@@ -132,6 +149,9 @@ module _ (s : List ℕ) (i e : ℕ) (g : e ≡ entryAt s i) (l : 16 ≤ e) (h : 
       (λ _ x. let b : m ≤ 9 = rw z (room-small e (e % 16)) in
       let p : 10 ^ m ≤ 10 ^ 9 = pow-le-pow-right (lit< tt) b in let q = mul-le-mul-left (e % 16 + 1) p in let d = lead-digit in omega arith) refl)
 
+  pub packed-fits : (e % 16 + 1) * 10 ^ most e ≤ 10000000000000000000
+  packed-fits = let z = lead-fits (most e) refl in let b = below-ten e in omega arith
+
   valued-at : (v : ℕ) → valueAt e v ≡ valueOf (leadOf e) v
   valued-at v = rw (le-ltb e 16 l, lt-ltb e 96 h) refl
 
@@ -140,13 +160,13 @@ module _ (s : List ℕ) (i e : ℕ) (g : e ≡ entryAt s i) (l : 16 ≤ e) (h : 
     unfolding inside
     lead-opens K = rw (← z, run-there s i r) refl
 
-    packed-long : f < 16 → Numbered s i e Misspelled
-    packed-long = run-long s i (lead (leadOf e) (e % 16)) (valueOf (leadOf e)) lead-in lead-here (λ x. omega arith) (omega arith) r lead-opens
+    pub packed-long : f < 16 → Numbered s i e Misspelled
+    packed-long = run-long s i w (lead (leadOf e) (e % 16)) (valueOf (leadOf e)) lead-in lead-here (λ x. omega arith) (omega arith) (followed s i r) lead-opens
 
     pub packed-token : 16 ≤ f → Numbered s i e (Read w j)
     packed-token k =
         let b = lead-fits m z in let y = ran-below r in
-        let x = run-token s i (lead (leadOf e) (e % 16)) (valueOf (leadOf e)) lead-in lead-here (λ x. omega arith) (omega arith) r lead-opens k in
+        let x = run-token s i w (lead (leadOf e) (e % 16)) (valueOf (leadOf e)) lead-in lead-here (λ x. omega arith) (omega arith) (followed s i r) lead-opens k in
         record { small = lt-of-lt-of-le y b; token = rw (valued-at w) x; digits = r .all; over = rw (r .stands) at k }
 
 -- ---- a sign
@@ -170,13 +190,59 @@ module _ (s : List ℕ) (i e : ℕ) (g : e ≡ entryAt s i) (l : 128 ≤ e) (h :
   sign-alone n = let z : j - (i + 1) ≡ 0 = omega arith in seen-kind s i (inner (behind s i)) (sign (leb 144 e)) sign-in sign-here ∙ rw (run-there s i r, z, some-none (ltb f 16) w) refl
 
   signed-long : (j ≡ i + 1 → ⊥) → f < 16 → Numbered s i e Misspelled
-  signed-long n = run-long s i (sign (leb 144 e)) (own (leb 144 e)) sign-in sign-here (λ x. omega arith) (omega arith) r (sign-opens n)
+  signed-long n = run-long s i w (sign (leb 144 e)) (own (leb 144 e)) sign-in sign-here (λ x. omega arith) (omega arith) (followed s i r) (sign-opens n)
 
   signed-token : (j ≡ i + 1 → ⊥) → 16 ≤ f → Numbered s i e (Read w j)
   signed-token n k =
       let y = ran-below r in
-      let x = run-token s i (sign (leb 144 e)) (own (leb 144 e)) sign-in sign-here (λ x. omega arith) (omega arith) r (sign-opens n) k in
+      let x = run-token s i w (sign (leb 144 e)) (own (leb 144 e)) sign-in sign-here (λ x. omega arith) (omega arith) (followed s i r) (sign-opens n) k in
       record { small = rw (le-ltb e 16 (omega arith), le-ltb e 32 (omega arith)) (omega arith); token = rw (own-at w) x; digits = r .all; over = rw (r .stands) at k }
+
+pub signed-number : (s : List ℕ) (i e : ℕ) → e ≡ entryAt s i → 128 ≤ e → e < 160 → (x : NumberRead) → Plain s (i + 1) x → Numbered s i e x
+signed-number s i e g l h (Read v j) p = let k = p .1 in signed-token s i e g l h (p .0) (λ y. omega arith) (p .2)
+signed-number s i e g l h Misspelled p = ⊎-elim (sign-alone s i e g l h (p .run)) (λ y. let z = p .run .full y in signed-long s i e g l h (p .run) (λ q. omega arith) y) (p .wrong)
+
+-- ---- the first digit of a run, and those after it
+
+-- a run with one digit fewer
+abbrev less : Run → Run
+less long = long
+less (run v n) = run v (n - 1)
+
+one-less : (v n : ℕ) → less (run v (suc n)) ≡ run v n
+one-less v n = let z : suc n - 1 ≡ n = omega arith in ap (run v) z
+
+counted : (s : List ℕ) (m v n : ℕ) → less (digits s m v (suc n)) ≡ digits s m v n
+unfolding digits
+counted [] m v n = one-less v n
+counted (b ∷ s) zero v n = by-case (λ t. less (pick t long (run v (suc n))) ≡ pick t long (run v n)) (within 48 10 b) (λ _. refl) (λ _. one-less v n)
+counted (b ∷ s) (suc m) v n =
+    by-case (λ t. less (pick t (digits s m (v * 10 + (b - 48)) (suc (suc n))) (run v (suc n))) ≡ pick t (digits s m (v * 10 + (b - 48)) (suc n)) (run v n)) (within 48 10 b)
+    (λ _. counted s m (v * 10 + (b - 48)) (suc n)) (λ _. one-less v n)
+
+module _ (s : List ℕ) (i : ℕ) {w j f : ℕ} (r : Ran s i 0 10 w j f) (l : entryAt s i < 16) where
+  first-low : i < j
+  first-low = by-case (λ t. ltb i j ≡ t → i < j) (ltb i j) (λ _ x. ltb-true i j x)
+      (λ _ x. let y = ltb-false i j x in let b = r .low in let z : j ≡ i = omega arith in let k : f < 16 = rw (r .stands, z) l in let m = r .full k in absurd (omega arith)) refl
+
+  first-there : digits (drop (suc i) s) 9 (entryAt s i) 0 ≡ pick (ltb f 16) long (run w (j - (i + 1)))
+  first-there =
+      let z : j - i - 1 ≡ j - (i + 1) = omega arith in let q : 0 * 10 + entryAt s i ≡ entryAt s i = omega arith in
+      let d : digits (drop (suc i) s) 9 (0 * 10 + entryAt s i) 1 ≡ pick (ltb f 16) long (run w (j - i)) = sym (digits-on s i 10 0 0 l) ∙ ran-is r in
+      sym (counted (drop (suc i) s) 9 (entryAt s i) 0) ∙ ap less (rw q at d)
+      ∙ by-case (λ t. less (pick t long (run w (j - i))) ≡ pick t long (run w (j - (i + 1)))) (ltb f 16) (λ _. refl) (λ _. ap (run w) z)
+
+  first-followed : Followed s i j f
+  unfolding behind
+  first-followed =
+      let m = first-low in let d = r .all (j - 1) (omega arith) (omega arith) in
+      record {
+        low = first-low;
+        high = r .high;
+        all = λ k a b. r .all k (omega arith) b;
+        stands = r .stands;
+        clear = λ _. rw (ne-eqb j 0 (λ y. omega arith)) (ne-eqb (entryAt s (j - 1)) 112 (λ y. omega arith));
+      }
 
 -- ---- a digit, after a blank or not
 
@@ -195,19 +261,23 @@ module _ (s : List ℕ) (i e : ℕ) (g : e ≡ entryAt s i) (l : e < 16) where
   unfolding inside step
   digit-late o n = seen-kind s i (inner (behind s i)) (digit e) (digit-here .0) digit-kind-here ∙ rw (behind-is false o (ne-eqb (entryAt s (i - 1)) 112 n)) refl
 
-  module _ (o : 0 < i) (n : entryAt s (i - 1) ≡ 112) {w j f : ℕ} (r : Ran s (i + 1) e 9 w j f) where
+  module _ (o : 0 < i) (n : entryAt s (i - 1) ≡ 112) {w j f : ℕ} (r : Ran s i 0 10 w j f) where
     digit-opens : (K : ℕ → Mode → Tokens) → inside K i (drop (suc i) s) (behind s i) (digit e) ≡ valued K i (own false) (pick (ltb f 16) long (run w (j - (i + 1))))
     unfolding inside
-    digit-opens K = rw (behind-is true o (eq-eqb (entryAt s (i - 1)) 112 n), run-there s i r) refl
+    digit-opens K = rw (behind-is true o (eq-eqb (entryAt s (i - 1)) 112 n), g, first-there s i r (rw g at l)) refl
 
     plain-long : f < 16 → Numbered s i e Misspelled
-    plain-long = run-long s i (digit e) (own false) (digit-here .0) digit-kind-here (λ x. omega arith) (omega arith) r digit-opens
+    plain-long = run-long s i w (digit e) (own false) (digit-here .0) digit-kind-here (λ x. omega arith) (omega arith) (first-followed s i r (rw g at l)) digit-opens
 
     plain-token : 16 ≤ f → Numbered s i e (Read w j)
     plain-token k =
-        let y = ran-below r in let d = digit-here .1 in
-        let x = run-token s i (digit e) (own false) (digit-here .0) digit-kind-here (λ x. omega arith) (omega arith) r digit-opens k in
-        record { small = rw (lt-ltb e 16 l) (omega arith); token = rw (lt-ltb e 16 l) x; digits = r .all; over = rw (r .stands) at k }
+        let y = ran-below r in let z = first-followed s i r (rw g at l) in
+        let x = run-token s i w (digit e) (own false) (digit-here .0) digit-kind-here (λ x. omega arith) (omega arith) z digit-opens k in
+        record { small = rw (lt-ltb e 16 l) (omega arith); token = rw (lt-ltb e 16 l) x; digits = z .all; over = rw (r .stands) at k }
+
+  pub plain-number : 0 < i → entryAt s (i - 1) ≡ 112 → (x : NumberRead) → Plain s i x → Numbered s i e x
+  plain-number o n (Read v j) p = plain-token o n (p .0) (p .2)
+  plain-number o n Misspelled p = ⊎-elim (λ y. let z = first-low s i (p .run) (rw g at l) in absurd (omega arith)) (plain-long o n (p .run)) (p .wrong)
 
 -- ---- a missing ordinate
 
@@ -222,57 +292,10 @@ gap-token s i e =
       law = seen-kind s i (inner (behind s i)) quest h (ap kindOf e) ∙ rw (not-behind s i (λ x. omega arith), add-one i) (ap (value i gap) (later-none s (suc i) (inner false)));
     }
 
-pub below-ten : (e : ℕ) → below e ≤ 10000000000
-below-ten e =
-    by-case (λ t. pick t 10000000000 (pick (ltb e 32) 100000 10000000000) ≤ 10000000000) (ltb e 16) (λ _. omega arith)
-    (λ _. by-case (λ t. pick t 100000 10000000000 ≤ 10000000000) (ltb e 32) (λ _. omega arith) (λ _. omega arith))
-
 -- ---- whatever begins a value
 
-module _ (s : List ℕ) (i e : ℕ) (g : e ≡ entryAt s i) (lo : e < 160) (k : e < 96 ⊎ 128 ≤ e) where
-  -- a digit, a pseudo-digit or a sign
-  kinded : {A : Type 0} → (e < 16 → A) → (16 ≤ e → e < 96 → A) → (128 ≤ e → A) → A
-  kinded {A} x y z =
-      by-case (λ t. ltb e 16 ≡ t → A) (ltb e 16) (λ _ p. x (ltb-true e 16 p)) (λ _ p. ⊎-elim (y (ltb-false e 16 p)) z k) refl
-
-  pub number-in : i < length s
-  number-in = entry-in s i (λ x. omega arith)
-
-  digit-most : e < 16 → most e ≡ 9
-  digit-most l = rw (lt-leb 128 e (omega arith), lt-ltb e 16 l) refl
-
-  lead-most : 16 ≤ e → e < 96 → most e ≡ room (leadOf e) (e % 16)
-  lead-most l h = rw (lt-leb 128 e (omega arith), le-ltb e 16 l) refl
-
-  sign-most : 128 ≤ e → most e ≡ 10
-  sign-most l = rw (le-leb 128 e l) refl
-
-  digit-first : e < 16 → e % 16 ≡ e
-  digit-first l = omega arith
-
-  pub number-fits : (e % 16 + 1) * 10 ^ most e ≤ 10000000000000000000
-  number-fits =
-      kinded (λ l. let d = digit-here s i e g l .1 in rw (digit-most l, digit-first l) (omega arith))
-      (λ l h. let z = lead-fits s i e g l h (most e) (lead-most l h) in let b = below-ten e in omega arith) (λ l. rw (sign-most l, sign-first s i e number-in g l lo) (omega arith))
-
-  module _ (o : 0 < i) (n : e < 16 → entryAt s (i - 1) ≡ 112) {w j f : ℕ} (r : Ran s (i + 1) (e % 16) (most e) w j f) where
-    plain-run : e < 16 → Ran s (i + 1) e 9 w j f
-    plain-run l = rw (digit-most l, digit-first l) at r
-
-    sign-run : 128 ≤ e → Ran s (i + 1) 0 10 w j f
-    sign-run l = rw (sign-most l, sign-first s i e number-in g l lo) at r
-
-    pub number-long : f < 16 → Numbered s i e Misspelled
-    number-long h =
-        kinded (λ l. plain-long s i e g l o (n l) (plain-run l) h) (λ l u. packed-long s i e g l u (lead-most l u) r h)
-        (λ l. let z = sign-run l .full h in signed-long s i e g l lo (sign-run l) (λ x. omega arith) h)
-
-    pub number-alone : 128 ≤ e → j ≡ i + 1 → Numbered s i e Misspelled
-    number-alone l = sign-alone s i e g l lo (sign-run l)
-
-    pub number-token : 16 ≤ f → (128 ≤ e → j ≡ i + 1 → ⊥) → Numbered s i e (Read w j)
-    number-token h m =
-        kinded (λ l. plain-token s i e g l o (n l) (plain-run l) h) (λ l u. packed-token s i e g l u (lead-most l u) r h) (λ l. signed-token s i e g l lo (sign-run l) (m l) h)
+pub number-in : (s : List ℕ) (i e : ℕ) → e ≡ entryAt s i → e < 160 → i < length s
+number-in s i e g l = entry-in s i (λ x. omega arith)
 
 -- ---- which value it is
 

@@ -2,13 +2,14 @@
 use mathlib.Core.Path.{_≡_}
 use mathlib.Core.Bool.{true, false}
 use mathlib.Core.List.{List}
+use mathlib.Core.Logic.{_⊎_}
 use Prim.Native.Nat.{ℕ, _+_, _%_, _<_, _≤_}
 use lib.Dec.{ltb, leb}
 use lib.ListN.{length}
 use Rattle.terms.specs.Logic.{pick}
 use Rattle.alphabet_spec.specs.Kinds.{Lead, sqz, dif, dup}
 use Rattle.alphabet_spec.specs.Entries.{entryAt}
-use Rattle.alphabet.specs.Ran.{AllDigits}
+use Rattle.alphabet.specs.Ran.{AllDigits, Ran}
 use Rattle.table_spec.specs.Values.{Value, own, room, valueOf}
 use Rattle.table_spec.specs.Reading.{value, fault}
 use Rattle.table_lines.specs.Seen.{here}
@@ -19,9 +20,9 @@ use Rattle.table_numbers.specs.declared.NumberRead.the-variants.{Read, M
 abbrev pub leadOf : ℕ → Lead
 leadOf e = pick (ltb e 32) dup (pick (ltb e 48) (dif false) (pick (ltb e 64) (dif true) (pick (ltb e 80) (sqz false) (sqz true))))
 
--- how many digits may follow the byte with the entry e that begins a value
+-- how many digits may follow the pseudo-digit with the entry e
 abbrev pub most : ℕ → ℕ
-most e = pick (leb 128 e) 10 (pick (ltb e 16) 9 (room (leadOf e) (e % 16)))
+most e = room (leadOf e) (e % 16)
 
 -- the value that begins with an entry e and has the number v: a digit or a sign begins an ordinate of its own
 abbrev pub valueAt : ℕ → ℕ → Value
@@ -53,3 +54,15 @@ pub record NumberAt (s : List ℕ) (i e v j : ℕ) : Type 0 where
 abbrev pub Numbered : List ℕ → ℕ → ℕ → NumberRead → Type 0
 Numbered s i e (Read v j) = NumberAt s i e v j
 Numbered s i e Misspelled = here s i ≡ fault 5 i
+
+-- ten digits at most are taken from the place i on: there is none, or one too many
+pub record NotPlain (s : List ℕ) (i : ℕ) : Type 0 where
+  pub number : ℕ
+  pub place : ℕ
+  pub run : Ran s i 0 10 number place (entryAt s place)
+  pub wrong : place ≡ i ⊎ entryAt s place < 16
+
+-- the number v of the digits from the place i up to j, where no digit stands; or it is misspelled
+abbrev pub Plain : List ℕ → ℕ → NumberRead → Type 0
+Plain s i (Read v j) = Ran s i 0 10 v j (entryAt s j) × (i < j) × (16 ≤ entryAt s j)
+Plain s i Misspelled = NotPlain s i

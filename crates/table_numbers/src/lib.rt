@@ -2,8 +2,9 @@
 ghost use mathlib.Core.Path.{_≡_};
 ghost use mathlib.Core.Logic.{_⊎_};
 ghost use Prim.Native.Nat.{_<_, _≤_};
+ghost use lib.ListN.{length};
 ghost use Rattle.alphabet_spec.specs.Entries.{entryAt};
-ghost use Rattle.table_numbers.specs.Numbers.{«most», Numbered};
+ghost use Rattle.table_numbers.specs.Numbers.{«most», Plain, Numbered};
 use alphabet::DIF;
 use alphabet::KIND;
 use alphabet::PAST_DIGITS;
@@ -19,16 +20,10 @@ pub enum NumberRead {
     Misspelled,
 }
 
-// How many digits may follow the byte with the entry e that begins a value: ten with a digit or a pseudo-digit, ten after a sign, five for DUP, none after @ and %.
+// How many digits may follow the pseudo-digit with the entry e: nine, four for DUP, none after @ and %.
 fn further(e: u64) -> usize
     ensures { λ r. ⌜ r ≡ most e ⌝ }
 {
-    if e >= PLUS {
-        return 10;
-    }
-    if e < PAST_DIGITS {
-        return 9;
-    }
     if e < DIF {
         return 4;
     }
@@ -36,6 +31,21 @@ fn further(e: u64) -> usize
         return 0;
     }
     9
+}
+
+// The number of the digits from a place on, at most ten: misspelled if there is none, or one too many. The limit is a constant: the compiler unrolls the loop.
+fn plain(s: &[u8], from: usize) -> NumberRead
+    requires { ⌜ from ≤ length (now s) ⌝ }
+    ensures { λ r. ⌜ Plain (now (s .entry)) from r ⌝ }
+{
+    let r = digits(s, from, 0, 10);
+    if is_digit(r.b) {
+        return NumberRead::Misspelled;
+    }
+    if r.at == from {
+        return NumberRead::Misspelled;
+    }
+    NumberRead::Read(r.v, r.at)
 }
 
 // The number of the value at a place whose entry is e, below a point's, and neither `?` nor a blank: a digit directly after a blank, a pseudo-digit or a sign, and the digits that follow.
@@ -47,16 +57,15 @@ pub fn number(s: &[u8], at: usize, e: u64) -> NumberRead
         if !is_blank(standing(s, at - 1)) {
             return NumberRead::Misspelled;
         }
+        return plain(s, at);
     }
     let next = at + 1;
+    if e >= PLUS {
+        return plain(s, next);
+    }
     let r = digits(s, next, e % KIND, further(e));
     if is_digit(r.b) {
         return NumberRead::Misspelled;
-    }
-    if e >= PLUS {
-        if r.at == next {
-            return NumberRead::Misspelled;
-        }
     }
     NumberRead::Read(r.v, r.at)
 }

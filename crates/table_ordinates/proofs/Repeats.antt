@@ -1,18 +1,23 @@
 -- Copies of an ordinate, stored one after the other. No place of the code is named here. Assumes nothing.
 use mathlib.Core.Path.{_≡_, refl, _∙_, subst}
 use mathlib.Core.Bool.{Bool}
-use mathlib.Core.List.{List, map}
-use Prim.Native.Nat.{ℕ, suc, _+_, _-_, _*_, _<_}
+use mathlib.Core.List.{List, [], _∷_, map}
+use Prim.Native.Nat.{ℕ, suc, _+_, _-_, _*_, _≤_, _<_}
 use native.Mathlib.Omega.{arith}
 use native.Mathlib.Numerals.{add-one}
 use native.Mathlib.Nat.{mul-one}
 use lib.IntN.{ℤ}
 use lib.ListN.{length, set, length-set}
-use lib.Seq.{sets}
+use lib.Seq.{sets, set-out}
 use Rattle.table_spec.specs.Frame.{entry-for}
 use Rattle.table_spec.specs.Values.{By, moved, copies}
 use Rattle.table_ordinates.specs.Reach.{Reaches}
 use Rattle.table_ordinates.proofs.Moves.{reach-next, reach-small}
+
+-- past the end nothing is stored
+pub past-end : (out : List ℤ) (k : ℕ) (ys : List ℤ) → length out ≤ k → out ≡ sets out k ys
+past-end out k [] h = refl
+past-end out k (y ∷ ys) h = let e = set-out out k y h in rw e (past-end out (suc k) ys (omega arith))
 
 -- so far: the copies that are left, stored from here on, make the slice that all of them make
 pub record Repeating (out₀ out : List ℤ) (k q n i u left : ℕ) (m : Bool) (d : ℕ) : Type 0 where

@@ -52,11 +52,14 @@ pub fn put(out: &mut [i32], k: usize, u: u64)
     }
 }
 
-// Stores n ordinates, each a step from the one before.
+// Stores n ordinates, each a step from the one before. With no room for the first it is done: the checking pass has none to give.
 pub fn repeat(out: &mut [i32], k: usize, q: u64, minus: bool, d: u64, n: usize)
     requires { ⌜ (k + n ≤ 200000) × (q < 4294967296) × Reaches minus d n q ⌝ }
     ensures { λ _. ⌜ now (out .exit) ≡ sets (now (out .entry)) k (map entry-for (copies n (By minus d) q)) ⌝ }
 {
+    if k >= out.len() {
+        return;
+    }
     let mut i = k;
     let mut u = q;
     let mut left = n;

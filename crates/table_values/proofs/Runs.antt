@@ -1,64 +1,96 @@
--- A run of differences, by the bytes that begin them: a letter and its digits, or `%` alone. No place of the code is named here. Assumes nothing.
-use mathlib.Core.Path.{_≡_, refl, sym, ap, _∙_}
-use mathlib.Core.Bool.{true, false}
+-- A run of differences, by the bytes that begin them: a letter, with digits after it, or `%`. No place of the code is named here. Assumes nothing.
+use mathlib.Core.Path.{_≡_, refl, sym, _∙_, subst}
+use mathlib.Core.Bool.{Bool, true, false}
 use mathlib.Core.List.{List}
-use Prim.Native.Nat.{ℕ, _+_, _-_, _*_, _^_, _%_, _≤_, _<_}
+use Prim.Native.Nat.{ℕ, _+_, _-_, _*_, _^_, _/_, _%_, _≤_, _<_}
 use native.Mathlib.Omega.{arith}
-use lib.Dec.{leb}
+use lib.Dec.{T, eqb, ltb, leb}
 use lib.IntN.{ℤ}
 use lib.ListN.{length, set}
-use borrow.Author.Tests.{ne-eqb, lt-leb, le-leb}
+use borrow.Author.Tests.{ne-eqb, eqb-true, le-ltb, lt-leb, le-leb, leb-true}
 use Rattle.terms.specs.Logic.{pick, by-case, no-way}
 use Rattle.alphabet_spec.specs.Digits.{within}
 use Rattle.alphabet_spec.specs.Bytes.{kind}
 use Rattle.alphabet_spec.specs.Entries.{entry, entryAt}
 use Rattle.alphabet_spec.specs.EntryLaws.{entry-in}
+use Rattle.alphabet_spec.specs.EveryLaws.{below}
 use Rattle.alphabet.specs.Ranged.{ruled}
 use Rattle.alphabet.specs.Standing.{standing, stood, within-in}
-use Rattle.alphabet.specs.Ran.{Ran, start, stop}
+use Rattle.alphabet.specs.Ran.{Ran}
 use Rattle.table_spec.specs.Frame.{entry-for}
-use Rattle.table_spec.specs.Values.{by}
-use Rattle.table_numbers.specs.Numbers.{Token, NumberAt}
-use Rattle.table_numbers.proofs.NumberLaws.{further-nine, further-none, packed-token, dif-at, below-ten}
+use Rattle.table_spec.specs.Values.{by, room}
+use Rattle.table_numbers.specs.Numbers.{leadOf, Token, NumberAt}
+use Rattle.table_numbers.proofs.NumberLaws.{further-nine, packed-token, dif-at, below-ten}
 use Rattle.table_ordinates.specs.Reach.{shiftedTo}
-use Rattle.table_ordinates.proofs.Moves.{shift-is, in-range}
-use Rattle.table_values.specs.States.{lettered, difFormOf, formed, Went}
+use Rattle.table_values.specs.States.{beginsDifference, difFormOf, formed, Went}
 use Rattle.table_values.specs.declared.Cur.{Cur}
 use Rattle.table_values.proofs.Walks.{went-on}
 
 -- ---- the bytes
 
--- the entry e of a letter b that begins a difference
-pub record Letter (b e : ℕ) : Type 0 where
+agree : (x y : Bool) → T (pick x y (pick y false true)) → x ≡ y
+agree true true h = refl
+agree true false h = absurd h
+agree false true h = absurd h
+agree false false h = refl
+
+-- the test of the code, on the bytes from 64 up to 127: a letter of a difference stands 10 to 18 after a multiple of 32
+abbrev tests : ℕ → Bool
+tests b = ltb ((b + 22) % 32) 9
+
+abbrev letters : ℕ → Bool
+letters b = pick (within 74 9 b) true (within 106 9 b)
+
+pub tested : (b : ℕ) → (b ≡ 37 → ⊥) → b / 64 ≡ 1 → tests b ≡ beginsDifference b
+tested b n m =
+    let z : 64 + (b - 64) ≡ b = omega arith in let x = agree _ _ (below (λ k. pick (tests (64 + k)) (letters (64 + k)) (pick (letters (64 + k)) false true)) 64 tt (b - 64) (omega arith)) in
+    rw (ne-eqb b 37 n) (subst (λ (k : ℕ). tests k ≡ letters k) z x)
+
+-- and no other begins with a letter
+within-not : (lo n b : ℕ) → (lo ≤ b → lo + n ≤ b) → within lo n b ≡ false
+within-not lo n b f =
+    by-case (λ t. leb lo b ≡ t → pick t (ltb b (lo + n)) false ≡ false) (leb lo b) (λ _ h. le-ltb b (lo + n) (f (leb-true lo b h))) (λ _ _. refl) refl
+
+pub tested-not : (b : ℕ) → (b ≡ 37 → ⊥) → (b / 64 ≡ 1 → ⊥) → false ≡ beginsDifference b
+tested-not b n m = rw (ne-eqb b 37 n, within-not 74 9 b (λ l. omega (arith, m)), within-not 106 9 b (λ l. omega (arith, m))) refl
+
+-- the digit of the byte, and how many may follow
+abbrev pub leadDigit : ℕ → ℕ
+leadDigit b = pick (eqb b 37) 0 ((b + 7) % 16)
+
+abbrev pub mostAfter : ℕ → ℕ
+mostAfter b = pick (eqb b 37) 0 9
+
+-- the entry e of a byte b that begins a difference
+pub record Begun (b e : ℕ) : Type 0 where
   pub low : 32 ≤ e
   pub high : e < 64
-  pub digit : (b + 7) % 16 ≡ e % 16
-  pub some : e % 16 ≡ 0 → ⊥
+  pub digit : leadDigit b ≡ e % 16
+  pub more : mostAfter b ≡ room (leadOf e) (e % 16)
   pub sign : leb 48 e ≡ leb 106 b
   pub byte : b ≡ 0 → ⊥
   pub small : b < 115
+  pub fits : (leadDigit b + 1) * 10 ^ mostAfter b ≤ 10000000000000000000
 
-letter-entry : (b : ℕ) → lettered b ≡ true → Letter b (entry b)
+-- a letter
+lettered : (b e : ℕ) → eqb b 37 ≡ false → 32 ≤ e → e < 64 → (b + 7) % 16 ≡ e % 16 → (e % 16 ≡ 0 → ⊥) → leb 48 e ≡ leb 106 b → 74 ≤ b → b < 115 → Begun b e
+lettered b e n l h d m g x y =
+    record { low = l; high = h; digit = rw n d; more = rw n (further-nine e l m); sign = g; byte = λ z. omega arith; small = y; fits = rw n (omega arith) }
+
+begun-entry : (b : ℕ) → beginsDifference b ≡ true → Begun b (entry b)
 unfolding entry kind
-letter-entry b =
-    by-case (λ t. within 74 9 b ≡ t → pick t true (within 106 9 b) ≡ true → Letter b (entry b)) (within 74 9 b)
+begun-entry b =
+    by-case (λ u. eqb b 37 ≡ u → pick u true (letters b) ≡ true → Begun b (entry b)) (eqb b 37)
+    (λ _ n _. subst (λ (x : ℕ). Begun x (entry x)) (sym (eqb-true b 37 n))
+    (record { low = omega arith; high = omega arith; digit = refl; more = refl; sign = refl; byte = λ z. omega arith; small = omega arith; fits = omega arith }))
+    (λ _ n. by-case (λ t. within 74 9 b ≡ t → pick t true (within 106 9 b) ≡ true → Begun b (entry b)) (within 74 9 b)
     (λ _ w _. let l = within-in 74 9 b w in let x = l .0 in let y = l .1 in let z = ruled 74 9 (λ x. x - 41) tt b x y in
-    let s : leb 48 (entry b) ≡ leb 106 b = rw (lt-leb 48 (entry b) (omega arith), lt-leb 106 b (omega arith)) refl in
-    record { low = omega arith; high = omega arith; digit = omega arith; some = λ m. omega arith; sign = s; byte = λ m. omega arith; small = omega arith })
+    lettered b (entry b) n (omega arith) (omega arith) (omega arith) (λ m. omega arith) (rw (lt-leb 48 (entry b) (omega arith), lt-leb 106 b (omega arith)) refl) x (omega arith))
     (λ _ _ w. let l = within-in 106 9 b w in let x = l .0 in let y = l .1 in let z = ruled 106 9 (λ x. x - 57) tt b x y in
-    let s : leb 48 (entry b) ≡ leb 106 b = rw (le-leb 48 (entry b) (omega arith), le-leb 106 b x) refl in
-    record { low = omega arith; high = omega arith; digit = omega arith; some = λ m. omega arith; sign = s; byte = λ m. omega arith; small = omega arith })
-    refl
+    lettered b (entry b) n (omega arith) (omega arith) (omega arith) (λ m. omega arith) (rw (le-leb 48 (entry b) (omega arith), le-leb 106 b x) refl) (omega arith) y) refl) refl
 
-pub letter-stands : (s : List ℕ) (i : ℕ) → lettered (standing s i) ≡ true → Letter (standing s i) (entryAt s i)
-letter-stands = stood (λ b e. lettered b ≡ true → Letter b e) letter-entry (λ w. no-way w)
-
-percent-entry : (b : ℕ) → b ≡ 37 → entry b ≡ 32
-unfolding entry kind
-percent-entry b w = ap entry w
-
-pub percent-stands : (s : List ℕ) (i : ℕ) → standing s i ≡ 37 → entryAt s i ≡ 32
-percent-stands = stood (λ b e. b ≡ 37 → e ≡ 32) percent-entry (λ w. absurd (omega arith))
+begun-stands : (s : List ℕ) (i : ℕ) → beginsDifference (standing s i) ≡ true → Begun (standing s i) (entryAt s i)
+begun-stands = stood (λ b e. beginsDifference b ≡ true → Begun b e) begun-entry (λ w. no-way w)
 
 -- the form that the code keeps of a difference
 dif-form : (b : ℕ) → (32 ≤ difFormOf b) × (difFormOf b < 64) × (leb 48 (difFormOf b) ≡ leb 106 b)
@@ -67,55 +99,25 @@ dif-form b = by-case (λ t. (32 ≤ pick t 48 32) × (pick t 48 32 < 64) × (leb
 form-is : (f b : ℕ) → (b ≡ 0 → ⊥) → formed f b ≡ difFormOf b
 form-is f b n = rw (ne-eqb b 0 n) refl
 
--- ---- a letter and its digits
+-- ---- the byte and its digits
 
-module _ (s : List ℕ) (i b : ℕ) (g : b ≡ standing s i) (t : lettered b ≡ true) where
-  letter : Letter b (entryAt s i)
-  letter = rw (← g) at (letter-stands s i (rw g at t))
+module _ (s : List ℕ) (i b : ℕ) (g : b ≡ standing s i) (t : beginsDifference b ≡ true) where
+  pub begun : Begun b (entryAt s i)
+  begun = rw (← g) at (begun-stands s i (rw g at t))
 
-  pub letter-byte : b ≡ 0 → ⊥
-  letter-byte = letter .byte
+  pub begun-in : i < length s
+  begun-in = let l = begun .low in let h = begun .high in entry-in s i (λ x. omega arith)
 
-  pub letter-bound : b < 115
-  letter-bound = letter .small
+  module _ {lead most v j : ℕ} (d : lead ≡ leadDigit b) (m : most ≡ mostAfter b) (r : Ran s (i + 1) lead most v j (entryAt s j)) (o : 16 ≤ entryAt s j) where
+    begun-number : NumberAt s i (entryAt s i) v j
+    begun-number =
+        let l = begun .low in let h = begun .high in packed-token s i (entryAt s i) refl (omega arith) (omega arith) (m ∙ begun .more) (rw (d ∙ begun .digit) at r) o
 
-  pub letter-in : i < length s
-  letter-in = let l = letter .low in let h = letter .high in entry-in s i (λ x. omega arith)
+    pub begun-small : v < 10000000000
+    begun-small = let x = begun-number .small in let y = below-ten (entryAt s i) in omega arith
 
-  pub letter-fits : ((b + 7) % 16 + 1) * 10 ^ 9 ≤ 10000000000000000000
-  letter-fits = omega arith
-
-  module _ {v j : ℕ} (r : Ran s (i + 1) ((b + 7) % 16) 9 v j (entryAt s j)) (o : 16 ≤ entryAt s j) where
-    letter-number : NumberAt s i (entryAt s i) v j
-    letter-number =
-        let l = letter .low in let h = letter .high in
-        packed-token s i (entryAt s i) refl (omega arith) (omega arith) (further-nine (entryAt s i) (letter .low) (letter .some)) (rw (letter .digit) at r) o
-
-    pub letter-small : v < 10000000000
-    letter-small = let x = letter-number .small in let y = below-ten (entryAt s i) in omega arith
-
-    pub letter-token : Token s i (by (leb 106 b) v) j
-    letter-token = rw (← letter .sign) (rw (dif-at (entryAt s i) v (letter .low) (letter .high)) at (letter-number .token))
-
--- ---- `%` alone
-
-module _ (s : List ℕ) (i b : ℕ) (g : b ≡ standing s i) (t : b ≡ 37) where
-  percent : entryAt s i ≡ 32
-  percent = percent-stands s i (sym g ∙ t)
-
-  pub percent-in : i < length s
-  percent-in = entry-in s i (λ x. let e = percent in omega arith)
-
-  pub percent-token : 16 ≤ entryAt s (i + 1) → Token s i (by (leb 106 b) 0) (i + 1)
-  percent-token o =
-      let e = percent in let h = percent-in in
-      let r : Ran s (i + 1) (entryAt s i % 16) 0 0 (i + 1) (entryAt s (i + 1)) = rw e (stop (start s (i + 1) 0 0 (omega arith)) refl (λ x. absurd (omega arith))) in
-      let n = packed-token s i (entryAt s i) refl (omega arith) (omega arith) (further-none (entryAt s i) (omega arith) (omega arith)) r o in
-      rw (t) (rw (e) at (rw (dif-at (entryAt s i) 0 (omega arith) (omega arith)) at (n .token)))
-
--- the ordinate moves by nothing
-pub shift-stay : (q : ℕ) → 0 < q → q < 4294967296 → q ≡ shiftedTo false 0 q
-shift-stay q l h = let z : q + 0 ≡ q = omega arith in rw z (rw z at (shift-is false 0 q (rw z (in-range q l h))))
+    pub begun-token : Token s i (by (leb 106 b) v) j
+    begun-token = rw (← begun .sign) (rw (dif-at (entryAt s i) v (begun .low) (begun .high)) at (begun-number .token))
 
 -- ---- one difference more
 

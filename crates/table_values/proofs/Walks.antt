@@ -1,5 +1,5 @@
--- States of the code, one after the other: within a run of differences, and along a line. No place of the code is named here. Assumes nothing.
-use mathlib.Core.Path.{_≡_, refl}
+-- States of the code, one after the other: past blanks, within a run of differences, and along a line. No place of the code is named here. Assumes nothing.
+use mathlib.Core.Path.{_≡_, refl, sym, subst}
 use mathlib.Core.List.{List, [], _∷_}
 use Prim.Native.Nat.{ℕ, _+_, _-_, _≤_, _<_}
 use native.Mathlib.Omega.{arith}
@@ -8,14 +8,15 @@ use lib.IntN.{ℤ}
 use lib.ListN.{set}
 use Rattle.table_spec.specs.Frame.{entry-for}
 use Rattle.table_spec.specs.Values.{Value, by, By, Spot}
+use Rattle.table_lines.specs.Ends.{Blanked}
 use Rattle.table_numbers.specs.Numbers.{Token}
 use Rattle.table_ordinates.specs.Reach.{shiftedTo}
-use Rattle.table_values.specs.States.{dif, Holds, opening, checking, going, Sits, Went, Stepped, rowAfter, Lined}
+use Rattle.table_values.specs.States.{dif, Holds, opening, checking, going, placed, Sits, Went, Stepped, rowAfter, Lined}
 use Rattle.table_values.specs.declared.Cur.{Cur}
 use Rattle.table_values.specs.declared.Step.the-variants as step
 use Rattle.table_values.specs.declared.LineRead.the-variants as linewise
 use Rattle.table_ordinates.proofs.Moves.{shift-some}
-use Rattle.table_values.proofs.Turns.{value-adds, gone-same, clear-then, gone-gone, gone-done, gone-broken}
+use Rattle.table_values.proofs.Turns.{value-adds, gone-same, blank-clear, clear-then, gone-gone, gone-done, gone-broken}
 use Rattle.table_values.proofs.Meanings.{dif-adds}
 
 -- ---- states
@@ -30,6 +31,19 @@ pub no-want : {q want d form p : ℕ} {w : Spot} → Holds q want d form p w →
 no-want opening l = refl
 no-want (checking h) l = absurd (omega arith)
 no-want (going h) l = refl
+
+-- ---- blanks
+
+pub went-blanks : {N : ℕ} {s : List ℕ} {c : Cur} (r : Cur) (out : List ℤ) → Sits N s c → Blanked s (c .at) (r .at) → r ≡ placed c (r .at) → Went N s c r out out
+went-blanks {N} {s} {c} r out h b e =
+    let l = b .low in let o = h .some in
+    subst (λ (x : Cur). Went N s c x out out) (sym e)
+    (record {
+      low = b .low;
+      clear = blank-clear b;
+      sits = record { some = omega arith; high = b .high; small = h .small; size = h .size; few = h .few };
+      law = λ p w g. gone-same _ _ _ p w out (placed c (r .at)) g (b .within);
+    })
 
 -- ---- a run of differences
 
@@ -58,6 +72,9 @@ pub went-went : {N : ℕ} {s : List ℕ} {c b r : Cur} {out mid out' : List ℤ}
 went-went {N} {s} {c} {b} {r} {out} {mid} {out'} g h =
     let x = g .low in let y = h .low in
     record { low = omega arith; clear = clear-then s (g .clear) (h .clear); sits = h .sits; law = λ p w z. gone-gone N s (c .at) (c .k) p w out mid b (g .law p w z) out' r (h .law) }
+
+pub went-past : {N : ℕ} {s : List ℕ} {c b r : Cur} {out mid : List ℤ} → Went N s c b out mid → Blanked s (b .at) (r .at) × (r ≡ placed b (r .at)) → Went N s c r out mid
+went-past g e = went-went g (went-blanks _ _ (g .sits) (e .0) (e .1))
 
 -- the state at a line's first value
 abbrev pub first-state : ℕ → ℕ → ℕ → Cur

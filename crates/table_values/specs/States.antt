@@ -36,9 +36,9 @@ pub data Codes : ℕ → ℕ → ℕ → Form → Type 0 where
   dup-not : {q d : ℕ} → Codes 0 d q (Dup false)
   dup-dif : {q d : ℕ} → 0 < q → Codes 1 d q (Dup true)
 
--- does a difference other than 0 begin with the byte b?
-abbrev pub lettered : ℕ → Bool
-lettered b = pick (within 74 9 b) true (within 106 9 b)
+-- does a difference begin with the byte b: `%`, J to R, or j to r?
+abbrev pub beginsDifference : ℕ → Bool
+beginsDifference b = pick (eqb b 37) true (pick (within 74 9 b) true (within 106 9 b))
 
 -- how it keeps the form of a difference that begins with the byte b, and the form after a run of differences, the last of which begins with b (0: there was none)
 abbrev pub difFormOf : ℕ → ℕ
@@ -50,6 +50,10 @@ formed form b = pick (eqb b 0) form (difFormOf b)
 -- is a form, as the code keeps it, DIF?
 abbrev pub difForm : ℕ → Bool
 difForm form = pick (eqb form 1) true (leb 32 form)
+
+-- a state at another place
+abbrev pub placed : Cur → ℕ → Cur
+placed c j = record { at = j; k = c .k; q = c .q; want = c .want; step = c .step; form = c .form }
 
 -- how it keeps the ordinate before and the spot, in q, want, step and form
 pub data Holds : ℕ → ℕ → ℕ → ℕ → ℕ → Spot → Type 0 where

@@ -2,10 +2,12 @@
 ghost use mathlib.Core.Path.{_≡_};
 ghost use Prim.Native.Nat.{_<_, _≤_};
 ghost use lib.Dec.{leb};
+ghost use lib.ListN.{length};
 ghost use Rattle.alphabet_spec.specs.Entries.{entryAt};
 ghost use Rattle.table_spec.specs.Values.{own, by, times};
+ghost use Rattle.table_lines.specs.Ends.{Blanked};
 ghost use Rattle.table_numbers.specs.Numbers.{Token};
-ghost use Rattle.table_values.specs.States.{«lettered», formed, difForm, rowAfter, Sits, Valued, Again, Went, Stepped, FirstValue, Lined};
+ghost use Rattle.table_values.specs.States.{beginsDifference, formed, difForm, placed, rowAfter, Sits, Valued, Again, Went, Stepped, FirstValue, Lined};
 use alphabet::DIF;
 use alphabet::DIF_MINUS;
 use alphabet::KIND;
@@ -63,21 +65,22 @@ pub enum LineRead {
 // The byte of j: from it on the letters are minus.
 const LOWER: u64 = 106;
 
+// The byte of `%`, the difference 0.
+const PERCENT: u64 = 37;
+
 // ---- one value
 
-// Does a difference other than 0 begin with the byte b: J to R, or j to r?
-fn lettered(b: u64) -> bool
-    ensures { λ r. ⌜ r ≡ lettered b ⌝ }
+// Does a difference begin with the byte b: %, J to R, or j to r? J and j are 10 after a multiple of 32: one test for both signs, since no processor can foresee a jump on the sign.
+fn begins_difference(b: u64) -> bool
+    ensures { λ r. ⌜ r ≡ beginsDifference b ⌝ }
 {
-    if b >= 74 {
-        if b < 83 {
-            return true;
-        }
+    if b == PERCENT {
+        return true;
     }
-    if b < LOWER {
+    if b / 64 != 1 {
         return false;
     }
-    b < 115
+    (b + 22) % 32 < 9
 }
 
 // The form after a run of differences: that before it, if there was none (0), or that of a difference that begins with the byte `last`.
@@ -108,39 +111,27 @@ fn differences(s: &[u8], points: usize, out: &mut [i32], c: Cur) -> Cur
     }
     let mut b = standing(s, at);
     while k < points {
-        if lettered(b) {
-            let next = at + 1;
-            let r = digits(s, next, (b + 7) % KIND, 9);
-            if is_digit(r.b) {
-                break;
-            }
-            let u = shifted(q, b >= LOWER, r.v);
-            if u == 0 {
-                break;
-            }
-            put(out, k, u);
-            k += 1;
-            q = u;
-            step = r.v;
-            at = r.at;
-            last = b;
-            b = r.b;
-            continue;
-        }
-        if b != 37 {
+        if !begins_difference(b) {
             break;
         }
         let next = at + 1;
-        let f = standing(s, next);
-        if is_digit(f) {
+        let lead = if b == PERCENT { 0 } else { (b + 7) % KIND };
+        let most = if b == PERCENT { 0 } else { 9 };
+        let r = digits(s, next, lead, most);
+        if is_digit(r.b) {
             break;
         }
-        put(out, k, q);
+        let u = shifted(q, b >= LOWER, r.v);
+        if u == 0 {
+            break;
+        }
+        put(out, k, u);
         k += 1;
-        step = 0;
-        at = next;
+        q = u;
+        step = r.v;
+        at = r.at;
         last = b;
-        b = f;
+        b = r.b;
     }
     let form = form_after(c.form, last);
     Cur {
@@ -339,6 +330,33 @@ fn value(s: &[u8], points: usize, out: &mut [i32], c: Cur, e: u64, v: u64, j: us
     own_value(s, points, out, c, kind % 4 == 1, v, j)
 }
 
+// The entry of what stands at a place. A digit is asked for first: it needs no ranges.
+fn entry_there(s: &[u8], at: usize) -> u64
+    ensures { λ r. ⌜ r ≡ entryAt (now (s .entry)) at ⌝ }
+{
+    let b = standing(s, at);
+    if is_digit(b) {
+        return b - 48;
+    }
+    entry_at(s, at)
+}
+
+// The state past the blanks that stand at its place: they say nothing.
+fn past_blanks(s: &[u8], c: Cur) -> Cur
+    requires { ⌜ c .at ≤ length (now s) ⌝ }
+    ensures { λ r. ⌜ Blanked (now (s .entry)) (c .at) (r .at) × (r ≡ placed c (r .at)) ⌝ }
+{
+    let at = blanks(s, c.at);
+    Cur {
+        at,
+        k: c.k,
+        q: c.q,
+        want: c.want,
+        step: c.step,
+        form: c.form,
+    }
+}
+
 // Whatever stands next on a line.
 fn token(s: &[u8], points: usize, out: &mut [i32], c: Cur) -> Step
     requires { ⌜ (points ≤ 65536) × Sits points (now s) c ⌝ }
@@ -346,17 +364,9 @@ fn token(s: &[u8], points: usize, out: &mut [i32], c: Cur) -> Step
 {
     let at = c.at;
     if is_blank(standing(s, at)) {
-        let j = blanks(s, at);
-        return Step::Go(Cur {
-            at: j,
-            k: c.k,
-            q: c.q,
-            want: c.want,
-            step: c.step,
-            form: c.form,
-        });
+        return Step::Go(past_blanks(s, c));
     }
-    let e = entry_at(s, at);
+    let e = entry_there(s, at);
     if e >= POINT {
         return match line_end(s, at, e) {
             Ending::Next(j) => Step::Line(j),
@@ -409,7 +419,8 @@ pub fn values(s: &[u8], points: usize, out: &mut [i32], at: usize, k: usize, wan
         form: 0,
     };
     loop {
-        let b = differences(s, points, out, c);
+        let a = past_blanks(s, c);
+        let b = differences(s, points, out, a);
         match token(s, points, out, b) {
             Step::Go(d) => {
                 c = d;

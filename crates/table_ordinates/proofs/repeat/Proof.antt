@@ -1,8 +1,11 @@
 -- `table_ordinates::repeat` meets its contract: stores n ordinates, each a step from the one before.
+use mathlib.Core.List.{map}
 use Prim.Native.Nat.{_-_}
 use native.Mathlib.Omega.{arith}
 use borrow.Author.Needs.{needs}
-use Rattle.table_ordinates.proofs.Repeats.{Repeating, repeat-start, repeat-reach, repeat-small, repeat-turn, repeat-end}
+use Rattle.table_spec.specs.Frame.{entry-for}
+use Rattle.table_spec.specs.Values.{By, copies}
+use Rattle.table_ordinates.proofs.Repeats.{past-end, Repeating, repeat-start, repeat-reach, repeat-small, repeat-turn, repeat-end}
 use Rattle.table_ordinates.proofs.repeat.Statement.{statement}
 use Rattle.table_ordinates.proofs.repeat.Tie as tie
 
@@ -12,8 +15,11 @@ Inv-loop out₀ k q minus d n i₀ u₀ left₀ out i u left = Repeating out₀ 
 abbrev μ-loop : tie.MeasureT-loop
 μ-loop out₀ k q minus d n i₀ u₀ left₀ out i u left = left
 
+returns : tie.Need-returns Inv-loop μ-loop
+returns c = let a = c .before .args in past-end _ _ (map entry-for (copies (a .n) (By (a .minus) (a .d)) (a .q))) (c .if1 .taken)
+
 loop-holds : tie.Need-loop-holds Inv-loop μ-loop
-loop-holds c = repeat-start _ _ _ _ _ _ (c .pre .1) (c .pre .2)
+loop-holds c = repeat-start _ _ _ _ _ _ (c .before .pre .1) (c .before .pre .2)
 
 moved-by-requires : tie.Need-moved-by-requires Inv-loop μ-loop
 moved-by-requires c κs = repeat-reach (c .before .loop .inv) (c .loop-test .taken)
@@ -22,7 +28,7 @@ put-requires : tie.Need-put-requires Inv-loop μ-loop
 put-requires c κs = repeat-small (c .before .before .before .loop .inv) (c .before .before .loop-test .taken) _ (c .before .moved-by .ensures)
 
 add-i : tie.Need-add-i Inv-loop μ-loop
-add-i c = let z = c .before .before .before .before .before .loop .inv .count in let p = c .before .before .before .before .before .before .pre .0 in omega arith
+add-i c = let z = c .before .before .before .before .before .loop .inv .count in let p = c .before .before .before .before .before .before .before .pre .0 in omega arith
 
 sub-left : tie.Need-sub-left Inv-loop μ-loop
 sub-left c = search needs
@@ -38,8 +44,8 @@ loop-again c =
 same-length : tie.Need-same-length Inv-loop μ-loop
 same-length c = c .before .loop .inv .same
 
-returns : tie.Need-returns Inv-loop μ-loop
-returns c = repeat-end (c .before .loop .inv) (let z = c .loop-test .left in omega arith)
+returns-2 : tie.Need-returns-2 Inv-loop μ-loop
+returns-2 c = repeat-end (c .before .loop .inv) (let z = c .loop-test .left in omega arith)
 
 pub repeat-spec : {M : Type 1} → statement M
 repeat-spec =
@@ -47,6 +53,7 @@ repeat-spec =
     (tie.spec
     Inv-loop
     μ-loop
+    returns
     loop-holds
     moved-by-requires
     put-requires
@@ -55,4 +62,4 @@ repeat-spec =
     loop-less
     loop-again
     same-length
-    returns)
+    returns-2)

@@ -2,11 +2,11 @@
 use mathlib.Core.Path.{refl, sym, _∙_}
 use mathlib.Core.Logic.{_⊎_}
 use Prim.Native.Nat.{_<_, _≤_}
-use native.Mathlib.Omega.{arith}
 use borrow.Author.Needs.{needs}
 use Rattle.alphabet.specs.Standing.{blank-seen, blank-seen-not}
 use Rattle.table_numbers.proofs.NumberLaws.{kinds}
-use Rattle.table_values.proofs.Turns.{fault-token, gone-same, blank-moves, blank-clear}
+use Rattle.table_values.proofs.Turns.{fault-token, blank-moves}
+use Rattle.table_values.proofs.Walks.{went-blanks}
 use Rattle.table_values.proofs.token.Statement.{statement}
 use Rattle.table_values.proofs.token.Tie as tie
 
@@ -16,24 +16,18 @@ standing-requires c κs = search needs
 is-blank-requires : tie.Need-is-blank-requires
 is-blank-requires c κs = search needs
 
-blanks-requires : tie.Need-blanks-requires
-blanks-requires c κs = search needs
+past-blanks-requires : tie.Need-past-blanks-requires
+past-blanks-requires c κs = c .before .before .before .before .pre .1 .high
 
 returns : tie.Need-returns
 returns c =
-    let t = c .before in let p = t .before .before .before .before .pre .1 in let b = c .blanks .ensures in
-    let l = blank-moves _ _ _ _ refl (blank-seen _ _ (t .before .before .standing .ensures) (t .before .is-blank .ensures) (t .if1 .taken)) b in (
-      l,
-      record {
-        low = b .low;
-        clear = blank-clear b;
-        sits = record { some = omega arith; high = b .high; small = p .small; size = p .size; few = p .few };
-        law = λ y w h. gone-same _ _ _ y w _ _ h (b .within);
-      },
+    let t = c .before in let b = c .past-blanks .ensures in (
+      blank-moves _ _ _ _ refl (blank-seen _ _ (t .before .before .standing .ensures) (t .before .is-blank .ensures) (t .if1 .taken)) (b .0),
+      went-blanks _ _ (t .before .before .before .before .pre .1) (b .0) (b .1),
     )
 
-entry-at-requires : tie.Need-entry-at-requires
-entry-at-requires c κs = search needs
+entry-there-requires : tie.Need-entry-there-requires
+entry-there-requires c κs = search needs
 
 line-end-requires : tie.Need-line-end-requires
 line-end-requires c κs = search needs
@@ -47,13 +41,13 @@ enum-told c = search needs
 returns-2 : tie.Need-returns-2
 returns-2 c =
     let x = rw (c .before .j .given .1) at (c .before .before .before .line-end .ensures) in let e = c .before .before .before .before in
-    record { low = x .low; high = x .high; same = refl; ends = rw (e .before .entry-at .ensures) at (e .if2 .taken); next = x .is; law = x .within _ }
+    record { low = x .low; high = x .high; same = refl; ends = rw (e .before .entry-there .ensures) at (e .if2 .taken); next = x .is; law = x .within _ }
 
 returns-3 : tie.Need-returns-3
 returns-3 c = let x = rw (c .enum-told .given .1) at (c .before .before .line-end .ensures) in (refl, λ y w h. fault-token _ _ _ _ y w 3 (x .1 _))
 
 missing-requires : tie.Need-missing-requires
-missing-requires c κs = let m = c .before in let e = m .before .before in (e .before .before .before .before .before .pre .1, sym (e .entry-at .ensures) ∙ m .if3 .taken)
+missing-requires c κs = let m = c .before in let e = m .before .before in (e .before .before .before .before .before .pre .1, sym (e .entry-there .ensures) ∙ m .if3 .taken)
 
 same-length : tie.Need-same-length
 same-length c = search needs
@@ -62,15 +56,15 @@ returns-4 : tie.Need-returns-4
 returns-4 c = search needs
 
 -- the entry where no line's end, no blank and no `?` stands
-begins : (c : tie.Else3) → (c .before .before .entry-at .result < 96) ⊎ (128 ≤ c .before .before .entry-at .result)
+begins : (c : tie.Else3) → (c .before .before .entry-there .result < 96) ⊎ (128 ≤ c .before .before .entry-there .result)
 begins c =
     let e = c .before .before in let n = e .before in
-    kinds _ _ _ (e .entry-at .ensures) (c .before .if2 .left)
-    (λ x. blank-seen-not _ _ (n .before .before .standing .ensures) (n .before .is-blank .ensures) (n .if1 .left) (sym (e .entry-at .ensures) ∙ x)) (c .if3 .left)
+    kinds _ _ _ (e .entry-there .ensures) (c .before .if2 .left)
+    (λ x. blank-seen-not _ _ (n .before .before .standing .ensures) (n .before .is-blank .ensures) (n .if1 .left) (sym (e .entry-there .ensures) ∙ x)) (c .if3 .left)
 
 number-requires : tie.Need-number-requires
 number-requires c κs =
-    let e = c .before .before in let p = e .before .before .before .before .before .pre in (e .entry-at .ensures, c .before .if2 .left, p .1 .some, begins c)
+    let e = c .before .before in let p = e .before .before .before .before .before .pre in (e .entry-there .ensures, c .before .if2 .left, p .1 .some, begins c)
 
 enum-told-2 : tie.Need-enum-told-2
 enum-told-2 c = search needs
@@ -99,9 +93,9 @@ token-spec =
     (tie.spec
     standing-requires
     is-blank-requires
-    blanks-requires
+    past-blanks-requires
     returns
-    entry-at-requires
+    entry-there-requires
     line-end-requires
     enum-known-j
     enum-told
