@@ -1,7 +1,8 @@
 /*
  * Runs one function on one of the bench's tables a number of times:  measure FUNCTION TABLE TIMES
  * ./bench takes the instructions of k and of 2k times, so that all else here cancels. With `size` in place of TIMES it
- * prints the bytes and the points instead; with -time before FUNCTION it prints the seconds for TIMES.
+ * prints the bytes and the points instead; with -time before FUNCTION it prints the seconds for TIMES. TABLE*8 is eight
+ * different tables of that kind, each in its turn, so that no processor learns one by heart.
  */
 #include "c_table.h"
 #include "lastarunc.h"
@@ -64,27 +65,45 @@ static void wrong(const char *what)
     exit(1);
 }
 
-/* Reads the table TIMES times, and looks at the ordinates once. */
-static void run_reader(const char *name, table_reader *read, const struct table *t, long times)
+enum { MOST_TURNS = 64 };
+
+/* The tables of a run, each read or written in its turn, and how many they are. */
+struct turns {
+    struct table *tables[MOST_TURNS];
+    size_t count;
+};
+
+/* Reads the tables in turn TIMES times, and looks at the ordinates of the last once. */
+static void run_reader(const char *name, table_reader *read, const struct turns *turns, long times)
 {
+    const struct table *t = turns->tables[turns->count - 1];
     int32_t *out = malloc(t->points * sizeof *out);
     uint64_t place;
     for (long i = 0; i < times; i++)
-        if (read(t->first, t->last, t->points, t->body, t->length, out, t->points, &place) || place != t->points)
-            wrong(name);
+        for (size_t k = 0; k < turns->count; k++) {
+            t = turns->tables[k];
+            if (read(t->first, t->last, t->points, t->body, t->length, out, t->points, &place) || place != t->points)
+                wrong(name);
+        }
     if (memcmp(out, t->ordinates, t->points * sizeof *out))
         wrong(name);
 }
 
-/* Writes the table TIMES times in its form into so much room, and looks at the text once. */
-static void run_writer(const char *name, form_writer *write, const struct table *t, size_t room, long times)
+/* Writes the tables in turn TIMES times into room for just their texts, or for any; looks at the last text once. */
+static void run_writer(const char *name, form_writer *write, const struct turns *turns, bool roomy, long times)
 {
-    uint8_t *text = malloc(room);
-    uint64_t length;
+    const struct table *t = turns->tables[turns->count - 1];
+    const size_t most = 15 * t->points + 44;
+    uint8_t *text = malloc(most);
+    uint64_t length = 0;
     for (long i = 0; i < times; i++)
-        if (write(t->form, t->first, t->last, t->points, t->ordinates, t->points, text, room, &length)
-            || length != t->length)
-            wrong(name);
+        for (size_t k = 0; k < turns->count; k++) {
+            t = turns->tables[k];
+            if (write(t->form, t->first, t->last, t->points, t->ordinates, t->points, text, roomy ? most : t->length,
+                      &length)
+                || length != t->length)
+                wrong(name);
+        }
     if (memcmp(text, t->body, length))
         wrong(name);
 }
@@ -121,6 +140,21 @@ static void run_blocks(size_t length, long times)
             wrong("blocks");
 }
 
+/* Makes the tables of this name, as many as stand after `*`, or one; false if there is no such table. */
+static bool make_turns(struct turns *turns, const char *name)
+{
+    const char *star = strchr(name, '*');
+    char kind[64];
+    snprintf(kind, sizeof kind, "%.*s", (int)(star ? star - name : (long)strlen(name)), name);
+    turns->count = star ? strtoul(star + 1, NULL, 10) : 1;
+    if (turns->count < 1 || turns->count > MOST_TURNS)
+        return false;
+    for (size_t k = 0; k < turns->count; k++)
+        if (!(turns->tables[k] = make_table(kind, k)))
+            return false;
+    return true;
+}
+
 /* Runs the named function; false if there is none of that name. */
 static bool run(const char *name, const char *table, const char *times)
 {
@@ -131,7 +165,7 @@ static bool run(const char *name, const char *table, const char *times)
         if (size)
             printf("%zu %zu\n", length, points);
         else if (!strcmp(name, "read-library-table"))
-            run_reader(name, read_library, make_file_table(points), atol(times));
+            run_reader(name, read_library, &(struct turns){{make_file_table(points)}, 1}, atol(times));
         else
             run_file(file, length, points, atol(times));
         return true;
@@ -140,21 +174,25 @@ static bool run(const char *name, const char *table, const char *times)
         return run_labels(strtoul(table + 7, NULL, 10), atol(times)), true;
     if (!strncmp(table, "blocks-", 7))
         return run_blocks(strtoul(table + 7, NULL, 10), atol(times)), true;
-    struct table *t = make_table(table);
-    if (!t)
+    struct turns turns;
+    if (!make_turns(&turns, table))
         return false;
-    run_reader(table, c_read_table, t, 1); /* the body that all answers are compared with reads back */
+    run_reader(table, c_read_table, &turns, 1); /* the bodies that all answers are compared with read back */
     if (size) {
-        printf("%zu %zu\n", t->length, t->points);
+        size_t bytes = 0, points = 0;
+        for (size_t k = 0; k < turns.count; k++) {
+            bytes += turns.tables[k]->length;
+            points += turns.tables[k]->points;
+        }
+        printf("%zu %zu\n", bytes, points);
         return true;
     }
     for (size_t i = 0; i < sizeof readers / sizeof *readers; i++)
         if (!strcmp(name, readers[i].name))
-            return run_reader(name, readers[i].function, t, atol(times)), true;
+            return run_reader(name, readers[i].function, &turns, atol(times)), true;
     for (size_t i = 0; i < sizeof writers / sizeof *writers; i++)
         if (!strcmp(name, writers[i].name))
-            return run_writer(name, writers[i].function, t, writers[i].roomy ? 15 * t->points + 44 : t->length, atol(times)),
-                   true;
+            return run_writer(name, writers[i].function, &turns, writers[i].roomy, atol(times)), true;
     return false;
 }
 
@@ -163,7 +201,7 @@ int main(int argc, char **argv)
     bool timed = argc == 5 && !strcmp(argv[1], "-time");
     if (argc != 4 + timed) {
         fprintf(stderr, "measure [-time] FUNCTION TABLE TIMES|size, where TABLE is (typical|quiet|noisy)[-POINTS]"
-                        "[.AFFN|.PAC|.SQZ], plain[-POINTS], file-POINTS, labels-BYTES or blocks-BYTES\n");
+                        "[.AFFN|.PAC|.SQZ][*TURNS], plain[-POINTS][*TURNS], file-POINTS, labels-BYTES or blocks-BYTES\n");
         return 2;
     }
     struct timespec before, after;

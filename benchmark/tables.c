@@ -113,16 +113,16 @@ static uint64_t form_of(const char *name)
     return form;
 }
 
-struct table *make_table(const char *name)
+struct table *make_table(const char *name, uint64_t turn)
 {
     const char *dash = strchr(name, '-');
     size_t letters = strcspn(name, "-."), points = dash ? strtoul(dash + 1, NULL, 10) : 65536;
     uint64_t form = form_of(name);
     if (form == FORM_DIFDUP && !strncmp(name, "plain", letters))
-        return plain_table(2026, points);
+        return plain_table(2026 + turn, points);
     for (size_t k = 0; k < sizeof spectra / sizeof *spectra; k++)
         if (form <= FORM_SQZ && strlen(spectra[k].name) == letters && !strncmp(name, spectra[k].name, letters))
-            return table_of(&spectra[k], 1981 + k, points, form);
+            return table_of(&spectra[k], 1981 + k + 100 * turn, points, form);
     return NULL;
 }
 

@@ -17,9 +17,10 @@ struct table {
 
 /*
  * Makes the table of this name (typical, quiet, noisy or plain), with 65,536 points or, as noisy-300, so many; its body
- * is in DIFDUP form or, as noisy.AFFN, in another one (that of plain is its own). NULL if there is none.
+ * is in DIFDUP form or, as noisy.AFFN, in another one (that of plain is its own). NULL if there is none. Each turn has
+ * other ordinates.
  */
-struct table *make_table(const char *name);
+struct table *make_table(const char *name, uint64_t turn);
 
 /* The table of the file that make_file makes. */
 struct table *make_file_table(size_t points);
