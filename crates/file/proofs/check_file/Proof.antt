@@ -45,7 +45,8 @@ returns-2 : tie.Need-returns-2
 returns-2 c =
     let at-eq = c .before .before in let at-before = at-eq .before in
     let l = at-before .before in
-    stage-same (labels-body (file l) (room l) _ _ _ (sym (l .labels .ensures .0) ∙ at-eq .eq .given .1)) (labels-placed (file l) (room l) _ _ _ (sym (l .labels .ensures .0) ∙ at-eq .eq .given .1)) (c .check-part .ensures)
+    let said = sym (l .labels .ensures .0) ∙ at-eq .eq .given .1 in
+    stage-same (labels-body (file l) (room l) _ _ _ said) (labels-placed (file l) (room l) _ _ _ said) (c .check-part .ensures)
 
 pub check-file-spec : {M : Type 1} → statement M
 check-file-spec =

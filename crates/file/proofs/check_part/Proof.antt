@@ -39,7 +39,8 @@ returns-2 : tie.Need-returns-2
 returns-2 c =
     let x = c .before .before in
     let g = x .before .before in
-    stage-same (records-body (file g) (room g) _ _ _ (sym (g .gather .ensures .0) ∙ x .x .given .1)) (records-all (file g) (room g) _ _ _ (sym (g .gather .ensures .0) ∙ x .x .given .1)) (c .check-records .ensures)
+    let said = sym (g .gather .ensures .0) ∙ x .x .given .1 in
+    stage-same (records-body (file g) (room g) _ _ _ said) (records-all (file g) (room g) _ _ _ said) (c .check-records .ensures)
 
 pub check-part-spec : {M : Type 1} → statement M
 check-part-spec =
