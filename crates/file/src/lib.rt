@@ -1,16 +1,19 @@
-// Reading a file (01, "The file"): labels, the seven records, their numbers, the table, and FIRSTY. The file is lent and never written to; a refusal leaves every lent ordinate as it was.
+// Reading a file (01, "The file"): labels, the seven records, their numbers, the table, and FIRSTY. A file is first checked, with nothing to write to, and then its ordinates are stored. So a
+// refusal leaves every lent ordinate as it was. The file is lent and never written to.
 ghost use mathlib.Core.Path.{_≡_};
 ghost use Prim.Native.Nat.{_+_, _-_, _≤_};
 ghost use lib.ListN.{length};
 ghost use Rattle.label_spec.specs.File.{longestFile};
-ghost use Rattle.file_spec.specs.Texts.{gatheredFrom};
+ghost use Rattle.table_spec.specs.Reading.{stored};
+ghost use Rattle.file_spec.specs.Texts.{gatheredFrom, textIn, listedIn};
 ghost use Rattle.file_spec.specs.Figures.{figuresOf, ratio};
 ghost use Rattle.terms.specs.Refusals.{fault-at};
 ghost use Rattle.file_spec.specs.File.{inFile, byTable, byAbscissas, byFigures, byRecords, readFile};
-ghost use Rattle.file_spec.specs.declared.FileStaged.{FileStaged};
 ghost use Rattle.figure.specs.Carried.{Carried};
 ghost use Rattle.file_records.specs.Bounds.{AllWithin, AllSmall};
-ghost use Rattle.file.specs.Answers.{StageSays, FileSays};
+ghost use Rattle.file.specs.declared.Tabled.{Tabled};
+ghost use Rattle.file.specs.Places.{bodyFrom, bodyAt, bodyIn, bodyOf};
+ghost use Rattle.file.specs.Answers.{tableAt, Laid, laidIn, stagedBy, leftBy, StageChecks, StageSays, FileSays};
 use decimal_spec::Rounded;
 use figure::agree;
 use figure::exact_with;
@@ -27,6 +30,7 @@ use file_spec::Gathered;
 use file_spec::Listed;
 use file_spec::Needed;
 use file_spec::Numbers;
+use file_spec::Span;
 use file_texts::list_in;
 use file_texts::mark_in;
 use label_spec::Labelled;
@@ -34,29 +38,50 @@ use table_read::Checked;
 use terms::Fault;
 use text::refusal_in;
 
-// A fault, with nothing altered.
-fn refused(number: u64, place: usize) -> FileStaged
-    ensures { λ r. ⌜ r ≡ FileStaged.Refused (fault-at number place) ⌝ }
+// A table that was checked: N, F, L and what is exact, and the part of the file that is its body.
+pub struct TablePlace {
+    pub table: FileTable,
+    pub body: Span,
+}
+
+// What checking a file answers: its table, or a fault, its place counted in the file.
+pub enum Tabled {
+    At(TablePlace),
+    Refused(Fault),
+}
+
+// A fault.
+fn refused(number: u64, place: usize) -> Tabled
+    ensures { λ r. ⌜ r ≡ Tabled.Refused (fault-at number place) ⌝ }
 {
-    FileStaged::Refused(Fault::new(number, place))
+    Tabled::Refused(Fault::new(number, place))
 }
 
 // The table of a file that has no fault.
-fn accepted(points: usize, first: i64, last: i64, exact: Exactness) -> FileStaged
-    ensures { λ r. ⌜ r ≡ FileStaged.Accepted (record { points = points; first = first; last = last; exact = exact }) ⌝ }
+fn accepted(
+    points: usize,
+    first: i64,
+    last: i64,
+    exact: Exactness,
+    from: usize,
+    to: usize,
+) -> Tabled
+    ensures { λ r. ⌜ r ≡ Tabled.At (record { table = record { points = points; first = first; last = last; exact = exact }; body = record { from = from; to = to } }) ⌝ }
 {
-    FileStaged::Accepted(FileTable {
+    let table = FileTable {
         points,
         first,
         last,
         exact,
-    })
+    };
+    let body = Span { from, to };
+    Tabled::At(TablePlace { table, body })
 }
 
 // A fault of the body, with its place counted in the file; 1 and 2 stand at 0.
-fn refused_in(r: Fault, start: usize) -> FileStaged
+fn refused_in(r: Fault, start: usize) -> Tabled
     requires { ⌜ start + r .place ≤ longestFile ⌝ }
-    ensures { λ x. ⌜ x ≡ FileStaged.Refused (fault-at (r .number) (inFile start (r .number) (r .place))) ⌝ }
+    ensures { λ x. ⌜ x ≡ Tabled.Refused (fault-at (r .number) (inFile start (r .number) (r .place))) ⌝ }
 {
     let number = r.number;
     if number <= 2 {
@@ -65,10 +90,10 @@ fn refused_in(r: Fault, start: usize) -> FileStaged
     refused(number, start + r.place)
 }
 
-// The table, in the frame that was found: 1 to 13 and 16, then 29, and only then its ordinates are stored.
-fn read_body(
+// The table, in the frame that was found: 1 to 13 and 16, then 29.
+fn check_body(
     file: &[u8],
-    out: &mut [i32],
+    room: usize,
     x: Needed,
     n: Numbers,
     start: usize,
@@ -76,9 +101,9 @@ fn read_body(
     last: i64,
     first_exact: bool,
     last_exact: bool,
-) -> FileStaged
+) -> Tabled
     requires { ⌜ AllWithin (length (now file)) x × AllSmall n × (start ≤ x .xydata .to - x .xydata .from) × (length (now file) ≤ longestFile) × Carried n «first_exact» «last_exact» ⌝ }
-    ensures { λ r. ⌜ StageSays (byTable (now (file .entry)) (length (now (out .entry))) x n start first last) (now (out .entry)) (now (out .exit)) r ⌝ }
+    ensures { λ r. ⌜ StageChecks (now (file .entry)) room (bodyFrom x start) (byTable (now (file .entry)) room x n start first last) r ⌝ }
 {
     let s = x.xydata;
     let from = s.from;
@@ -86,7 +111,7 @@ fn read_body(
     let place = from + start;
     let body = &file[place..to];
     let points = n.npoints as usize;
-    match table_read::check_table(first, last, points, body, out.len()) {
+    match table_read::check_table(first, last, points, body, room) {
         Checked::Refused(r) => refused_in(r, place),
         Checked::First(y) => {
             let firsty = n.firsty;
@@ -97,17 +122,16 @@ fn read_body(
                 let t = x.firsty;
                 return refused(29, mark_in(file, t));
             }
-            table_read::store_table(first, last, points, body, out);
             let exact = exact_with(first_exact, last_exact, q.exact, y);
-            accepted(points, first, last, exact)
+            accepted(points, first, last, exact, place, to)
         }
     }
 }
 
 // F and L (28), then the table.
-fn read_abscissas(file: &[u8], out: &mut [i32], x: Needed, n: Numbers, start: usize) -> FileStaged
+fn check_abscissas(file: &[u8], room: usize, x: Needed, n: Numbers, start: usize) -> Tabled
     requires { ⌜ AllWithin (length (now file)) x × AllSmall n × (start ≤ x .xydata .to - x .xydata .from) × (length (now file) ≤ longestFile) ⌝ }
-    ensures { λ r. ⌜ StageSays (byAbscissas (now (file .entry)) (length (now (out .entry))) x n start (ratio 3 (n .firstx) (n .xfactor) .rounded)) (now (out .entry)) (now (out .exit)) r ⌝ }
+    ensures { λ r. ⌜ StageChecks (now (file .entry)) room (bodyFrom x start) (byAbscissas (now (file .entry)) room x n start (ratio 3 (n .firstx) (n .xfactor) .rounded)) r ⌝ }
 {
     let firstx = n.firstx;
     let lastx = n.lastx;
@@ -130,7 +154,7 @@ fn read_abscissas(file: &[u8], out: &mut [i32], x: Needed, n: Numbers, start: us
                 Rounded::Whole { minus: k, size: q } => {
                     let first = whole_of(m, p);
                     let last = whole_of(k, q);
-                    read_body(file, out, x, n, start, first, last, f.exact, l.exact)
+                    check_body(file, room, x, n, start, first, last, f.exact, l.exact)
                 }
             }
         }
@@ -138,9 +162,9 @@ fn read_abscissas(file: &[u8], out: &mut [i32], x: Needed, n: Numbers, start: us
 }
 
 // The numbers (26), the list (27), then the rest.
-fn read_records(file: &[u8], out: &mut [i32], x: Needed) -> FileStaged
+fn check_records(file: &[u8], room: usize, x: Needed) -> Tabled
     requires { ⌜ AllWithin (length (now file)) x × (length (now file) ≤ longestFile) ⌝ }
-    ensures { λ r. ⌜ StageSays (byFigures (now (file .entry)) (length (now (out .entry))) x (figuresOf (now (file .entry)) x)) (now (out .entry)) (now (out .exit)) r ⌝ }
+    ensures { λ r. ⌜ StageChecks (now (file .entry)) room (bodyAt x (listedIn (textIn (now (file .entry)) (x .xydata)))) (byFigures (now (file .entry)) room x (figuresOf (now (file .entry)) x)) r ⌝ }
 {
     match figures(file, x) {
         Figures::Wrong(a) => refused(26, a),
@@ -148,34 +172,70 @@ fn read_records(file: &[u8], out: &mut [i32], x: Needed) -> FileStaged
             let s = x.xydata;
             match list_in(file, s) {
                 Listed::Unlisted => refused(27, mark_in(file, s)),
-                Listed::Body(start) => read_abscissas(file, out, x, n, start),
+                Listed::Body(start) => check_abscissas(file, room, x, n, start),
             }
         }
     }
 }
 
-// The records from the place `start`, after TITLE's `=`, up to END's `##` (25), then the rest. The readers of files and of the blocks of a file share it.
+// The records from the place `start`, after TITLE's `=`, up to END's `##` (25), then the rest.
+fn check_part(file: &[u8], room: usize, start: usize, end: usize) -> Tabled
+    requires { ⌜ (start ≤ length (now file)) × (length (now file) ≤ longestFile) ⌝ }
+    ensures { λ r. ⌜ StageChecks (now (file .entry)) room (bodyIn (now (file .entry)) (gatheredFrom (now (file .entry)) start end)) (byRecords (now (file .entry)) room end (gatheredFrom (now (file .entry)) start end)) r ⌝ }
+{
+    match gather(file, start, end) {
+        Gathered::Lacking => refused(25, end),
+        Gathered::All(x) => check_records(file, room, x),
+    }
+}
+
+// What a file says, with room for so many ordinates: its table and where its body stands, or a fault. Nothing lent is written to.
+pub fn check_file(file: &[u8], room: usize) -> Tabled
+    ensures { λ r. ⌜ StageChecks (now (file .entry)) room (bodyOf (now (file .entry))) (readFile (now (file .entry)) room) r ⌝ }
+{
+    match label::labels(file) {
+        Labelled::Refused(r) => Tabled::Refused(r),
+        Labelled::Places { title: _, eq, end } => {
+            let start = eq + 1;
+            check_part(file, room, start, end)
+        }
+    }
+}
+
+// Stores the ordinates of a table that was checked and found right.
+pub fn store_file(file: &[u8], out: &mut [i32], k: TablePlace)
+    requires { ⌜ Laid (now file) (length (now out)) k ⌝ }
+    ensures { λ _. ⌜ now (out .exit) ≡ stored (now (out .entry)) (tableAt (now (file .entry)) (length (now (out .entry))) k) ⌝ }
+{
+    let t = k.table;
+    let b = k.body;
+    let from = b.from;
+    let to = b.to;
+    table_read::store_table(t.first, t.last, t.points, &file[from..to], out);
+}
+
+// What was checked, its ordinates stored if it has no fault.
+fn settle(file: &[u8], out: &mut [i32], c: Tabled) -> FileStaged
+    requires { ⌜ laidIn (now file) (length (now out)) c ⌝ }
+    ensures { λ r. ⌜ (r ≡ stagedBy c) × (now (out .exit) ≡ leftBy (now (file .entry)) (now (out .entry)) c) ⌝ }
+{
+    match c {
+        Tabled::Refused(r) => FileStaged::Refused(r),
+        Tabled::At(k) => {
+            let table = k.table;
+            store_file(file, out, k);
+            FileStaged::Accepted(table)
+        }
+    }
+}
+
+// Reads the records from the place `start`, after TITLE's `=`, up to END's `##`. The reader of the blocks of a file calls it.
 pub fn read_part(file: &[u8], out: &mut [i32], start: usize, end: usize) -> FileStaged
     requires { ⌜ (start ≤ length (now file)) × (length (now file) ≤ longestFile) ⌝ }
     ensures { λ r. ⌜ StageSays (byRecords (now (file .entry)) (length (now (out .entry))) end (gatheredFrom (now (file .entry)) start end)) (now (out .entry)) (now (out .exit)) r ⌝ }
 {
-    match gather(file, start, end) {
-        Gathered::Lacking => refused(25, end),
-        Gathered::All(x) => read_records(file, out, x),
-    }
-}
-
-// The labels (19 to 24), then the rest.
-fn read_labelled(file: &[u8], out: &mut [i32]) -> FileStaged
-    ensures { λ r. ⌜ StageSays (readFile (now (file .entry)) (length (now (out .entry)))) (now (out .entry)) (now (out .exit)) r ⌝ }
-{
-    match label::labels(file) {
-        Labelled::Refused(r) => FileStaged::Refused(r),
-        Labelled::Places { title: _, eq, end } => {
-            let start = eq + 1;
-            read_part(file, out, start, end)
-        }
-    }
+    let c = check_part(file, out.len(), start, end);
+    settle(file, out, c)
 }
 
 // Reads a file: any bytes, any slice. Accepted: N, F, L and what is exact, and the first N entries are the ordinates.
@@ -183,7 +243,8 @@ fn read_labelled(file: &[u8], out: &mut [i32]) -> FileStaged
 pub fn read_file(file: &[u8], out: &mut [i32]) -> FileRead
     ensures { λ r. ⌜ FileSays (now (file .entry)) (now (out .entry)) (now (out .exit)) r ⌝ }
 {
-    match read_labelled(file, out) {
+    let c = check_file(file, out.len());
+    match settle(file, out, c) {
         FileStaged::Accepted(t) => FileRead::Accepted(t),
         FileStaged::Refused(f) => FileRead::Refused(refusal_in(file, f.number, f.place)),
     }

@@ -1,60 +1,20 @@
--- `file::read_part` meets its contract: 25, then what the records say.
-use mathlib.Core.List.{List}
-use mathlib.Core.Path.{sym, _∙_}
-use Prim.Native.Nat.{ℕ}
-use lib.ListN.{length}
+-- `file::read_part` meets its contract: what was checked is settled.
+use Rattle.file.proofs.StageLaws.{stage-settled}
 use borrow.Author.Needs.{needs}
-use Rattle.file.proofs.StageLaws.{stage-refused, stage-same, records-lacking, records-all}
 use Rattle.file.proofs.read_part.Statement.{statement}
 use Rattle.file.proofs.read_part.Tie as tie
 
--- where the records are gathered
-abbrev start : tie.After-gather → tie.Start
-start c = c .before .before
+check-part-requires : tie.Need-check-part-requires
+check-part-requires c κs = search needs
 
-abbrev file : tie.After-gather → List ℕ
-file c = start c .args .file .now
-
-abbrev room : tie.After-gather → ℕ
-room c = length (start c .args .out .now)
-
-gather-requires : tie.Need-gather-requires
-gather-requires c κs = search needs
-
-enum-told : tie.Need-enum-told
-enum-told c = search needs
-
-refused-requires : tie.Need-refused-requires
-refused-requires c κs = search needs
-
-enum-known-x : tie.Need-enum-known-x
-enum-known-x c = search needs
-
-read-records-requires : tie.Need-read-records-requires
-read-records-requires c κs = (rw (c .before .before .x .given .1) at (c .before .before .before .before .gather .ensures .1), c .before .before .before .before .before .before .pre .1)
-
-returns : tie.Need-returns
-returns c = let g = c .before .before .before in stage-refused (c .refused .ensures) (records-lacking (file g) (room g) _ _ (sym (g .gather .ensures .0) ∙ c .before .enum-told .given .1))
+settle-requires : tie.Need-settle-requires
+settle-requires c κs = c .before .check-part .ensures .laid
 
 same-length : tie.Need-same-length
 same-length c = search needs
 
-returns-2 : tie.Need-returns-2
-returns-2 c =
-    let at-before = c .before .before .before in
-    let x = at-before .before in
-    let g = x .before .before in
-    stage-same (records-all (file g) (room g) _ _ _ (sym (g .gather .ensures .0) ∙ x .x .given .1)) (c .before .read-records .ensures)
+returns : tie.Need-returns
+returns c = stage-settled (c .before .before .before .check-part .ensures) (c .before .settle .ensures)
 
 pub read-part-spec : {M : Type 1} → statement M
-read-part-spec =
-    tie.close
-    (tie.spec
-    gather-requires
-    enum-told
-    refused-requires
-    enum-known-x
-    read-records-requires
-    returns
-    same-length
-    returns-2)
+read-part-spec = tie.close (tie.spec check-part-requires settle-requires same-length returns)

@@ -1,13 +1,12 @@
--- `file::read_labelled` meets its contract: the labels, then what stands between them.
+-- `file::check_file` meets its contract: the labels, then what stands between them.
 use mathlib.Core.List.{List}
 use mathlib.Core.Path.{refl, sym, _∙_}
 use Prim.Native.Nat.{ℕ}
 use native.Mathlib.Omega.{arith}
-use lib.ListN.{length}
 use borrow.Author.Needs.{needs}
-use Rattle.file.proofs.StageLaws.{stage-refused, stage-same, labels-refused, labels-placed, labelled-short}
-use Rattle.file.proofs.read_labelled.Statement.{statement}
-use Rattle.file.proofs.read_labelled.Tie as tie
+use Rattle.file.proofs.StageLaws.{stage-refused, stage-same, labels-refused, labels-placed, labels-body, labelled-short}
+use Rattle.file.proofs.check_file.Statement.{statement}
+use Rattle.file.proofs.check_file.Tie as tie
 
 -- where the labels are read
 abbrev start : tie.After-labels → tie.Start
@@ -17,7 +16,7 @@ abbrev file : tie.After-labels → List ℕ
 file c = start c .args .file .now
 
 abbrev room : tie.After-labels → ℕ
-room c = length (start c .args .out .now)
+room c = start c .args .room
 
 labels-requires : tie.Need-labels-requires
 labels-requires c κs = search needs
@@ -31,9 +30,9 @@ enum-known-eq c = search needs
 add-start : tie.Need-add-start
 add-start c = let x = rw (c .before .eq .given .1) at (c .before .before .before .labels .ensures .1) in let h = x .0 .high in omega arith
 
-read-part-requires : tie.Need-read-part-requires
-read-part-requires c κs =
-    let at-eq = c .before .before in let at-before = at-eq .before in
+check-part-requires : tie.Need-check-part-requires
+check-part-requires c κs =
+    let at-eq = c .before in let at-before = at-eq .before in
     let l = at-before .before in
     let x = rw (at-eq .eq .given .1) at (l .labels .ensures .1) in
     let h = x .0 .high in
@@ -42,24 +41,21 @@ read-part-requires c κs =
 returns : tie.Need-returns
 returns c = let l = c .before .before .before in stage-refused refl (labels-refused (file l) (room l) _ (sym (l .labels .ensures .0) ∙ c .before .r .given .1))
 
-same-length : tie.Need-same-length
-same-length c = search needs
-
 returns-2 : tie.Need-returns-2
 returns-2 c =
-    let at-eq = c .before .before .before .before in let at-before = at-eq .before in
+    let at-eq = c .before .before in let at-before = at-eq .before in
     let l = at-before .before in
-    stage-same (labels-placed (file l) (room l) _ _ _ (sym (l .labels .ensures .0) ∙ at-eq .eq .given .1)) (c .before .read-part .ensures)
+    let said = sym (l .labels .ensures .0) ∙ at-eq .eq .given .1 in
+    stage-same (labels-body (file l) (room l) _ _ _ said) (labels-placed (file l) (room l) _ _ _ said) (c .check-part .ensures)
 
-pub read-labelled-spec : {M : Type 1} → statement M
-read-labelled-spec =
+pub check-file-spec : {M : Type 1} → statement M
+check-file-spec =
     tie.close
     (tie.spec
     labels-requires
     enum-known-r
     enum-known-eq
     add-start
-    read-part-requires
+    check-part-requires
     returns
-    same-length
     returns-2)
