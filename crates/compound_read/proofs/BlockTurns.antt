@@ -1,8 +1,8 @@
 -- The turns of reading a data block and of finding a record of it: no place of the code is named here.
-use mathlib.Core.Path.{_≡_, refl, ap, sym, _∙_}
+use mathlib.Core.Path.{_≡_, refl, sym, _∙_}
 use mathlib.Core.Bool.{true, false}
 use mathlib.Core.List.{List}
-use Prim.Native.Nat.{ℕ, _+_, _<_, _≤_}
+use Prim.Native.Nat.{ℕ, _<_, _≤_}
 use native.Mathlib.Omega.{arith}
 use lib.IntN.{ℤ}
 use lib.ListN.{length}
@@ -14,13 +14,10 @@ use Rattle.terms.specs.declared.Refusal.{Refusal}
 use Rattle.label_spec.specs.Labels.{from, hashed}
 use Rattle.label_spec.specs.File.{longestFile}
 use Rattle.label_spec.specs.Records.{recordOf, asRecord}
-use Rattle.label_spec.specs.declared.Spot.the-variants.{Place, Nowhere}
 use Rattle.label_spec.specs.declared.Found.{Found}
 use Rattle.label_spec.specs.declared.Record.{Record}
-use Rattle.label.specs.Answers.{foundIn, findIn}
-use Rattle.label.specs.Post.{Named}
-use Rattle.label_lines.specs.Post.{Marked}
-use Rattle.label.proofs.WalkTurns.{mark-is}
+use Rattle.label.specs.Answers.{findIn}
+use Rattle.label_page.specs.Post.{FindsFrom}
 use Rattle.file_spec.specs.declared.FileTable.{FileTable}
 use Rattle.file_spec.specs.declared.FileStaged.{FileStaged}
 use Rattle.file_spec.specs.Texts.{gatheredFrom}
@@ -72,26 +69,6 @@ module _ (s : List ℕ) (start end : ℕ) (out : List ℤ) where
             cases : (w : FileAnswer) → FileStaged.Refused r ≡ staged w → BlockRead.Refused q ≡ toldBlock s (answer w)
             cases (accept-file u ys) e = zero-one cc
             cases (refuse-file c a) e = let z : r ≡ fault-at c a = cc in rw (k, z) refl
-
--- ---- `find_from_mark`
-
-abbrev pub FindsFrom : List ℕ → ℕ → ℕ → List ℕ → Found → Type 0
-FindsFrom s m stop w r = (r ≡ recordOf (length s) stop w (from s m true)) × foundIn 0 (length s) r
-
-lower : (a len : ℕ) (r : Found) → foundIn a len r → foundIn 0 len r
-lower a len (Found.Text i j) x = (omega arith, x .1, x .2)
-lower a len Found.Absent x = tt
-
-module _ (s : List ℕ) (m stop : ℕ) (h : m < stop) (w : List ℕ) where
-  pub from-on : Named s m w Nowhere → (r : Found) → (r ≡ recordOf (length s) stop w (from s (m + 2) false)) × foundIn (m + 2) (length s) r → FindsFrom s m stop w r
-  from-on x r f = (f .0 ∙ sym (x .says (length s) stop h), lower (m + 2) (length s) r (f .1))
-
-  pub from-here : (e to : ℕ) → Named s m w (Place e) → Marked s (e + 1) to → FindsFrom s m stop w (Found.Text (e + 1) to)
-  unfolding recordOf
-  from-here e to x q = (
-    sym (ap (recordOf (length s) stop w) (x .says .2) ∙ rw (lt-ltb m stop h, x .says .3, ← mark-is s (e + 1) to q) refl),
-    (omega arith, q .low, q .high),
-  )
 
 -- ---- `find_in_block`
 

@@ -1,24 +1,16 @@
 // A data block of a file, read where it stands, and a record of it (02, T-07). `compound_find::find_blocks` tells its places.
 ghost use mathlib.Core.Path.{_≡_};
-ghost use mathlib.Core.Bool.{true};
-ghost use Prim.Native.Nat.{_<_};
 ghost use lib.ListN.{length};
 ghost use Rattle.label_spec.specs.Names.{norm};
-ghost use Rattle.label_spec.specs.Labels.{from, hashed};
-ghost use Rattle.label_spec.specs.Records.{recordOf};
-ghost use Rattle.label.specs.Answers.{foundIn, findIn};
+ghost use Rattle.label.specs.Answers.{findIn};
 ghost use Rattle.compound_spec.specs.Answers.{recordInBlock};
 ghost use Rattle.compound_read.specs.Answers.{ReadsBlock};
 use compound_spec::BlockRead;
 use file::read_part;
 use file_spec::FileStaged;
-use label::find_record;
 use label_lines::is_hashed;
-use label_lines::label_here;
-use label_lines::next_mark;
-use label_names::is_word;
+use label_page::find_from_mark;
 use label_spec::Found;
-use label_spec::Label;
 use label_spec::Record;
 use text::refusal_in;
 
@@ -42,30 +34,6 @@ pub fn read_block(file: &[u8], start: usize, end: usize, out: &mut [i32]) -> Blo
     match read_part(file, out, start, end) {
         FileStaged::Accepted(t) => BlockRead::Accepted(t),
         FileStaged::Refused(f) => BlockRead::Refused(refusal_in(file, f.number, f.place)),
-    }
-}
-
-// The text of the first record with a name, among the labels from the `##` that stands here on and before `stop`.
-fn find_from_mark(s: &[u8], at: usize, stop: usize, name: &[u8]) -> Found
-    requires { ⌜ (hashed (now s) at ≡ true) × (at < stop) ⌝ }
-    ensures { λ r. ⌜ (r ≡ recordOf (length (now (s .entry))) stop (norm (now (name .entry))) (from (now (s .entry)) at true)) × foundIn 0 (length (now (s .entry))) r ⌝ }
-{
-    let after = at + 2;
-    match label_here(s, at) {
-        Label::None => find_record(s, after, stop, name),
-        Label::Bad { mark: _ } => find_record(s, after, stop, name),
-        Label::At {
-            mark: _,
-            start: n,
-            eq,
-        } => {
-            if is_word(s, n, eq, name) {
-                let next = eq + 1;
-                let to = next_mark(s, next);
-                return Found::Text { from: next, to };
-            }
-            find_record(s, after, stop, name)
-        }
     }
 }
 

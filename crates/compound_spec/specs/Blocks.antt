@@ -2,14 +2,14 @@
 use mathlib.Core.Bool.{Bool, true, false}
 use mathlib.Core.List.{List, [], _∷_, _++_}
 use Prim.Native.Nat.{ℕ, suc, _+_, _-_}
-use lib.Dec.{leb, ltb, eqb}
+use lib.Dec.{leb, ltb}
 use lib.ListN.{length, take, drop}
 use Rattle.terms.specs.Logic.{pick, both}
 use Rattle.label_spec.specs.declared.Opened.{Opened}
 use Rattle.label_spec.specs.declared.Found.{Found}
 use Rattle.label_spec.specs.Names.{sames, TITLE, END}
 use Rattle.label_spec.specs.Labels.{Walk, over, bad, label, from}
-use Rattle.label_spec.specs.Space.{pastSpace}
+use Rattle.keyword_spec.specs.Keywords.{isWord}
 use Rattle.label_spec.specs.File.{longestFile, opened, twice}
 use Rattle.label_spec.specs.Records.{markOf}
 use Rattle.file_spec.specs.Texts.{XYDATA}
@@ -28,13 +28,6 @@ LINK = 76 ∷ 73 ∷ 78 ∷ 75 ∷ []
 -- "to a depth of eight"
 abbrev pub deepest : ℕ
 deepest = 8
-
--- The text of a record "blanks, line ends and comments around it dropped, is" the word w: byte for byte, from the place p on.
-unfoldable pub wordFrom : List ℕ → List ℕ → ℕ → Bool
-wordFrom w t p = both (sames (take (length w) (drop p t)) w) (eqb (pastSpace t (p + length w)) (length t))
-
-unfoldable pub isWord : List ℕ → List ℕ → Bool
-isWord w t = wordFrom w t (pastSpace t 0)
 
 -- Does a label with the name v, whose text runs from a to b, say that its block is LINK?
 abbrev pub says : List ℕ → List ℕ → ℕ → ℕ → Bool

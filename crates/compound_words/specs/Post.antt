@@ -1,23 +1,13 @@
 -- What the functions on words ensure (02, T-07). Assumes nothing.
-use mathlib.Core.Path.{_≡_}
-use mathlib.Core.Bool.{Bool, true}
+use mathlib.Core.Bool.{true}
 use mathlib.Core.List.{List}
-use Prim.Native.Nat.{ℕ, _+_, _≤_}
-use lib.ListN.{length, take, drop}
+use Prim.Native.Nat.{ℕ}
 use Rattle.terms.specs.Logic.{pick}
 use Rattle.label_spec.specs.declared.Found.{Found}
 use Rattle.label_spec.specs.Names.{sames}
 use Rattle.file_spec.specs.Texts.{XYDATA}
 use Rattle.compound_spec.specs.declared.Own.{Own}
 use Rattle.compound_spec.specs.Blocks.{BLOCKS, says}
-
--- Does the word w stand at the place p of t?
-unfoldable pub worded : List ℕ → ℕ → List ℕ → Bool
-worded t p w = sames (take (length w) (drop p t)) w
-
-pub record Worded (t : List ℕ) (p : ℕ) (w : List ℕ) (r : Bool) : Type 0 where
-  pub is : r ≡ worded t p w
-  pub fits : r ≡ true → p + length w ≤ length t
 
 -- What a block has said, after a label of its own with the name v, whose text runs from a to b: as `noted` has it.
 unfoldable pub noteOf : List ℕ → List ℕ → ℕ → ℕ → Own → Own

@@ -7,43 +7,13 @@ ghost use Rattle.terms.specs.Logic.{pick};
 ghost use Rattle.label_spec.specs.Names.{nameIn, sames};
 ghost use Rattle.file_spec.specs.Texts.{XYDATA};
 ghost use Rattle.label_spec.specs.declared.Found.{Found};
-ghost use Rattle.compound_spec.specs.Blocks.{DATATYPE, BLOCKS, LINK, isWord, says};
-ghost use Rattle.compound_words.specs.Post.{Worded, noteOf};
+ghost use Rattle.compound_spec.specs.Blocks.{DATATYPE, BLOCKS, LINK, says};
+ghost use Rattle.keyword_spec.specs.Keywords.{isWord};
+ghost use Rattle.compound_words.specs.Post.{noteOf};
 use compound_spec::Own;
-use label::past_space;
+use keyword::is_keyword;
 use label_names::is_word;
 use label_spec::Found;
-
-// Does the word stand at a place of a text, byte for byte?
-fn word_at(t: &[u8], p: usize, w: &[u8]) -> bool
-    requires { ⌜ p ≤ length (now t) ⌝ }
-    ensures { λ r. ⌜ Worded (now (t .entry)) p (now (w .entry)) r ⌝ }
-{
-    let mut i = p;
-    let mut j: usize = 0;
-    while j < w.len() {
-        if i >= t.len() {
-            return false;
-        }
-        if t[i] != w[j] {
-            return false;
-        }
-        i += 1;
-        j += 1;
-    }
-    true
-}
-
-// Is a text this word, with blanks, line ends and comments around it dropped?
-pub fn is_keyword(t: &[u8], w: &[u8]) -> bool
-    ensures { λ r. ⌜ r ≡ isWord (now (w .entry)) (now (t .entry)) ⌝ }
-{
-    let p = past_space(t, 0);
-    if !word_at(t, p, w) {
-        return false;
-    }
-    past_space(t, p + w.len()) == t.len()
-}
 
 // Is the text of a record LINK?
 fn is_link(s: &[u8], from: usize, to: usize) -> bool

@@ -99,7 +99,7 @@ fn line_end(s: &[u8], at: usize) -> usize
 }
 
 // The place after blanks.
-fn past_blanks(s: &[u8], at: usize) -> usize
+pub fn past_blanks(s: &[u8], at: usize) -> usize
     requires { ⌜ at ≤ length (now s) ⌝ }
     ensures { λ r. ⌜ Unblanked (now (s .entry)) at r ⌝ }
 {

@@ -1,4 +1,4 @@
--- The turns of the functions on words: no place of the code is named here.
+-- The turns of the functions on keywords: no place of the code is named here.
 use mathlib.Core.Path.{_≡_, refl, sym, _∙_}
 use mathlib.Core.Bool.{true, false}
 use mathlib.Core.List.{List, _∷_}
@@ -12,8 +12,8 @@ use borrow.Author.Tests.{eq-eqb, ne-eqb}
 use Rattle.terms.specs.Logic.{zero-one}
 use Rattle.label_spec.specs.Names.{sames}
 use Rattle.label_spec.specs.Space.{pastSpace}
-use Rattle.compound_spec.specs.Blocks.{wordFrom, isWord}
-use Rattle.compound_words.specs.Post.{worded, Worded}
+use Rattle.keyword_spec.specs.Keywords.{wordFrom, isWord}
+use Rattle.keyword.specs.Post.{worded, Worded}
 
 -- `word_at`
 abbrev pub Word : List ℕ → ℕ → List ℕ → ℕ → ℕ → Type 0

@@ -1,12 +1,12 @@
--- `compound_read::find_from_mark` meets its contract: the record here, or one after it.
+-- `label_page::find_from_mark` meets its contract: the record here, or one after it.
 use mathlib.Core.Path.{sym, _∙_}
 use native.Mathlib.Omega.{arith}
 use borrow.Author.Needs.{needs}
 use Rattle.label_spec.specs.LabelLaws.{hash-in}
 use Rattle.label.proofs.RecordTurns.{named-none, named-bad, named-here, named-other}
-use Rattle.compound_read.proofs.BlockTurns.{from-on, from-here}
-use Rattle.compound_read.proofs.find_from_mark.Statement.{statement}
-use Rattle.compound_read.proofs.find_from_mark.Tie as tie
+use Rattle.label_page.proofs.PageTurns.{from-on, from-here}
+use Rattle.label_page.proofs.find_from_mark.Statement.{statement}
+use Rattle.label_page.proofs.find_from_mark.Tie as tie
 
 add-after : tie.Need-add-after
 add-after c = omega (arith, hash-in _ _ (c .before .before .pre .0))

@@ -1,9 +1,9 @@
--- `compound_words::is_keyword` meets its contract: blanks, line ends and comments before and after the word.
+-- `keyword::is_keyword` meets its contract: blanks, line ends and comments before and after the word.
 use borrow.Author.Tests.{not-true, not-false}
 use borrow.Author.Needs.{needs}
-use Rattle.compound_words.proofs.WordTurns.{keyword-no, keyword-yes}
-use Rattle.compound_words.proofs.is_keyword.Statement.{statement}
-use Rattle.compound_words.proofs.is_keyword.Tie as tie
+use Rattle.keyword.proofs.WordTurns.{keyword-no, keyword-yes}
+use Rattle.keyword.proofs.is_keyword.Statement.{statement}
+use Rattle.keyword.proofs.is_keyword.Tie as tie
 
 past-space-requires : tie.Need-past-space-requires
 past-space-requires c κs = search needs

@@ -1,11 +1,11 @@
--- `compound_words::word_at` meets its contract: byte for byte, as far as the word goes.
+-- `keyword::word_at` meets its contract: byte for byte, as far as the word goes.
 use Prim.Native.Nat.{_-_}
 use native.Mathlib.Omega.{arith}
 use lib.ListN.{length}
 use borrow.Author.Needs.{needs}
-use Rattle.compound_words.proofs.WordTurns.{Word, word-begin, word-done, word-short, word-differs, word-on}
-use Rattle.compound_words.proofs.word_at.Statement.{statement}
-use Rattle.compound_words.proofs.word_at.Tie as tie
+use Rattle.keyword.proofs.WordTurns.{Word, word-begin, word-done, word-short, word-differs, word-on}
+use Rattle.keyword.proofs.word_at.Statement.{statement}
+use Rattle.keyword.proofs.word_at.Tie as tie
 
 abbrev Inv-loop : tie.InvT-loop
 Inv-loop t p w i₀ j₀ i j = Word t p w i j
