@@ -2,6 +2,7 @@
 -- in 001's order of labels, their names as they compare, and the words that are listed for them. Each name and each list cites its place in 001. Assumes nothing.
 use mathlib.Core.List.{List, [], _∷_}
 use Prim.Native.Nat.{ℕ}
+use lib.ListN.{getD}
 
 -- a record that the profile wants; where no word is listed, any text will do
 pub record Wanted : Type 0 where
@@ -132,3 +133,7 @@ wanted =
     wants XUNITS xunits ∷
     wants YUNITS yunits ∷
     []
+
+-- the k-th of them, counted from 0; from the fifteenth on there is none
+abbrev pub kth : ℕ → Wanted
+kth k = getD wanted k (wants [] [])
