@@ -60,34 +60,37 @@ listed (w ∷ ws) t = anyWord (w ∷ ws) t
 abbrev pub wordAt : List ℕ → List ℕ → Shown → ℕ
 wordAt s p x = x .from + pastSpace (textAt s p x) 0
 
--- ---- 30 and 31, in a file s whose records stand from the place start on and before END's `##` at stop, with a page p
+-- ---- what a record says by itself, with what the others say
+
+-- 31: its word is unlisted, in the file s or on the page p
+unfoldable pub judged : List ℕ → List ℕ → List (List ℕ) → Located → Profiled → Profiled
+judged s p ws (Located.At x) r = pick (listed ws (textAt s p x)) r (Profiled.Unlisted (x .page) (wordAt s p x))
+judged s p ws Located.Absent r = r
+
+-- 30: it is absent from both
+unfoldable pub present : Located → Profiled → Profiled
+present (Located.At x) r = r
+present Located.Absent r = Profiled.Lacking
+
+-- "shown where it stands": three numbers, whether it is on the page, and from where up to where its text stands
+unfoldable pub numbers : Located → List ℕ → List ℕ
+numbers (Located.At x) ns = pick (x .page) 1 0 ∷ x .from ∷ x .to ∷ ns
+numbers Located.Absent ns = 0 ∷ 0 ∷ 0 ∷ ns
+
+-- ---- what the records say, in a file s whose own stand from the place start on and before END's `##` at stop, with a page p
 
 module _ (s : List ℕ) (start stop : ℕ) (p : List ℕ) where
-  -- 31: an unlisted word of this record, or what the others say
-  unfoldable pub judged : List (List ℕ) → Located → Profiled → Profiled
-  judged ws (Located.At x) r = pick (listed ws (textAt s p x)) r (Profiled.Unlisted (x .page) (wordAt s p x))
-  judged ws Located.Absent r = r
-
   unfoldable pub words : List Wanted → Profiled
   words [] = Profiled.Right
-  words (v ∷ vs) = judged (v .words) (located s start stop p (v .name)) (words vs)
-
-  -- 30: this record is absent from both, or what the others say
-  unfoldable pub present : Located → Profiled → Profiled
-  present (Located.At x) r = r
-  present Located.Absent r = Profiled.Lacking
+  words (v ∷ vs) = judged s p (v .words) (located s start stop p (v .name)) (words vs)
 
   unfoldable pub records : List Wanted → Profiled → Profiled
   records [] r = r
   records (v ∷ vs) r = present (located s start stop p (v .name)) (records vs r)
 
+  -- every 30 before any 31
   unfoldable pub profiled : Profiled
   profiled = records wanted (words wanted)
-
-  -- "shown where it stands": three numbers a record, whether it is on the page, and from where up to where its text stands
-  unfoldable pub numbers : Located → List ℕ → List ℕ
-  numbers (Located.At x) ns = pick (x .page) 1 0 ∷ x .from ∷ x .to ∷ ns
-  numbers Located.Absent ns = 0 ∷ 0 ∷ 0 ∷ ns
 
   unfoldable pub allNumbers : List Wanted → List ℕ
   allNumbers [] = []

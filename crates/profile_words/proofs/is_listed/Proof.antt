@@ -2,7 +2,6 @@
 use mathlib.Core.Path.{refl}
 use borrow.Author.Needs.{needs}
 use Rattle.profile_spec.specs.Wanted.{wanted}
-use Rattle.profile_spec.specs.Profile.{anyWord}
 use Rattle.profile_words.proofs.WordTurns.{no-words, one-of}
 use Rattle.profile_words.proofs.is_listed.Statement.{statement}
 use Rattle.profile_words.proofs.is_listed.Tie as tie
