@@ -104,14 +104,14 @@ pub data ProfileAnswer : Type 0 where
   accept-profile : FileTable → List ℕ → List ℕ → ProfileAnswer
 
 -- 30 stands at END's `##`, in the file
-unfoldable pub byRecords : FileTable → List ℕ → List ℕ → ℕ → Profiled → ProfileAnswer
-byRecords t ys ns stop Profiled.Right = accept-profile t ys ns
-byRecords t ys ns stop Profiled.Lacking = refuse-profile false 30 stop
-byRecords t ys ns stop (Profiled.Unlisted q a) = refuse-profile q 31 a
+unfoldable pub byProfiled : FileTable → List ℕ → List ℕ → ℕ → Profiled → ProfileAnswer
+byProfiled t ys ns stop Profiled.Right = accept-profile t ys ns
+byProfiled t ys ns stop Profiled.Lacking = refuse-profile false 30 stop
+byProfiled t ys ns stop (Profiled.Unlisted q a) = refuse-profile q 31 a
 
 -- the records of the profile, in an accepted file whose labels say this
 unfoldable pub byProfile : List ℕ → List ℕ → FileTable → List ℕ → Labelled → ProfileAnswer
-byProfile s p t ys (Labelled.Places m e x) = byRecords t ys (allNumbers s (suc e) x p wanted) x (profiled s (suc e) x p)
+byProfile s p t ys (Labelled.Places m e x) = byProfiled t ys (allNumbers s (suc e) x p wanted) x (profiled s (suc e) x p)
 byProfile s p t ys (Labelled.Refused r) = refuse-profile false (r .number) (r .place)
 
 -- what the plain reader refuses is refused so

@@ -1,0 +1,58 @@
+-- `profile::read_profile` meets its contract: what was checked is stored, and a fault is shown with line and column where it stands.
+use borrow.Author.Needs.{needs}
+use Rattle.profile.proofs.ReadTurns.{read-refused, read-right}
+use Rattle.profile.proofs.read_profile.Statement.{statement}
+use Rattle.profile.proofs.read_profile.Tie as tie
+
+slice-aggregate-check-profile : tie.Need-slice-aggregate-check-profile
+slice-aggregate-check-profile c = search needs
+
+check-profile-requires : tie.Need-check-profile-requires
+check-profile-requires c κs = search needs
+
+enum-known-q : tie.Need-enum-known-q
+enum-known-q c = search needs
+
+refuse-requires : tie.Need-refuse-requires
+refuse-requires c κs = search needs
+
+enum-known-k : tie.Need-enum-known-k
+enum-known-k c = search needs
+
+store-file-requires : tie.Need-store-file-requires
+store-file-requires c κs = let x = rw (c .before .before .before .k .given .1) at (c .before .before .before .before .before .before .check-profile .ensures) in x .says .laid
+
+slice-aggregate-store-numbers : tie.Need-slice-aggregate-store-numbers
+slice-aggregate-store-numbers c = search needs
+
+store-numbers-requires : tie.Need-store-numbers-requires
+store-numbers-requires c κs = search needs
+
+returns : tie.Need-returns
+returns c = read-refused _ _ _ _ _ _ _ (rw (c .before .before .q .given .1) at (c .before .before .before .before .before .check-profile .ensures)) _ (c .refuse .ensures)
+
+same-length : tie.Need-same-length
+same-length c = search needs
+
+same-length-2 : tie.Need-same-length-2
+same-length-2 c = search needs
+
+returns-2 : tie.Need-returns-2
+returns-2 c = read-right _ _ _ _ _ _ (rw (c .before .before .before .before .before .before .before .before .before .before .k .given .1) at (c .before .before .before .before .before .before .before .before .before .before .before .before .before .check-profile .ensures)) _ (c .before .before .before .before .before .before .store-file .ensures) _ (c .before .before .store-numbers .ensures)
+
+pub read-profile-spec : {M : Type 1} → statement M
+read-profile-spec =
+    tie.close
+    (tie.spec
+    slice-aggregate-check-profile
+    check-profile-requires
+    enum-known-q
+    refuse-requires
+    enum-known-k
+    store-file-requires
+    slice-aggregate-store-numbers
+    store-numbers-requires
+    returns
+    same-length
+    same-length-2
+    returns-2)
