@@ -27,7 +27,8 @@ use Rattle.file_write_spec.specs.declared.FileLength.{FileLength}
 use Rattle.file_write_spec.specs.declared.FileWritten.{FileWritten}
 use Rattle.file_write.specs.Answers.{FileTells}
 use Rattle.file_write.specs.Answers as file-writing
-use Rattle.host.specs.Answers.{refusedOf, flag, flags, no-flags, tableAnswer, TableTold, textAnswer, OutcomeTold, no-form, writeForm, bits, fileAnswer, FileTold, recordAnswer, RecordTold}
+use Rattle.host_numbers.specs.Numbers.{refusedOf, flag, flags, no-flags, bits}
+use Rattle.host.specs.Answers.{tableAnswer, TableTold, textAnswer, OutcomeTold, no-form, writeForm, fileAnswer, FileTold, recordAnswer, RecordTold}
 
 -- ---- a table read
 

@@ -1,9 +1,8 @@
 -- What a C host is told: the numbers of the answer's struct, in the header's order, and the first of them once more as the result. What is not given is 0. Assumes nothing.
 use mathlib.Core.Path.{_≡_}
-use mathlib.Core.Bool.{Bool}
 use mathlib.Core.List.{List, [], _∷_}
 use Prim.Native.Nat.{ℕ, _+_, _-_}
-use lib.IntN.{ℤ, pos, negsuc}
+use lib.IntN.{ℤ, pos}
 use lib.Dec.{eqb}
 use lib.ListN.{length, getD}
 use Rattle.terms.specs.Logic.{pick}
@@ -18,13 +17,8 @@ use Rattle.label_spec.specs.declared.Record.{Record}
 use Rattle.file_write_spec.specs.File.{file-exact, writeFile}
 use Rattle.file_write_spec.specs.declared.GivenDecimal.{GivenDecimal}
 use Rattle.file_write_spec.specs.declared.Scales.{Scales}
-use Rattle.file_spec.specs.declared.Exactness.{Exactness}
+use Rattle.host_numbers.specs.Numbers.{refusedOf, flags, no-flags, bits}
 use Rattle.file_spec.specs.File.{FileAnswer, refuse-file, accept-file, readFile, storedFile}
-
--- refused (0: accepted) is the first number of each answer
-abbrev pub refusedOf : List ℕ → ℕ
-refusedOf [] = 0
-refusedOf (c ∷ rest) = c
 
 -- a table read: refused, place, line, column, points
 abbrev pub tableAnswer : ℕ → List ℕ → Answer → List ℕ
@@ -35,16 +29,6 @@ pub record TableTold (f l : ℤ) (n : ℕ) (body : List ℕ) (out out' : List �
   pub numbers : answer ≡ tableAnswer n body (readTable f l n body (length out))
   pub returned : r ≡ refusedOf (tableAnswer n body (readTable f l n body (length out)))
   pub leaves : out' ≡ stored out (readTable f l n body (length out))
-
--- whether F, L and FIRSTY's quotient are exact: 1, or 0 for what was rounded (02, T-08); three zeros for a table, and after a refusal
-abbrev pub flag : Bool → ℕ
-flag exact = pick exact 1 0
-
-abbrev pub flags : Exactness → List ℕ
-flags e = flag (e .first) ∷ flag (e .last) ∷ flag (e .firsty) ∷ []
-
-abbrev pub no-flags : List ℕ
-no-flags = 0 ∷ 0 ∷ 0 ∷ []
 
 -- a text written: refused, length, what is exact
 abbrev pub textAnswer : List ℕ → Outcome → List ℕ
@@ -77,11 +61,6 @@ writeForm k f l n ys space =
 -- a table written in the form of a number
 abbrev pub FormTold : ℕ → ℤ → ℤ → ℕ → List ℤ → List ℕ → List ℕ → List ℕ → ℕ → Type 0
 FormTold k f l n ys text text' answer r = OutcomeTold no-flags (writeForm k f l n ys (length text)) text text' answer r
-
--- a number with a sign in 64 bits, in two's complement, as C has it
-abbrev pub bits : ℤ → ℕ
-bits (pos n) = n
-bits (negsuc n) = 18446744073709551615 - n
 
 -- a file read: refused, place, line, column, points, first, last, what is exact
 abbrev pub fileAnswer : List ℕ → FileAnswer → List ℕ

@@ -2,7 +2,8 @@
 // Every argument is answered, every number is set, and what is not given is 0.
 ghost use mathlib.Core.Path.{_≡_};
 ghost use Rattle.table_spec.specs.declared.Style.the-variants.{Difdup};
-ghost use Rattle.host.specs.Answers.{bits, flag, TableTold, TextTold, FormTold, FileTold, scalesOf, FileTextTold, RecordTold};
+ghost use Rattle.host.specs.Answers.{TableTold, TextTold, FormTold, FileTold, scalesOf, FileTextTold, RecordTold};
+ghost use Rattle.host_profile.specs.Answers.{ProfileTold};
 ghost use Rattle.host.specs.Blocks.{BlocksTold, BlockTold, BlockRecordTold};
 use compound_spec::BlockRead;
 use compound_spec::BlocksFound;
@@ -10,6 +11,9 @@ use file_spec::FileRead;
 use file_write_spec::FileWritten;
 use file_write_spec::GivenDecimal;
 use file_write_spec::Scales;
+use host_numbers::bits_of;
+use host_numbers::flag_of;
+use host_profile::tell_profile;
 use label_spec::Record;
 use table_spec::Style;
 use terms::TableRead;
@@ -107,27 +111,6 @@ pub extern "C" fn lastarunc_write_form(
             NO_FORM
         }
     }
-}
-
-// A number with a sign, as C has it in 64 bits.
-fn bits_of(x: i64) -> u64
-    ensures { λ r. ⌜ r ≡ bits x ⌝ }
-{
-    if x < 0 {
-        let below = -1 - x;
-        return 18446744073709551615 - below as u64;
-    }
-    x as u64
-}
-
-// Whether something is exact, as C has it (02, T-08): 1, or 0.
-fn flag_of(exact: bool) -> u64
-    ensures { λ r. ⌜ r ≡ flag exact ⌝ }
-{
-    if exact {
-        return 1;
-    }
-    0
 }
 
 // Reads a file: refused, place, line, column, points, first, last, and whether F, L and FIRSTY's quotient are exact.
@@ -360,4 +343,19 @@ pub extern "C" fn lastarunc_find_in_block(
             r.number
         }
     }
+}
+
+// Reads a profile (02, T-09), with the site's page beside the file: refused, place, line, column, points, first, last, whether F, L and FIRSTY's quotient are exact, and whether the refusal is on
+// the page. `shown` has three numbers a record in 001's order: whether it is on the page, and from where up to where its text stands.
+#[no_mangle]
+pub extern "C" fn lastarunc_read_profile(
+    file: &[u8],
+    page: &[u8],
+    out: &mut [i32],
+    shown: &mut [u64; 45],
+    answer: &mut [u64; 11],
+) -> u64
+    ensures { λ r. ⌜ ProfileTold (now (file .entry)) (now (page .entry)) (now (out .entry)) (now (out .exit)) (now (shown .entry)) (now (shown .exit)) (now (answer .exit)) r ⌝ }
+{
+    tell_profile(file, page, out, shown, answer)
 }

@@ -1,8 +1,8 @@
--- `host::bits_of` meets its contract: a number with a sign, as C has it in 64 bits.
+-- `host_numbers::bits_of` meets its contract: a number with a sign, as C has it in 64 bits.
 use mir.Facts.{toZ-ofZ}
-use Rattle.host.proofs.Bits.{below-fits, under-cast, under-small, under-bits, over-cast, over-bits}
-use Rattle.host.proofs.bits_of.Statement.{statement}
-use Rattle.host.proofs.bits_of.Tie as tie
+use Rattle.host_numbers.proofs.Bits.{below-fits, under-cast, under-small, under-bits, over-cast, over-bits}
+use Rattle.host_numbers.proofs.bits_of.Statement.{statement}
+use Rattle.host_numbers.proofs.bits_of.Tie as tie
 
 sub-below : tie.Need-sub-below
 sub-below c = let e = toZ-ofZ (c .before .fits .x) in rw e (below-fits _ (rw e at (c .if1 .taken)) (c .before .fits .x))

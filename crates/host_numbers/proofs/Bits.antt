@@ -11,7 +11,7 @@ use mir.Val.{Fits, SFits, toZ, ofZ}
 use mir.Facts.{toZ-ofZ}
 use borrow.Author.Tests.{le-ltb, ltb-true}
 use Rattle.terms.specs.Logic.{no-way}
-use Rattle.host.specs.Answers.{bits}
+use Rattle.host_numbers.specs.Numbers.{bits}
 
 -- -1 less a number below zero
 below : (n : ℕ) → negsuc 0 -ℤ negsuc n ≡ pos n
