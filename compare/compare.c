@@ -177,6 +177,7 @@ enum kind_of_case {
     WRITTEN_FILES,
     COMPOUND,
     BLOCK_RECORDS,
+    PROFILES,
     KINDS
 };
 static const struct {
@@ -193,6 +194,7 @@ static const struct {
     [WRITTEN_FILES] = {"files to write", ""},
     [COMPOUND] = {"files as compound ones", ""},
     [BLOCK_RECORDS] = {"records of blocks", "absent"},
+    [PROFILES] = {"files with a page", ""},
 };
 
 static unsigned long passed, failed;
@@ -731,6 +733,95 @@ static void compare_block_record(void)
     free(name);
 }
 
+/* A file to be read with a page beside it, and the second reader's answer. */
+struct profile_case {
+    uint32_t room, length, page_length;
+    uint8_t *file, *page;
+    struct refusal right;
+    int64_t on_page, points, first, last;
+    struct exact exact;
+    struct lastarunc_shown shown[LASTARUNC_WANTED];
+    int32_t *expected;
+};
+
+static struct profile_case take_profile(void)
+{
+    struct profile_case c = {.room = take_u32()};
+    c.length = take_u32();
+    c.file = take_bytes(c.length);
+    c.page_length = take_u32();
+    c.page = take_bytes(c.page_length);
+    c.right = take_refusal();
+    c.on_page = take_u32();
+    if (!c.right.number) {
+        c.points = take_i64();
+        c.first = take_i64();
+        c.last = take_i64();
+        c.exact = take_exact();
+        for (int k = 0; k < LASTARUNC_WANTED; k++) {
+            c.shown[k].on_page = take_u32();
+            c.shown[k].from = take_i64();
+            c.shown[k].to = take_i64();
+        }
+    }
+    c.expected = take_ordinates((size_t)c.points);
+    return c;
+}
+
+/* What is wrong with an answer, or with what was lent; NULL if nothing is. */
+static const char *profile_differs(const struct profile_case *c, int64_t returned,
+                                   const struct lastarunc_profile *answer, const struct lastarunc_shown *shown)
+{
+    struct refusal here = {answer->refused, answer->place, answer->line, answer->column};
+    struct exact exact = {answer->first_exact, answer->last_exact, answer->firsty_exact};
+    const char *difference = refusal_differs(returned, here, c->right);
+    if (!difference && answer->on_page != c->on_page)
+        difference = "file or page";
+    if (!difference && (answer->points != c->points || answer->first != c->first || answer->last != c->last))
+        difference = "N, F or L";
+    if (!difference && !is_same(exact, c->exact))
+        difference = "what is exact";
+    if (!difference && guard_altered(answer, sizeof *answer))
+        difference = "what stands behind the answer is altered";
+    struct lastarunc_shown *untouched = filled_bytes(sizeof c->shown);
+    if (!difference && memcmp(shown, c->right.number ? untouched : c->shown, sizeof c->shown))
+        difference = "where the texts stand";
+    free(untouched);
+    return difference;
+}
+
+static void compare_profile(void)
+{
+    struct profile_case c = take_profile();
+    uint8_t *file = copy_of(c.file, c.length), *page = copy_of(c.page, c.page_length);
+    int32_t *out = filled_ordinates(c.room);
+    struct lastarunc_shown *shown = filled_bytes(sizeof c.shown);
+    struct lastarunc_profile *answer = filled_bytes(sizeof *answer);
+    int64_t returned = lastarunc_read_profile(file, c.length, page, c.page_length, out, c.room, shown, answer);
+
+    const char *difference = profile_differs(&c, returned, answer, shown);
+    if (!difference && (memcmp(file, c.file, c.length) || memcmp(page, c.page, c.page_length)))
+        difference = "the file or the page is altered";
+    if (!difference)
+        difference = ordinates_differ(out, c.room, c.expected, (size_t)c.points);
+    if (counted(PROFILES, c.right.number, difference)) {
+        show_bytes("file", c.file, c.length);
+        show_bytes("page", c.page, c.page_length);
+        show_refusal("second", c.right);
+        printf(", on page %" PRId64 "\n", c.on_page);
+        show_refusal("here", (struct refusal){answer->refused, answer->place, answer->line, answer->column});
+        printf(", on page %" PRId64 ", returned %" PRId64 "\n", answer->on_page, returned);
+    }
+    free(file);
+    free(page);
+    free(out);
+    free(shown);
+    free(answer);
+    free(c.file);
+    free(c.page);
+    free(c.expected);
+}
+
 /* A file to be written into `room` bytes, and the second writer's answer: F and L, and a text of `length` bytes. */
 struct file_case {
     uint32_t title_length, n, room;
@@ -931,6 +1022,9 @@ int main(void)
             break;
         case 'K':
             compare_block_record();
+            break;
+        case 'P':
+            compare_profile();
             break;
 #endif
         default:

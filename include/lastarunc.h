@@ -94,6 +94,39 @@ struct lastarunc_blocks {
     int64_t compound, blocks;
 };
 
+/* The records that the ion mobility profile wants (document 001), in the order in which they are looked for. */
+enum lastarunc_wanted {
+    LASTARUNC_JCAMP_DX,
+    LASTARUNC_DATA_TYPE,
+    LASTARUNC_DATA_CLASS,
+    LASTARUNC_ORIGIN,
+    LASTARUNC_OWNER,
+    LASTARUNC_IMS_PRESSURE,
+    LASTARUNC_CARRIER_GAS,
+    LASTARUNC_DRIFT_GAS,
+    LASTARUNC_ELECTRIC_FIELD,
+    LASTARUNC_ION_POLARITY,
+    LASTARUNC_IONIZATION_MODE,
+    LASTARUNC_IMS_TEMPERATURE,
+    LASTARUNC_SHUTTER_OPENING_TIME,
+    LASTARUNC_XUNITS,
+    LASTARUNC_YUNITS,
+    LASTARUNC_WANTED /* how many they are */
+};
+
+/* Where a text is shown: bytes `from` up to, not with, `to`, of the file, or of the page if on_page is 1. */
+struct lastarunc_shown {
+    int64_t on_page, from, to;
+};
+
+/* What lastarunc_read_profile answers: as struct lastarunc_file, and whether a refusal counts in the page (1). */
+struct lastarunc_profile {
+    int64_t refused, place, line, column;
+    int64_t points, first, last;
+    int64_t first_exact, last_exact, firsty_exact;
+    int64_t on_page;
+};
+
 /* A decimal: mantissa times ten to the exponent. */
 struct lastarunc_decimal {
     int64_t mantissa, exponent;
@@ -213,6 +246,20 @@ int64_t lastarunc_read_block(const uint8_t *file, size_t file_len, const struct 
  */
 int64_t lastarunc_find_in_block(const uint8_t *file, size_t file_len, const struct lastarunc_block *block,
                                 const uint8_t *name, size_t name_len, struct lastarunc_record *answer);
+
+/*
+ * Reads a simple file as lastarunc_read_file does, and wants the fifteen records of the ion mobility profile, with the
+ * words that document 001 lists. A record's text is taken from the file if that has the record, be it empty, and
+ * otherwise from the site's page: a run of records without TITLE and END, of which the first with a name counts.
+ * Accepted: as lastarunc_read_file, and shown[LASTARUNC_ORIGIN] and so on say where the fifteen texts stand.
+ * Refused: out and shown are as they were. What lastarunc_read_file refuses is refused so; then
+ *     30   a record is absent from both; place, line and column are those of the file's END
+ *     31   a text is no listed word; place, line and column are the word's, or the text's end if it has none, in the
+ *          page if answer->on_page is 1, otherwise in the file
+ */
+int64_t lastarunc_read_profile(const uint8_t *file, size_t file_len, const uint8_t *page, size_t page_len, int32_t *out,
+                               size_t out_len, struct lastarunc_shown shown[LASTARUNC_WANTED],
+                               struct lastarunc_profile *answer);
 
 #ifdef __cplusplus
 }

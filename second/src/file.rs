@@ -169,7 +169,7 @@ fn labels(file: &[u8]) -> Result<Vec<Label>, Refusal> {
 }
 
 /// The records of a file: 19; 21; then 20, 22, 23, 24.
-fn records(file: &[u8]) -> Result<Records, Refusal> {
+pub fn records(file: &[u8]) -> Result<Records, Refusal> {
     if file.len() > LONGEST {
         return Err(refusal(19, 0));
     }
@@ -199,6 +199,16 @@ impl Record {
     fn place(&self, file: &[u8]) -> usize {
         let ends_line = |at: usize| file[at] == b'\n' || (file[at] == b'\r' && file.get(at + 1) == Some(&b'\n'));
         (self.from..self.to).find(|at| !is_blank(file[*at]) && !ends_line(*at)).unwrap_or(self.to)
+    }
+
+    /// Where the text begins.
+    pub fn from(&self) -> usize {
+        self.from
+    }
+
+    /// Where the text ends.
+    pub fn to(&self) -> usize {
+        self.to
     }
 
     /// The text, from and to.

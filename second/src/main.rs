@@ -12,6 +12,7 @@ mod heads;
 mod lengths;
 mod line;
 mod plain;
+mod profile;
 mod random;
 mod selftest;
 mod stored;
@@ -31,7 +32,9 @@ const PROGRAM_POINTS: u64 = 4_096;
 
 /// Prints how the program is used, and ends it.
 fn usage() -> ! {
-    eprintln!("second cases --seed S --bodies A --writes B --files C --written-files D --compound E > stream");
+    eprintln!(
+        "second cases --seed S --bodies A --writes B --files C --written-files D --compound E --profiles G > stream"
+    );
     eprintln!("second stored --seed S --bodies A --writes B --files C --written-files D --cases PATH --answers PATH");
     eprintln!("second count < stream");
     eprintln!("second body F L N [--room R] < body");
@@ -80,7 +83,7 @@ fn cases_command(arguments: &[String]) -> io::Result<()> {
     let out = &mut BufWriter::new(io::stdout().lock());
     let number = |name| option(arguments, name, 0) as usize;
     let seed = option(arguments, "--seed", 1);
-    let counts = ["--bodies", "--writes", "--files", "--written-files", "--compound"].map(number);
+    let counts = ["--bodies", "--writes", "--files", "--written-files", "--compound", "--profiles"].map(number);
     cases::write_cases(out, seed, counts)?;
     out.flush()
 }

@@ -6,6 +6,7 @@ mod exact;
 mod forms;
 mod heads;
 mod lengths;
+mod profile;
 mod written_files;
 
 use crate::body::read_body;
@@ -592,6 +593,7 @@ pub fn run() -> i32 {
     check_lines(report);
     compound::check(report);
     exact::check(report);
+    profile::check(report);
     let random = &mut Random::new(7);
     check_spellings(report, random);
     check_written(report, random);

@@ -9,6 +9,7 @@ use crate::frame::{Frame, Refusal};
 use crate::heads::{tried, TRIED};
 use crate::lengths;
 use crate::line::Told;
+use crate::profile::{read_profile, WANTED};
 use crate::text::{write_body, TextForm};
 use std::collections::BTreeMap;
 use std::io::{self, Read, Write};
@@ -94,6 +95,13 @@ pub struct RecordCase {
 #[derive(Clone)]
 pub struct CompoundCase {
     pub file: Vec<u8>,
+    pub room: u32,
+}
+
+/// A file to be read with the profile, beside a site's page.
+pub struct ProfileCase {
+    pub file: Vec<u8>,
+    pub page: Vec<u8>,
     pub room: u32,
 }
 
@@ -251,6 +259,34 @@ pub fn put_compound_case(out: &mut impl Write, case: &CompoundCase) -> io::Resul
     Ok(())
 }
 
+/// Writes a case of a file with a page: the refusal, and whether it counts in the page; then N, F and L, what is exact,
+/// where the fifteen texts stand, and the ordinates.
+pub fn put_profile_case(out: &mut impl Write, case: &ProfileCase) -> io::Result<()> {
+    out.write_all(b"P")?;
+    put_u32(out, case.room)?;
+    put_bytes(out, &case.file)?;
+    put_bytes(out, &case.page)?;
+    match read_profile(&case.file, &case.page, case.room as usize) {
+        Err(refused) => {
+            let text = if refused.on_page { &case.page } else { &case.file };
+            put_told(out, refused.fault.told(text))?;
+            put_u32(out, u32::from(refused.on_page))
+        }
+        Ok((table, shown)) => {
+            put_told(out, Told::default())?;
+            put_u32(out, 0)?;
+            put_frame_of_file(out, table.points, table.first, table.last)?;
+            put_exact(out, table.exact)?;
+            for part in shown {
+                put_u32(out, u32::from(part.on_page))?;
+                put_u64(out, part.from as u64)?;
+                put_u64(out, part.to as u64)?;
+            }
+            put_ordinates(out, &table.ordinates)
+        }
+    }
+}
+
 /// Writes a case of a data block's record and its answer; a block that is not there is absent too.
 pub fn put_block_record_case(out: &mut impl Write, case: &BlockRecordCase) -> io::Result<()> {
     out.write_all(b"K")?;
@@ -303,6 +339,8 @@ struct Stream<R: Read> {
     close: usize,
     /// How many accepted files have F, L and FIRSTY's quotient exact, and not.
     exact: BTreeMap<[bool; 3], usize>,
+    /// How many texts of accepted profiles stand in the file, and on the page.
+    shown: [usize; 2],
     /// How many data blocks of compound files have each answer.
     blocks: BTreeMap<u32, usize>,
     /// How many files to be written tried each of `file_tried::TRIED`.
@@ -367,6 +405,7 @@ impl<R: Read> Stream<R> {
             b'V' => Ok(named("V", self.written_file_case()?)),
             b'C' => self.compound_case(),
             b'K' => Ok(named("K", self.block_record_case()?)),
+            b'P' => self.profile_case(),
             _ => Err(io::Error::new(io::ErrorKind::InvalidData, "no such kind of case")),
         }
     }
@@ -453,6 +492,26 @@ impl<R: Read> Stream<R> {
         Ok((name, number, file.len()))
     }
 
+    /// The rest of a case of a file with a page, which is told by the text that its refusal counts in.
+    fn profile_case(&mut self) -> io::Result<(&'static str, u32, usize)> {
+        self.u32()?;
+        let file = self.counted()?;
+        let page = self.counted()?;
+        let number = self.told()?;
+        let on_page = self.u32()? == 1;
+        if number == 0 {
+            let points = self.u64()? as usize;
+            self.bytes(16 + 12)?;
+            for _ in &WANTED {
+                let there = self.u32()? == 1;
+                self.bytes(16)?;
+                self.shown[usize::from(there)] += 1;
+            }
+            self.bytes(4 * points)?;
+        }
+        Ok((if on_page { "P on the page" } else { "P" }, number, file.len() + page.len()))
+    }
+
     /// The rest of a case of a block's record.
     fn block_record_case(&mut self) -> io::Result<(u32, usize)> {
         let length = self.counted()?.len();
@@ -498,6 +557,7 @@ pub fn count(input: impl Read) -> io::Result<()> {
         tried_lines,
         close: 0,
         exact: BTreeMap::new(),
+        shown: [0; 2],
         blocks: BTreeMap::new(),
         tried_files,
     };
@@ -531,6 +591,7 @@ pub fn count(input: impl Read) -> io::Result<()> {
         let word = |exact: &bool| if *exact { "exact" } else { "rounded" };
         println!("files accepted, F {}, L {}, FIRSTY {}: {times}", word(first), word(last), word(first_y));
     }
+    println!("texts of profiles, in the file: {}, on the page: {}", stream.shown[0], stream.shown[1]);
     for (number, times) in &stream.blocks {
         let answer = if *number == 0 { "accepted".into() } else { format!("refused {number}") };
         println!("data blocks of compound files, {answer}: {times}");
