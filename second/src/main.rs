@@ -42,6 +42,7 @@ fn usage() -> ! {
     eprintln!("second write-file T N XFACTOR YFACTOR FIRSTX LASTX FIRSTY [--room R] < title and ordinates");
     eprintln!("second file [--whole] [--room R] < file    (--whole: the library's limits, not the program's)");
     eprintln!("second compound [--room R] < file    (with the library's limits)");
+    eprintln!("second profile PAGE [--room R] < file    (PAGE: a file; with the library's limits)");
     eprintln!("second selftest");
     exit(2)
 }
@@ -191,6 +192,24 @@ fn compound_command(arguments: &[String]) -> io::Result<()> {
     Ok(())
 }
 
+/// Reads a file from standard input with the profile, beside the page that is named: the fifteen texts first.
+fn profile_command(arguments: &[String]) -> io::Result<()> {
+    let [page, ..] = arguments else { usage() };
+    let (file, page) = (input()?, std::fs::read(page)?);
+    let room = option(arguments, "--room", u64::MAX) as usize;
+    match profile::read_profile(&file, &page, room) {
+        Err(refused) if refused.on_page => println!("page: {}", refused.fault.told(&page)),
+        Err(refused) => println!("file: {}", refused.fault.told(&file)),
+        Ok((table, shown)) => {
+            for (wanted, part) in profile::WANTED.iter().zip(shown) {
+                println!("{} {} {} {}", if part.on_page { "page" } else { "file" }, part.from, part.to, wanted.label);
+            }
+            print_answer(&file, Ok((table.points, table.first, table.last, table.ordinates)));
+        }
+    }
+    Ok(())
+}
+
 /// Does what the first argument asks for.
 fn main() -> io::Result<()> {
     let arguments: Vec<String> = std::env::args().skip(1).collect();
@@ -203,6 +222,7 @@ fn main() -> io::Result<()> {
         Some("write-file") => write_file_command(&arguments[1..]),
         Some("file") => file_command(&arguments[1..]),
         Some("compound") => compound_command(&arguments[1..]),
+        Some("profile") => profile_command(&arguments[1..]),
         Some("selftest") => exit(selftest::run()),
         _ => usage(),
     }
