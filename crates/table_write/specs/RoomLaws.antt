@@ -28,7 +28,8 @@ use Rattle.table_write.specs.Room.{enough, ceiling, Measured, ByRoom, re
 
 -- ---- by room, whatever is written
 
-fits-most : (t : List ℕ) (space : ℕ) → length t ≤ space → fitted space t ≡ wrote t
+-- room for a text
+pub fits-most : (t : List ℕ) (space : ℕ) → length t ≤ space → fitted space t ≡ wrote t
 fits-most t space h = rw (le-ltb space (length t) h) refl
 
 module _ {x : ℕ → Outcome} {most : ℕ} (b : ByRoom x most) where
