@@ -7,9 +7,8 @@ use native.Mathlib.Omega.{arith}
 use lib.IntN.{ℤ, pos}
 use lib.ListN.{length, getD}
 use borrow.Author.Tests.{lt-ltb, le-ltb}
-use Rattle.terms.specs.Refusals.{fault-at}
 use Rattle.table_spec.specs.Frame.{frame-legal, ordinate-of}
-use Rattle.table_spec.specs.Writing.{Outcome, declined, fitted, laid}
+use Rattle.table_spec.specs.Writing.{Outcome, declined, fitted}
 use Rattle.decimal_spec.specs.declared.Rounded.{Rounded}
 use Rattle.frame.specs.declared.Frame.{Frame}
 use Rattle.frame.specs.Legal.{Sound}
@@ -19,10 +18,9 @@ use Rattle.file_spec.specs.declared.Decimal.{Decimal}
 use Rattle.file_spec.specs.declared.Numbers.{Numbers}
 use Rattle.file_spec.specs.declared.Exactness.{Exactness}
 use Rattle.file_spec.specs.Figures.{ratio, whole, agrees}
-use Rattle.file_write_spec.specs.declared.FileWritten.{FileWritten}
 use Rattle.file_write_spec.specs.File.{ordinates}
 use Rattle.file_lines.specs.Lines.{Writable, AllWritable}
-use Rattle.file_plan.specs.Stages.{laidOut, bodyOf, Scaled, inFrame, first-from, last-from, fromNumbers, Planning, Plans}
+use Rattle.file_plan.specs.Stages.{laidOut, bodyOf, Scaled, inFrame, first-from, last-from, fromNumbers, Plans}
 use Rattle.file_plan.specs.declared.Planned.{Planned}
 
 -- a stage that is what a later one is

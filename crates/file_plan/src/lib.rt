@@ -1,6 +1,4 @@
 // What is tested before a file is written (02, T-04), and before its length is told (T-10): the title, the decimals, F and L, the frame and the ordinates. Nothing is written.
-ghost use mathlib.Core.Path.{_≡_};
-ghost use Prim.Native.Nat.{ℕ};
 ghost use Rattle.file_write_spec.specs.File.{file-exact, writeFile};
 ghost use Rattle.figure.specs.Carried.{Carried};
 ghost use Rattle.file_plan.specs.Stages.{Scaled, exactIn, inFrame, fromNumbers, Plans, PlansAll};
