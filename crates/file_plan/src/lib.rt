@@ -96,7 +96,8 @@ fn plan_numbers(n: Numbers, ordinates: &[i32]) -> Planned
 
 // The tests of a file, in the order of the refusals: the title (37), the decimals (26), then what their numbers say.
 pub fn plan_file(title: &[u8], points: usize, scales: Scales, ordinates: &[i32]) -> Planned
-    ensures { λ r. ⌜ Plans (writeFile (now (title .entry)) points scales (now (ordinates .entry))) (file-exact scales points (now (ordinates .entry))) (now (title .entry)) (now (ordinates .entry)) r ⌝ }
+    ensures { λ r. ⌜ Plans (writeFile (now (title .entry)) points scales (now (ordinates .entry))) (file-exact scales points (now (ordinates .entry)))
+        (now (title .entry)) (now (ordinates .entry)) r ⌝ }
 {
     if !title_fair(title) {
         return Planned::Refused(37);

@@ -56,7 +56,8 @@ fn lay(
     text: &mut [u8],
 ) -> FileWritten
     requires { ⌜ (length (now title) ≤ 72) × AllWritable n × Framed first last (n .npoints) (now ordinates) ⌝ }
-    ensures { λ r. ⌜ FileTells exact (fitted (length (now (text .entry))) (laidOut (now (title .entry)) n (bodyOf first last (n .npoints) (now (ordinates .entry))))) (now (text .entry)) (now (text .exit)) r ⌝ }
+    ensures { λ r. ⌜ FileTells exact (fitted (length (now (text .entry))) (laidOut (now (title .entry)) n (bodyOf first last (n .npoints) (now (ordinates .entry)))))
+        (now (text .entry)) (now (text .exit)) r ⌝ }
 {
     let head = heading_length(title, n);
     let len = text.len();
@@ -108,7 +109,8 @@ pub fn write_file(
     ordinates: &[i32],
     text: &mut [u8],
 ) -> FileWritten
-    ensures { λ r. ⌜ FileTells (file-exact scales points (now (ordinates .entry))) (writeFile (now (title .entry)) points scales (now (ordinates .entry)) (length (now (text .entry)))) (now (text .entry)) (now (text .exit)) r ⌝ }
+    ensures { λ r. ⌜ FileTells (file-exact scales points (now (ordinates .entry)))
+        (writeFile (now (title .entry)) points scales (now (ordinates .entry)) (length (now (text .entry)))) (now (text .entry)) (now (text .exit)) r ⌝ }
 {
     match plan_file(title, points, scales, ordinates) {
         Planned::Refused(number) => refused(number),
