@@ -17,7 +17,8 @@ use Rattle.compound_spec.specs.Compound.{BlocksAnswer, refuse-blocks, one-block
 use Rattle.compound_spec.specs.Answers.{toldBlocks, BlockAnswer, answer, no-block, readBlock, toldBlock, recordInBlock}
 use Rattle.compound_find.specs.Answers.{FindsBlocks}
 use Rattle.compound_read.specs.Answers.{ReadsBlock}
-use Rattle.host.specs.Answers.{refusedOf, bits, absent, recordAnswer, flag, flags, no-flags}
+use Rattle.host_text.specs.Answers.{refusedOf, flag, flags, no-flags}
+use Rattle.host.specs.Answers.{bits, absent, recordAnswer}
 use Rattle.host.specs.Blocks.{blocksAnswer, BlocksTold, blockAnswer, startOf, endOf, fromOf, BlockTold, BlockRecordTold}
 
 -- ---- the data blocks of a file

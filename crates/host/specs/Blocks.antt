@@ -8,7 +8,8 @@ use Rattle.terms.specs.Places.{lineOf, columnOf}
 use Rattle.label_spec.specs.Names.{norm}
 use Rattle.compound_spec.specs.Compound.{BlocksAnswer, refuse-blocks, one-block, all-blocks, findBlocks}
 use Rattle.compound_spec.specs.Answers.{storedBlocks, BlockAnswer, answer, no-block, readBlock, storedBlock, recordInBlock}
-use Rattle.host.specs.Answers.{refusedOf, no-flags, fileAnswer, absent, recordAnswer}
+use Rattle.host_text.specs.Answers.{refusedOf, no-flags}
+use Rattle.host.specs.Answers.{fileAnswer, absent, recordAnswer}
 
 -- the data blocks of a file: refused, place, line, column, whether it is compound, how many
 abbrev pub blocksAnswer : List ℕ → BlocksAnswer → List ℕ
