@@ -17,7 +17,9 @@ use Rattle.terms.specs.declared.TableWritten.the-variants.{Length, Refused}
 use Rattle.label_spec.specs.Names.{END}
 use Rattle.table_spec.specs.declared.Style.the-variants.{Difdup}
 use Rattle.table_spec.specs.Writing.{declined, wrote, fitted, writeTable, laid}
-use Rattle.table_write_law.specs.ReadBack.{wrote-body}
+use Rattle.table_write_law.specs.ReadBack.{wrote-body, wrote-most}
+use Rattle.table_write.specs.Room.{enough, Measured}
+use Rattle.table_write.specs.RoomLaws.{fits-most}
 use Rattle.table_text.specs.Answers.{told, Tells}
 use Rattle.table_text.specs.Pieces.{Put}
 use Rattle.file_spec.specs.declared.Numbers.{Numbers}
@@ -26,8 +28,8 @@ use Rattle.file_write_spec.specs.declared.FileWritten.{FileWritten}
 use Rattle.file_write_spec.specs.Records.{Entry, entryText, entriesText}
 use Rattle.file_write_spec.specs.File.{end-line}
 use Rattle.file_lines.specs.Lines.{headingOf}
-use Rattle.file_write.specs.Answers.{FileTells}
-use Rattle.file_write.specs.Stages.{laidOut, bodyOf, Framed}
+use Rattle.file_write.specs.Answers.{told-file, FileTells}
+use Rattle.file_plan.specs.Stages.{laidOut, bodyOf, Framed}
 use Rattle.file_write.proofs.Laying.{parts-laid}
 
 -- the part of the bytes that the table is lent
@@ -43,7 +45,7 @@ module _ (f l : ℤ) (n : ℕ) (es : List ℤ) (T : Framed f l n es) where
   table-is room = rw (T .legal, le-ltb (length es) n (T .enough)) refl
 
   pub body-bound : length B ≤ 1048576
-  body-bound = wrote-body Difdup f l n es (length B) B (table-is (length B) ∙ rw (le-ltb (length B) (length B) (omega arith)) refl)
+  body-bound = wrote-body Difdup f l n es (length B) B (table-is (length B) ∙ fits-most B (length B) (omega arith))
 
   -- what the table's writer says of the part o
   pub table-refused : (o o' : List ℕ) {x : TableWritten} {r : Fault} → x ≡ Refused r → Tells (writeTable Difdup f l n es (length o)) o o' x → (length o < length B) × (o' ≡ o)
@@ -64,6 +66,12 @@ module _ (f l : ℤ) (n : ℕ) (es : List ℤ) (T : Framed f l n es) where
       (λ _ q a b. zero-one cc) (λ _ q a b. (ltb-false (length o) (length B) q, cc, b)) refl
       (sym e ∙ t .answer ∙ ap told (table-is (length o))) (t .bytes ∙ ap (laid o) (table-is (length o)))
 
+  -- what is said of the table's length
+  pub table-measured : {x : TableWritten} → Measured Difdup f l n es x → x ≡ Length (length B)
+  table-measured e =
+      let most = wrote-most Difdup f l n es (length B) B (table-is (length B) ∙ fits-most B (length B) (omega arith)) in
+      e ∙ ap told (table-is (enough n) ∙ fits-most B (enough n) most)
+
 -- ---- the file
 
 last-entry : (x : Entry) → entriesText (x ∷ []) ≡ entryText x
@@ -83,6 +91,11 @@ module _ (title : List ℕ) (m : Numbers) (body t : List ℕ) where
 
   whole-length : length (laidOut title m body) ≡ length H + length body + 8
   whole-length = omega (arith, length-append H (body ++ G), length-append body G, ending-length)
+
+  -- the lengths of the three parts
+  pub length-whole : {q : Exactness} (h k : ℕ) → h ≡ length H → k ≡ length body
+      → FileWritten.Length (record { length = h + k + 8; exact = q }) ≡ told-file q (wrote (laidOut title m body))
+  length-whole {q} h k e b = let z : h + k + 8 ≡ length (laidOut title m body) = omega (arith, whole-length) in rw z refl
 
   tells-15 : {q : Exactness} {r : FileWritten} → length t < length (laidOut title m body) → r ≡ FileWritten.Refused (fault-at 15 0) → FileTells q (fitted (length t) (laidOut title m body)) t t r
   unfolding laid

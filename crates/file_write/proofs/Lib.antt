@@ -1,4 +1,3 @@
 pub mod Laying
 pub mod LaySteps
-pub mod Joined
-pub mod StageSteps
+pub mod PlanSteps

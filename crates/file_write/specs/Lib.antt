@@ -1,2 +1,3 @@
 pub mod Answers
-pub mod Stages
+pub mod Room
+pub mod RoomLaws

@@ -1,31 +1,27 @@
-// Writing a file (02, T-04): title, N, five decimals and ordinates into the lent bytes; or a refusal, which leaves them as they were.
+// Writing a file (02, T-04): title, N, five decimals and ordinates into the lent bytes, or a refusal, which leaves them as they were; and how long the file is (T-10).
 ghost use mathlib.Core.Path.{_≡_};
 ghost use Prim.Native.Nat.{_≤_};
 ghost use lib.ListN.{length};
 ghost use Rattle.terms.specs.Refusals.{fault-at};
-ghost use Rattle.table_spec.specs.Writing.{fitted};
+ghost use Rattle.table_spec.specs.Writing.{fitted, wrote};
 ghost use Rattle.file_write_spec.specs.File.{file-exact, writeFile};
+ghost use Rattle.file_write_spec.specs.Records.{entriesText};
 ghost use Rattle.file_write_spec.specs.declared.FileWritten.{FileWritten};
-ghost use Rattle.figure.specs.Carried.{Carried};
-ghost use Rattle.file_lines.specs.Lines.{AllWritable};
-ghost use Rattle.file_write.specs.Answers.{FileTells};
-ghost use Rattle.file_write.specs.Stages.{laidOut, bodyOf, Framed, Scaled, exactIn, inFrame, fromNumbers};
-use decimal_spec::Rounded;
-use figure::agree;
-use figure::exact_with;
-use figure::ratio_of;
-use figure::whole_of;
-use file_given::figures_of;
-use file_given::title_fair;
+ghost use Rattle.file_lines.specs.Lines.{AllWritable, headingOf};
+ghost use Rattle.file_plan.specs.Stages.{laidOut, bodyOf, Framed};
+ghost use Rattle.file_write.specs.Answers.{told-file, FileTells};
+ghost use Rattle.file_write.specs.Room.{FileMeasured};
 use file_lines::put_heading;
 use file_lines::put_line;
+use file_plan::Planned;
+use file_plan::plan_file;
 use file_spec::Exactness;
-use file_spec::Figures;
 use file_spec::Numbers;
 use file_write_spec::FileLength;
 use file_write_spec::FileWritten;
 use file_write_spec::Scales;
-use frame::Frame;
+use table_spec::Style;
+use table_write::text_length;
 use table_write::write_table;
 use terms::Fault;
 use terms::TableWritten;
@@ -40,6 +36,15 @@ fn refused(number: u64) -> FileWritten
     FileWritten::Refused(Fault::new(number, 0))
 }
 
+// How long all that stands before the body is: nothing is stored.
+fn heading_length(title: &[u8], n: Numbers) -> usize
+    requires { ⌜ (length (now title) ≤ 72) × AllWritable n ⌝ }
+    ensures { λ r. ⌜ (r ≡ length (entriesText (headingOf (now (title .entry)) n))) × (r ≤ 960) ⌝ }
+{
+    let mut none = [0u8; 1];
+    put_heading(&mut none[..0], title, n)
+}
+
 // The file of a table that can be written: the body first, behind the room of the heading, so that nothing is altered where it does not fit (15).
 fn lay(
     title: &[u8],
@@ -51,10 +56,10 @@ fn lay(
     text: &mut [u8],
 ) -> FileWritten
     requires { ⌜ (length (now title) ≤ 72) × AllWritable n × Framed first last (n .npoints) (now ordinates) ⌝ }
-    ensures { λ r. ⌜ FileTells exact (fitted (length (now (text .entry))) (laidOut (now (title .entry)) n (bodyOf first last (n .npoints) (now (ordinates .entry))))) (now (text .entry)) (now (text .exit)) r ⌝ }
+    ensures { λ r. ⌜ FileTells exact (fitted (length (now (text .entry))) (laidOut (now (title .entry)) n (bodyOf first last (n .npoints) (now (ordinates .entry)))))
+        (now (text .entry)) (now (text .exit)) r ⌝ }
 {
-    let mut none = [0u8; 1];
-    let head = put_heading(&mut none[..0], title, n);
+    let head = heading_length(title, n);
     let len = text.len();
     if len < head + END_LINE {
         return refused(15);
@@ -72,63 +77,25 @@ fn lay(
     }
 }
 
-// In F and L: a legal frame (1), enough ordinates (2), the first of them as FIRSTY says (29), then the file.
-fn write_in(
+// The length of the file that `lay` would lay: nothing is written.
+fn measure(
     title: &[u8],
     n: Numbers,
     first: i64,
     last: i64,
-    first_exact: bool,
-    last_exact: bool,
+    exact: Exactness,
     ordinates: &[i32],
-    text: &mut [u8],
 ) -> FileWritten
-    requires { ⌜ (length (now title) ≤ 72) × Scaled n × Carried n «first_exact» «last_exact» ⌝ }
-    ensures { λ r. ⌜ FileTells (exactIn n (now (ordinates .entry))) (inFrame (now (title .entry)) n (now (ordinates .entry)) (length (now (text .entry))) first last) (now (text .entry)) (now (text .exit)) r ⌝ }
+    requires { ⌜ (length (now title) ≤ 72) × AllWritable n × Framed first last (n .npoints) (now ordinates) ⌝ }
+    ensures { λ r. ⌜ r ≡ told-file exact (wrote (laidOut (now (title .entry)) n (bodyOf first last (n .npoints) (now (ordinates .entry))))) ⌝ }
 {
+    let head = heading_length(title, n);
     let points = n.npoints as usize;
-    match Frame::new(first, last, points) {
-        frame::Framed::Outside => refused(1),
-        frame::Framed::Legal(_) => {
-            if ordinates.len() < points {
-                return refused(2);
-            }
-            let firsty = n.firsty;
-            let yfactor = n.yfactor;
-            let q = ratio_of(0, firsty, yfactor);
-            let rounded = q.rounded;
-            if !agree(ordinates[0], rounded) {
-                return refused(29);
-            }
-            let exact = exact_with(first_exact, last_exact, q.exact, ordinates[0]);
-            lay(title, n, first, last, exact, ordinates, text)
-        }
-    }
-}
-
-// F and L within their limits (28), then the rest.
-fn write_numbers(title: &[u8], n: Numbers, ordinates: &[i32], text: &mut [u8]) -> FileWritten
-    requires { ⌜ (length (now title) ≤ 72) × Scaled n ⌝ }
-    ensures { λ r. ⌜ FileTells (exactIn n (now (ordinates .entry))) (fromNumbers (now (title .entry)) n (now (ordinates .entry)) (length (now (text .entry)))) (now (text .entry)) (now (text .exit)) r ⌝ }
-{
-    let firstx = n.firstx;
-    let lastx = n.lastx;
-    let xfactor = n.xfactor;
-    let f = ratio_of(3, firstx, xfactor);
-    let first_rounded = f.rounded;
-    match first_rounded {
-        Rounded::Beyond => refused(28),
-        Rounded::Whole { minus: m, size: p } => {
-            let l = ratio_of(3, lastx, xfactor);
-            let last_rounded = l.rounded;
-            match last_rounded {
-                Rounded::Beyond => refused(28),
-                Rounded::Whole { minus: k, size: q } => {
-                    let first = whole_of(m, p);
-                    let last = whole_of(k, q);
-                    write_in(title, n, first, last, f.exact, l.exact, ordinates, text)
-                }
-            }
+    match text_length(Style::Difdup, first, last, points, ordinates) {
+        TableWritten::Refused(fault) => FileWritten::Refused(fault),
+        TableWritten::Length(k) => {
+            let length = head + k + END_LINE;
+            FileWritten::Length(FileLength { length, exact })
         }
     }
 }
@@ -142,13 +109,21 @@ pub fn write_file(
     ordinates: &[i32],
     text: &mut [u8],
 ) -> FileWritten
-    ensures { λ r. ⌜ FileTells (file-exact scales points (now (ordinates .entry))) (writeFile (now (title .entry)) points scales (now (ordinates .entry)) (length (now (text .entry)))) (now (text .entry)) (now (text .exit)) r ⌝ }
+    ensures { λ r. ⌜ FileTells (file-exact scales points (now (ordinates .entry)))
+        (writeFile (now (title .entry)) points scales (now (ordinates .entry)) (length (now (text .entry)))) (now (text .entry)) (now (text .exit)) r ⌝ }
 {
-    if !title_fair(title) {
-        return refused(37);
+    match plan_file(title, points, scales, ordinates) {
+        Planned::Refused(number) => refused(number),
+        Planned::Taken(p) => lay(title, p.numbers, p.first, p.last, p.exact, ordinates, text),
     }
-    match figures_of(scales, points as u64) {
-        Figures::Wrong(_) => refused(26),
-        Figures::All(n) => write_numbers(title, n, ordinates, text),
+}
+
+// The length of the file that `write_file` would write, however little room there is, and what of it is exact; or its refusal, which is never 15 (02, T-10). Nothing is written.
+pub fn file_length(title: &[u8], points: usize, scales: Scales, ordinates: &[i32]) -> FileWritten
+    ensures { λ r. ⌜ FileMeasured (now (title .entry)) points scales (now (ordinates .entry)) r ⌝ }
+{
+    match plan_file(title, points, scales, ordinates) {
+        Planned::Refused(number) => refused(number),
+        Planned::Taken(p) => measure(title, p.numbers, p.first, p.last, p.exact, ordinates),
     }
 }

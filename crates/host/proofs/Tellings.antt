@@ -4,31 +4,21 @@ use mathlib.Core.List.{List, [], _∷_}
 use Prim.Native.Nat.{ℕ}
 use lib.IntN.{ℤ}
 use lib.ListN.{length}
-use borrow.Author.Tests.{ne-eqb}
 use Rattle.terms.specs.Logic.{zero-one}
-use Rattle.terms.specs.Refusals.{fault-at, refusalIn}
-use Rattle.terms.specs.declared.Fault.{Fault}
+use Rattle.terms.specs.Refusals.{refusalIn}
 use Rattle.terms.specs.declared.Refusal.{Refusal}
 use Rattle.terms.specs.declared.TableRead.the-variants as tables
-use Rattle.terms.specs.declared.TableWritten.the-variants as texts
 use Rattle.table_spec.specs.Reading.{Answer, refuse, accept, readTable}
-use Rattle.table_spec.specs.Writing.{Outcome, declined, wrote, laid}
 use Rattle.table_read.specs.Answers.{told, TableSays}
-use Rattle.table_text.specs.Answers as writing
 use Rattle.label_spec.specs.Records.{recordFor}
 use Rattle.label_spec.specs.Names.{norm}
 use Rattle.label_spec.specs.declared.Record.{Record}
 use Rattle.file_spec.specs.File.{FileAnswer, refuse-file, accept-file, readFile, toldFile}
 use Rattle.file_spec.specs.declared.FileTable.{FileTable}
-use Rattle.file_spec.specs.declared.Exactness.{Exactness}
 use Rattle.file_spec.specs.declared.FileRead.the-variants as files
 use Rattle.file.specs.Answers.{FileSays}
-use Rattle.file_write_spec.specs.declared.FileLength.{FileLength}
-use Rattle.file_write_spec.specs.declared.FileWritten.{FileWritten}
-use Rattle.file_write.specs.Answers.{FileTells}
-use Rattle.file_write.specs.Answers as file-writing
 use Rattle.host_numbers.specs.Numbers.{refusedOf, flag, flags, no-flags, bits}
-use Rattle.host.specs.Answers.{tableAnswer, TableTold, textAnswer, OutcomeTold, no-form, writeForm, fileAnswer, FileTold, recordAnswer, RecordTold}
+use Rattle.host.specs.Answers.{tableAnswer, TableTold, fileAnswer, FileTold, recordAnswer, RecordTold}
 
 -- ---- a table read
 
@@ -51,47 +41,6 @@ module _ {f l : ℤ} {n : ℕ} {body : List ℕ} {out out' : List ℤ} where
   told-refused g =
       let z = table-refused n body (readTable f l n body (length out)) (g .answers) in
       record { numbers = z; returned = ap refusedOf z; leaves = g .leaves }
-
--- ---- a table written
-
-text-wrote : (x : Outcome) {m : ℕ} → texts.Length m ≡ writing.told x → 0 ∷ m ∷ no-flags ≡ textAnswer no-flags x
-text-wrote (declined c) e = zero-one cc
-text-wrote (wrote t) e = cc
-
-text-declined : (x : Outcome) {r : Fault} → texts.Refused r ≡ writing.told x → r .number ∷ 0 ∷ no-flags ≡ textAnswer no-flags x
-text-declined (declined c) {r} e = let z : r ≡ fault-at c 0 = cc in rw z refl
-text-declined (wrote t) e = zero-one cc
-
-module _ (x : Outcome) {text text' : List ℕ} where
-  pub told-wrote : {m : ℕ} → texts.Length m ≡ writing.told x → text' ≡ laid text x → OutcomeTold no-flags x text text' (0 ∷ m ∷ no-flags) 0
-  told-wrote e o = let z = text-wrote x e in record { numbers = z; returned = ap refusedOf z; leaves = o }
-
-  pub told-declined : {r : Fault} → texts.Refused r ≡ writing.told x → text' ≡ laid text x → OutcomeTold no-flags x text text' (r .number ∷ 0 ∷ no-flags) (r .number)
-  told-declined e o = let z = text-declined x e in record { numbers = z; returned = ap refusedOf z; leaves = o }
-
--- a number that is no form's
-pub no-such-form : (k : ℕ) (f l : ℤ) (n : ℕ) (ys : List ℤ) (text : List ℕ) → (k ≡ 0 → ⊥) → (k ≡ 1 → ⊥) → (k ≡ 2 → ⊥) → (k ≡ 3 → ⊥)
-    → OutcomeTold no-flags (writeForm k f l n ys (length text)) text text (no-form ∷ 0 ∷ no-flags) no-form
-unfolding laid
-no-such-form k f l n ys text a b c d = rw (ne-eqb k 0 a, ne-eqb k 1 b, ne-eqb k 2 c, ne-eqb k 3 d) (record { numbers = refl; returned = refl; leaves = refl })
-
--- ---- a file written
-
-file-wrote : (q : Exactness) (x : Outcome) {m : FileLength} → FileWritten.Length m ≡ file-writing.told-file q x → 0 ∷ m .length ∷ flags (m .exact) ≡ textAnswer (flags q) x
-file-wrote q (declined c) e = zero-one cc
-file-wrote q (wrote t) {m} e = let z : m ≡ record { length = length t; exact = q } = cc in rw z refl
-
-file-declined : (q : Exactness) (x : Outcome) {r : Fault} → FileWritten.Refused r ≡ file-writing.told-file q x → r .number ∷ 0 ∷ no-flags ≡ textAnswer (flags q) x
-file-declined q (declined c) {r} e = let z : r ≡ fault-at c 0 = cc in rw z refl
-file-declined q (wrote t) e = zero-one cc
-
-module _ {q : Exactness} (x : Outcome) {text text' : List ℕ} where
-  pub told-file-wrote : {m : FileLength} {f l y : ℕ} → FileTells q x text text' (FileWritten.Length m) → f ≡ flag (m .exact .first) → l ≡ flag (m .exact .last) → y ≡ flag (m .exact .firsty)
-      → OutcomeTold (flags q) x text text' (0 ∷ m .length ∷ f ∷ l ∷ y ∷ []) 0
-  told-file-wrote g a b c = let z = file-wrote q x (g .answer) in record { numbers = rw (a, b, c) z; returned = ap refusedOf z; leaves = g .bytes }
-
-  pub told-file-declined : {r : Fault} → FileTells q x text text' (FileWritten.Refused r) → OutcomeTold (flags q) x text text' (r .number ∷ 0 ∷ no-flags) (r .number)
-  told-file-declined g = let z = file-declined q x (g .answer) in record { numbers = z; returned = ap refusedOf z; leaves = g .bytes }
 
 -- ---- a file read
 

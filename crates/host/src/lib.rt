@@ -2,28 +2,28 @@
 // Every argument is answered, every number is set, and what is not given is 0.
 ghost use mathlib.Core.Path.{_≡_};
 ghost use Rattle.table_spec.specs.declared.Style.the-variants.{Difdup};
-ghost use Rattle.host.specs.Answers.{TableTold, TextTold, FormTold, FileTold, scalesOf, FileTextTold, RecordTold};
+ghost use Rattle.host_text.specs.Answers.{TextTold, FormTold, FileTextTold, TextLengthTold, FileLengthTold};
 ghost use Rattle.host_profile.specs.Answers.{ProfileTold};
+ghost use Rattle.host.specs.Answers.{TableTold, FileTold, RecordTold};
 ghost use Rattle.host.specs.Blocks.{BlocksTold, BlockTold, BlockRecordTold};
 use compound_spec::BlockRead;
 use compound_spec::BlocksFound;
 use file_spec::FileRead;
-use file_write_spec::FileWritten;
-use file_write_spec::GivenDecimal;
-use file_write_spec::Scales;
 use host_numbers::bits_of;
 use host_numbers::flag_of;
 use host_profile::tell_profile;
+use host_text::Form;
+use host_text::form_of;
+use host_text::scales_of;
+use host_text::tell_file;
+use host_text::tell_no_form;
+use host_text::tell_text;
 use label_spec::Record;
 use table_spec::Style;
 use terms::TableRead;
-use terms::TableWritten;
 
 // What is answered for a record that is absent, -1 for C (LASTARUNC_ABSENT in the header): no refusal has this number.
 const ABSENT: u64 = 18446744073709551615;
-
-// What is answered for a number that is no form's, -1 for C (LASTARUNC_NO_FORM in the header): no refusal has this number.
-const NO_FORM: u64 = 18446744073709551615;
 
 // Reads a table: refused, place, line, column, points.
 #[no_mangle]
@@ -61,16 +61,8 @@ fn write_style(
 ) -> u64
     ensures { λ r. ⌜ TextTold style first last points (now (ordinates .entry)) (now (text .entry)) (now (text .exit)) (now (answer .exit)) r ⌝ }
 {
-    match table_write::write_form(style, first, last, points, ordinates, text) {
-        TableWritten::Length(n) => {
-            *answer = [0, n as u64, 0, 0, 0];
-            0
-        }
-        TableWritten::Refused(f) => {
-            *answer = [f.number, 0, 0, 0, 0];
-            f.number
-        }
-    }
+    let written = table_write::write_form(style, first, last, points, ordinates, text);
+    tell_text(written, answer)
 }
 
 // Writes a table in DIFDUP form, and answers as the form does.
@@ -101,14 +93,29 @@ pub extern "C" fn lastarunc_write_form(
 ) -> u64
     ensures { λ r. ⌜ FormTold form first last points (now (ordinates .entry)) (now (text .entry)) (now (text .exit)) (now (answer .exit)) r ⌝ }
 {
-    match form {
-        0 => write_style(Style::Difdup, first, last, points, ordinates, text, answer),
-        1 => write_style(Style::Affn, first, last, points, ordinates, text, answer),
-        2 => write_style(Style::Pac, first, last, points, ordinates, text, answer),
-        3 => write_style(Style::Sqz, first, last, points, ordinates, text, answer),
-        _ => {
-            *answer = [NO_FORM, 0, 0, 0, 0];
-            NO_FORM
+    match form_of(form) {
+        Form::NoForm => tell_no_form(answer),
+        Form::Of(style) => write_style(style, first, last, points, ordinates, text, answer),
+    }
+}
+
+// The length of a table's text in the form of this number (02, T-10): as writing it answers, and never with 15. A number that is no form's is answered too.
+#[no_mangle]
+pub extern "C" fn lastarunc_text_length(
+    form: u64,
+    first: i64,
+    last: i64,
+    points: usize,
+    ordinates: &[i32],
+    answer: &mut [u64; 5],
+) -> u64
+    ensures { λ r. ⌜ TextLengthTold form first last points (now (ordinates .entry)) (now (answer .exit)) r ⌝ }
+{
+    match form_of(form) {
+        Form::NoForm => tell_no_form(answer),
+        Form::Of(style) => {
+            let written = table_write::text_length(style, first, last, points, ordinates);
+            tell_text(written, answer)
         }
     }
 }
@@ -148,34 +155,6 @@ pub extern "C" fn lastarunc_read_file(file: &[u8], out: &mut [i32], answer: &mut
     }
 }
 
-// The five decimals of a file, each a mantissa and an exponent: XFACTOR, YFACTOR, FIRSTX, LASTX, FIRSTY.
-fn scales_of(scales: &[i64; 10]) -> Scales
-    ensures { λ r. ⌜ r ≡ scalesOf (now (scales .entry)) ⌝ }
-{
-    Scales {
-        xfactor: GivenDecimal {
-            mantissa: scales[0],
-            exponent: scales[1],
-        },
-        yfactor: GivenDecimal {
-            mantissa: scales[2],
-            exponent: scales[3],
-        },
-        firstx: GivenDecimal {
-            mantissa: scales[4],
-            exponent: scales[5],
-        },
-        lastx: GivenDecimal {
-            mantissa: scales[6],
-            exponent: scales[7],
-        },
-        firsty: GivenDecimal {
-            mantissa: scales[8],
-            exponent: scales[9],
-        },
-    }
-}
-
 // Writes a file (02, T-04): refused, length, and whether F, L and FIRSTY's quotient are exact.
 #[no_mangle]
 pub extern "C" fn lastarunc_write_file(
@@ -188,20 +167,23 @@ pub extern "C" fn lastarunc_write_file(
 ) -> u64
     ensures { λ r. ⌜ FileTextTold (now (title .entry)) points (now (scales .entry)) (now (ordinates .entry)) (now (text .entry)) (now (text .exit)) (now (answer .exit)) r ⌝ }
 {
-    match file_write::write_file(title, points, scales_of(scales), ordinates, text) {
-        FileWritten::Length(n) => {
-            let exact = n.exact;
-            let ef = flag_of(exact.first);
-            let el = flag_of(exact.last);
-            let ey = flag_of(exact.firsty);
-            *answer = [0, n.length as u64, ef, el, ey];
-            0
-        }
-        FileWritten::Refused(refusal) => {
-            *answer = [refusal.number, 0, 0, 0, 0];
-            refusal.number
-        }
-    }
+    let written = file_write::write_file(title, points, scales_of(scales), ordinates, text);
+    tell_file(written, answer)
+}
+
+// The length of a file (02, T-10): as writing it answers, and never with 15.
+#[no_mangle]
+pub extern "C" fn lastarunc_file_length(
+    title: &[u8],
+    points: usize,
+    scales: &[i64; 10],
+    ordinates: &[i32],
+    answer: &mut [u64; 5],
+) -> u64
+    ensures { λ r. ⌜ FileLengthTold (now (title .entry)) points (now (scales .entry)) (now (ordinates .entry)) (now (answer .exit)) r ⌝ }
+{
+    let written = file_write::file_length(title, points, scales_of(scales), ordinates);
+    tell_file(written, answer)
 }
 
 // Finds the text of a record: refused, place, line, column, from, to.

@@ -11,9 +11,9 @@ use borrow.Author.Tests.{lt-ltb, le-ltb, le-leb}
 use Rattle.terms.specs.declared.TableWritten.{TableWritten}
 use Rattle.terms.specs.declared.TableWritten.the-variants.{Length}
 use Rattle.frame.specs.declared.Frame.{Frame}
-use Rattle.frame.specs.declared.Framed.the-variants.{Legal, Outside}
+use Rattle.frame.specs.declared.Framed.the-variants.{Legal}
 use Rattle.frame.specs.Legal.{framed, Sound}
-use Rattle.frame.specs.FrameLaws.{framed-outside, framed-legal}
+use Rattle.frame.specs.FrameLaws.{framed-legal}
 use Rattle.table_spec.specs.Frame.{ordinate-of}
 use Rattle.table_spec.specs.Writing.{lines-of, written, writeTable, laid}
 use Rattle.table_write_law.specs.Written.{Takes}
@@ -33,10 +33,6 @@ unfolding written headOf
 is-body st fr ys = refl
 
 module _ (st : Style) (fr : Frame) (ys : List ℤ) (o : List ℕ) {o' : List ℕ} {r : TableWritten} where
-  pub too-few : length ys < fr .points → r ≡ refused 2 → o' ≡ o → FramedAnswer st fr ys o o' r
-  unfolding laid
-  too-few h e f = rw (lt-ltb (length ys) (fr .points) h) (record { answer = e; bytes = f })
-
   module _ (h : fr .points ≤ length ys) where
     pub too-long : length o < length (body st fr ys) → r ≡ refused 15 → o' ≡ o → FramedAnswer st fr ys o o' r
     unfolding laid
@@ -60,10 +56,6 @@ always-room st fr ys {room} s e enough =
 -- ---- the frame
 
 module _ (st : Style) (f l : ℤ) (n : ℕ) {o o' : List ℕ} {r : TableWritten} (ys : List ℤ) where
-  pub outside : framed f l n ≡ Outside → r ≡ refused 1 → o' ≡ o → Answered st f l n ys o o' r
-  unfolding writeTable laid
-  outside e a b = rw (framed-outside f l n e) (record { answer = a; bytes = b })
-
   pub inside : (fr : Frame) → framed f l n ≡ Legal fr → FramedAnswer st fr ys o o' r → Answered st f l n ys o o' r
   unfolding writeTable
   inside fr e a = let z = framed-legal f l n e in rw (z .legal) (rw (z .is) at a)

@@ -1,1 +1,2 @@
 pub mod FormSteps
+pub mod RoomSteps

@@ -9,6 +9,7 @@ ghost use Rattle.table_spec.specs.Writing.{lines-of};
 ghost use Rattle.frame.specs.Legal.{Sound};
 ghost use Rattle.table_text.specs.Pieces.{Put, headOf, ordinates};
 ghost use Rattle.table_text.specs.Answers.{Answered, FramedAnswer};
+ghost use Rattle.table_write.specs.Room.{Measured, Checks};
 use frame::Frame;
 use frame::Framed;
 use table_spec::Style;
@@ -87,15 +88,33 @@ fn fits(style: Style, ys: &[i32], fr: Frame, room: usize) -> bool
     needed <= room
 }
 
-// Writing in a legal frame: refusals 2 and 15, or the text.
+// What the tests before writing answer: a legal frame, with an ordinate for each of its points, or the number of a refusal.
+pub enum Checked {
+    Taken(Frame),
+    Refused(u64),
+}
+
+// The tests before writing: a legal frame (1), then as many ordinates as points (2).
+fn check(first: i64, last: i64, points: usize, ordinates: &[i32]) -> Checked
+    ensures { λ r. ⌜ Checks first last points (now (ordinates .entry)) r ⌝ }
+{
+    match Frame::new(first, last, points) {
+        Framed::Outside => Checked::Refused(1),
+        Framed::Legal(fr) => {
+            if ordinates.len() < points {
+                return Checked::Refused(2);
+            }
+            Checked::Taken(fr)
+        }
+    }
+}
+
+// Writing in a legal frame, with an ordinate for each point: refusal 15, or the text.
 fn write_framed(style: Style, fr: Frame, ordinates: &[i32], text: &mut [u8]) -> TableWritten
-    requires { ⌜ Sound fr ⌝ }
+    requires { ⌜ Sound fr × (fr .points ≤ length (now ordinates)) ⌝ }
     ensures { λ r. ⌜ FramedAnswer style fr (now (ordinates .entry)) (now (text .entry)) (now (text .exit)) r ⌝ }
 {
     let n = fr.points;
-    if ordinates.len() < n {
-        return refused(2);
-    }
     let ys = &ordinates[..n];
     if fits(style, ys, fr, text.len()) {
         let length = lay(style, ys, text, fr);
@@ -115,10 +134,29 @@ pub fn write_form(
 ) -> TableWritten
     ensures { λ r. ⌜ Answered style first last points (now (ordinates .entry)) (now (text .entry)) (now (text .exit)) r ⌝ }
 {
-    let framed = Frame::new(first, last, points);
-    match framed {
-        Framed::Outside => refused(1),
-        Framed::Legal(fr) => write_framed(style, fr, ordinates, text),
+    match check(first, last, points, ordinates) {
+        Checked::Refused(number) => refused(number),
+        Checked::Taken(fr) => write_framed(style, fr, ordinates, text),
+    }
+}
+
+// The length of the text that `write_form` would write, however little room there is; or its refusal, which is never 15 (02, T-10). One measuring pass, and nothing is written.
+pub fn text_length(
+    style: Style,
+    first: i64,
+    last: i64,
+    points: usize,
+    ordinates: &[i32],
+) -> TableWritten
+    ensures { λ r. ⌜ Measured style first last points (now (ordinates .entry)) r ⌝ }
+{
+    match check(first, last, points, ordinates) {
+        Checked::Refused(number) => refused(number),
+        Checked::Taken(fr) => {
+            let n = fr.points;
+            let bytes = length_of(style, &ordinates[..n], fr);
+            TableWritten::Length(bytes)
+        }
     }
 }
 

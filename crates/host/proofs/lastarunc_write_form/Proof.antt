@@ -1,75 +1,48 @@
 -- `host::lastarunc_write_form` meets its contract: each number's form, and -1 for a number that is no form's.
 use mir.Facts.{toZ-ofZ}
-use Rattle.host.proofs.Tellings.{no-such-form}
+use Rattle.host_text.proofs.Tellings.{no-form-told, outcome-as}
 use borrow.Author.Needs.{needs}
 use Rattle.host.proofs.lastarunc_write_form.Statement.{statement}
 use Rattle.host.proofs.lastarunc_write_form.Tie as tie
 
+form-of-requires : tie.Need-form-of-requires
+form-of-requires c κs = search needs
+
+enum-told : tie.Need-enum-told
+enum-told c = search needs
+
+tell-no-form-requires : tie.Need-tell-no-form-requires
+tell-no-form-requires c κs = search needs
+
+enum-known-style : tie.Need-enum-known-style
+enum-known-style c = search needs
+
 write-style-requires : tie.Need-write-style-requires
 write-style-requires c κs = search needs
 
-write-style-requires-2 : tie.Need-write-style-requires-2
-write-style-requires-2 c κs = search needs
-
-write-style-requires-3 : tie.Need-write-style-requires-3
-write-style-requires-3 c κs = search needs
-
-write-style-requires-4 : tie.Need-write-style-requires-4
-write-style-requires-4 c κs = search needs
+returns : tie.Need-returns
+returns c =
+    let t = c .before .before in let k = t .before .before in
+    no-form-told _ ((rw (t .enum-told .given .1) at (k .form-of .ensures)) _ _ _ _ _) (c .tell-no-form .ensures)
 
 same-length : tie.Need-same-length
 same-length c = search needs
 
-returns : tie.Need-returns
-returns c =
-    let m = c .before .before .before .before .before in
-    let f = m .before .before .fits in
-    rw (m .match .keys1) (rw (toZ-ofZ (f .first), toZ-ofZ (f .last)) at (c .before .before .write-style .ensures))
-
-same-length-2 : tie.Need-same-length-2
-same-length-2 c = search needs
-
 returns-2 : tie.Need-returns-2
 returns-2 c =
-    let m = c .before .before .before .before .before in
-    let f = m .before .before .fits in
-    rw (m .match .keys2) (rw (toZ-ofZ (f .first), toZ-ofZ (f .last)) at (c .before .before .write-style2 .ensures))
-
-same-length-3 : tie.Need-same-length-3
-same-length-3 c = search needs
-
-returns-3 : tie.Need-returns-3
-returns-3 c =
-    let m = c .before .before .before .before .before in
-    let f = m .before .before .fits in
-    rw (m .match .keys3) (rw (toZ-ofZ (f .first), toZ-ofZ (f .last)) at (c .before .before .write-style3 .ensures))
-
-same-length-4 : tie.Need-same-length-4
-same-length-4 c = search needs
-
-returns-4 : tie.Need-returns-4
-returns-4 c =
-    let m = c .before .before .before .before .before in
-    let f = m .before .before .fits in
-    rw (m .match .keys4) (rw (toZ-ofZ (f .first), toZ-ofZ (f .last)) at (c .before .before .write-style4 .ensures))
-
-returns-5 : tie.Need-returns-5
-returns-5 c = let r = c .before .match .rest in no-such-form _ _ _ _ _ _ (r .0 .0 .0 .1) (r .0 .0 .1) (r .0 .1) (r .1)
+    let w = c .before .before in let t = w .before .before .before .before in let k = t .before .before in let s = k .before .before in
+    outcome-as ((rw (t .style .given .1) at (k .form-of .ensures)) (s .args .first) (s .args .last) (s .args .points) (s .args .ordinates .now) _)
+    (rw (toZ-ofZ (s .fits .first), toZ-ofZ (s .fits .last)) at (w .write-style .ensures))
 
 pub lastarunc-write-form-spec : {M : Type 1} → statement M
 lastarunc-write-form-spec =
     tie.close
     (tie.spec
+    form-of-requires
+    enum-told
+    tell-no-form-requires
+    enum-known-style
     write-style-requires
-    write-style-requires-2
-    write-style-requires-3
-    write-style-requires-4
-    same-length
     returns
-    same-length-2
-    returns-2
-    same-length-3
-    returns-3
-    same-length-4
-    returns-4
-    returns-5)
+    same-length
+    returns-2)

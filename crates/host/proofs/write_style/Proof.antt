@@ -1,6 +1,6 @@
--- `host::write_style` meets its contract: the answer has the numbers of what `write_form` says.
+-- `host::write_style` meets its contract: what `write_form` says is told.
 use mir.Facts.{toZ-ofZ}
-use Rattle.host.proofs.Tellings.{told-wrote, told-declined}
+use Rattle.host_text.proofs.Tellings.{text-told}
 use borrow.Author.Needs.{needs}
 use Rattle.host.proofs.write_style.Statement.{statement}
 use Rattle.host.proofs.write_style.Tie as tie
@@ -8,42 +8,16 @@ use Rattle.host.proofs.write_style.Tie as tie
 write-form-requires : tie.Need-write-form-requires
 write-form-requires c κs = search needs
 
-enum-known-n : tie.Need-enum-known-n
-enum-known-n c = search needs
-
-enum-known-f : tie.Need-enum-known-f
-enum-known-f c = search needs
+tell-text-requires : tie.Need-tell-text-requires
+tell-text-requires c κs = search needs
 
 same-length : tie.Need-same-length
 same-length c = search needs
 
 returns : tie.Need-returns
 returns c =
-    let k = c .before .before in
-    let w = k .before .before .before .before in
-    let s = w .before .before .before in
-    let g = rw (toZ-ofZ (s .fits .first), toZ-ofZ (s .fits .last), k .n .given .1) at (w .write-form .ensures) in
-    told-wrote _ (g .answer) (g .bytes)
-
-same-length-2 : tie.Need-same-length-2
-same-length-2 c = search needs
-
-returns-2 : tie.Need-returns-2
-returns-2 c =
-    let k = c .before .before in
-    let w = k .before .before .before .before in
-    let s = w .before .before .before in
-    let g = rw (toZ-ofZ (s .fits .first), toZ-ofZ (s .fits .last), k .f .given .1) at (w .write-form .ensures) in
-    told-declined _ (g .answer) (g .bytes)
+    let w = c .before .before .before .before in let s = w .before .before .before in
+    text-told _ (rw (toZ-ofZ (s .fits .first), toZ-ofZ (s .fits .last)) at (w .write-form .ensures)) (c .tell-text .ensures)
 
 pub write-style-spec : {M : Type 1} → statement M
-write-style-spec =
-    tie.close
-    (tie.spec
-    write-form-requires
-    enum-known-n
-    enum-known-f
-    same-length
-    returns
-    same-length-2
-    returns-2)
+write-style-spec = tie.close (tie.spec write-form-requires tell-text-requires same-length returns)

@@ -1,55 +1,63 @@
--- `table_write::write_form` meets its contract: 1 outside the frame's limits, and else what the frame gives.
-use mathlib.Core.Path.{refl, sym, _∙_}
+-- `table_write::write_form` meets its contract: the refusal of the tests before writing, and else what the frame gives.
 use mir.Facts.{toZ-ofZ}
 use Rattle.frame.specs.FrameLaws.{framed-legal}
-use Rattle.table_text.proofs.AnswerSteps.{outside, inside}
+use Rattle.table_text.proofs.AnswerSteps.{inside}
+use Rattle.table_write.specs.Room.{Checks}
+use Rattle.table_write.specs.declared.Checked.{Checked}
+use Rattle.table_write.proofs.RoomSteps.{refused-tells, enough-ordinates}
 use borrow.Author.Needs.{needs}
 use Rattle.table_write.proofs.write_form.Statement.{statement}
 use Rattle.table_write.proofs.write_form.Tie as tie
 
-new-requires : tie.Need-new-requires
-new-requires c κs = search needs
+-- where the tests are made, and the start from there
+abbrev start : tie.After-check → tie.Start
+start c = c .before .before
 
-enum-told : tie.Need-enum-told
-enum-told c = search needs
+-- what they say where they pass
+taken : (c : tie.After-fr) → let a = start (c .before .before) .args in Checks (a .first) (a .last) (a .points) (a .ordinates .now) (Checked.Taken (c .fr .given .0 .0))
+taken c =
+    let w = c .before .before in let s = w .before .before in
+    rw (toZ-ofZ (s .fits .first), toZ-ofZ (s .fits .last), c .fr .given .1) at (w .check .ensures)
+
+check-requires : tie.Need-check-requires
+check-requires c κs = search needs
+
+enum-known-number : tie.Need-enum-known-number
+enum-known-number c = search needs
 
 refused-requires : tie.Need-refused-requires
 refused-requires c κs = search needs
 
-enum-known-framed : tie.Need-enum-known-framed
-enum-known-framed c = search needs
+enum-known-fr : tie.Need-enum-known-fr
+enum-known-fr c = search needs
 
 write-framed-requires : tie.Need-write-framed-requires
 write-framed-requires c κs =
-    let b = c .before .before .before .before in
-    let f = b .before .before .fits in
-    framed-legal _ _ _ (sym (rw (toZ-ofZ (f .first), toZ-ofZ (f .last)) at (b .new .ensures)) ∙ c .before .before .framed .given .1) .sound
+    let k = c .before .before in let t = taken k in
+    (framed-legal _ _ _ (t .0) .sound, enough-ordinates _ _ _ (start (k .before .before) .args .ordinates .now) (t .0) (t .1))
 
 returns : tie.Need-returns
 returns c =
-    let b = c .before .before .before in
-    let s = b .before .before in
-    let e = rw (toZ-ofZ (s .fits .first), toZ-ofZ (s .fits .last)) at (b .new .ensures) in
-    outside (s .args .style) _ _ _ (s .args .ordinates .now) (sym e ∙ c .before .enum-told .given .1) (c .refused .ensures) refl
+    let k = c .before .before in let w = k .before .before in let s = w .before .before in
+    let no = rw (toZ-ofZ (s .fits .first), toZ-ofZ (s .fits .last), k .number .given .1) at (w .check .ensures) in
+    refused-tells (no (s .args .style) _) (c .refused .ensures)
 
 same-length : tie.Need-same-length
 same-length c = search needs
 
 returns-2 : tie.Need-returns-2
 returns-2 c =
-    let b = c .before .before .before .before .before in
-    let s = b .before .before .before .before in
-    let e = rw (toZ-ofZ (s .fits .first), toZ-ofZ (s .fits .last)) at (b .before .before .new .ensures) in
-    inside (s .args .style) _ _ _ (s .args .ordinates .now) _ (sym e ∙ b .framed .given .1) (c .before .before .write-framed .ensures)
+    let l = c .before .before in let k = l .before .before .before in let a = start (k .before .before) .args in
+    inside (a .style) _ _ _ (a .ordinates .now) _ (taken k .0) (l .write-framed .ensures)
 
 pub write-form-spec : {M : Type 1} → statement M
 write-form-spec =
     tie.close
     (tie.spec
-    new-requires
-    enum-told
+    check-requires
+    enum-known-number
     refused-requires
-    enum-known-framed
+    enum-known-fr
     write-framed-requires
     returns
     same-length

@@ -1,10 +1,10 @@
--- `file_write::write_in` meets its contract: 1, 2 and 29, and only then the file is laid.
+-- `file_plan::plan_in` meets its contract: 1, 2 and 29, and else the plan.
 use mathlib.Core.Path.{_≡_, sym, ap, _∙_}
 use mathlib.Core.Bool.{true}
 use Prim.Native.Nat.{_≤_}
 use native.Mathlib.Omega.{arith}
 use lib.IntN.{pos}
-use lib.ListN.{length, getD}
+use lib.ListN.{getD}
 use mir.Syntax.{w32}
 use mir.Facts.{toZ-ofZ}
 use borrow.Author.Needs.{sfits-of}
@@ -13,25 +13,25 @@ use Rattle.table_spec.specs.Frame.{frame-legal, ordinate-of}
 use Rattle.frame.specs.FrameLaws.{framed-legal, framed-outside}
 use Rattle.file_spec.specs.Figures.{ratio, agrees, exactness-of}
 use Rattle.figure.specs.Carried.{carried-exact}
-use Rattle.file_write.specs.Stages.{Framed, exactIn}
-use Rattle.file_write.proofs.StageSteps.{tells-refused, tells-same, all-writable, framing-points, first-ordinate, outside, too-few, unequal, equal}
+use Rattle.file_plan.specs.Stages.{exactIn}
+use Rattle.file_plan.proofs.StageSteps.{all-writable, framing-points, first-ordinate, outside, too-few, unequal, equal}
 use borrow.Author.Needs.{needs}
-use Rattle.file_write.proofs.write_in.Statement.{statement}
-use Rattle.file_write.proofs.write_in.Tie as tie
+use Rattle.file_plan.proofs.plan_in.Statement.{statement}
+use Rattle.file_plan.proofs.plan_in.Tie as tie
 
 -- where the frame is made, and the start from there
 abbrev start : tie.After-new → tie.Start
-start c = c .before .before .before
+start c = c .before
 
 -- it is legal, and has some points
 legal-at : (c : tie.After-enum-told2) → frame-legal (start (c .before .before) .args .first) (start (c .before .before) .args .last) (start (c .before .before) .args .n .npoints) ≡ true
 legal-at c =
-    let t = c .before .before in let z = t .before .before .before in
+    let t = c .before .before in let z = t .before in
     framed-legal _ _ _ (sym (rw (toZ-ofZ (z .fits .first), toZ-ofZ (z .fits .last)) at (t .new .ensures)) ∙ c .enum-told2 .given .1) .legal
 
 points-at : (c : tie.After-enum-told2) → (1 ≤ start (c .before .before) .args .n .npoints) × (start (c .before .before) .args .n .npoints ≤ 65536)
 points-at c =
-    let t = c .before .before in let z = t .before .before .before in
+    let t = c .before .before in let z = t .before in
     framing-points (framed-legal _ _ _ (sym (rw (toZ-ofZ (z .fits .first), toZ-ofZ (z .fits .last)) at (t .new .ensures)) ∙ c .enum-told2 .given .1))
 
 -- where there are enough ordinates, from where the first is compared
@@ -44,17 +44,17 @@ begin c = start (enough c .before .before .before)
 compared : (c : tie.After-agree) → c .agree .result
     ≡ agrees (ordinate-of (getD (begin c .args .ordinates .now) 0 (pos 0))) (ratio 0 (begin c .args .n .firsty) (begin c .args .n .yfactor) .rounded)
 compared c =
-    let first = getD (c .before .before .before .before .before .before .before .before .before .before .before .args .ordinates .now) 0 (pos 0) in
+    let first = getD (c .before .before .before .before .before .before .before .before .before .args .ordinates .now) 0 (pos 0) in
     rw (toZ-ofZ (sfits-of {w = w32} {z = first} (c .before .agree-arg .given)), c .before .before .ratio-of .ensures .0) at (c .agree .ensures)
 
 -- what is exact, where the first ordinate agrees
 exact-here : (c : tie.After-exact-with) → c .exact-with .result ≡ exactIn (begin (c .before .before .before) .args .n) (begin (c .before .before .before) .args .ordinates .now)
 exact-here c =
     let g = c .before .before .before in let e = enough g in let z = begin g in let a = z .args in
-    let first = getD (g .before .before .before .before .before .before .before .before .before .before .before .args .ordinates .now) 0 (pos 0) in
+    let first = getD (g .before .before .before .before .before .before .before .before .before .args .ordinates .now) 0 (pos 0) in
     let read = first-ordinate (a .n .npoints) (a .ordinates .now) (points-at (e .before) .0) (e .if1 .left) in
     rw (toZ-ofZ (sfits-of {w = w32} {z = first} (c .before .exact-with-arg .given)), g .before .before .ratio-of .ensures .0) at (c .exact-with .ensures)
-    ∙ carried-exact (ordinate-of first) (z .pre .2) ∙ ap (exactness-of (a .n)) (sym read)
+    ∙ carried-exact (ordinate-of first) (z .pre .1) ∙ ap (exactness-of (a .n)) (sym read)
 
 new-requires : tie.Need-new-requires
 new-requires c κs = search needs
@@ -62,19 +62,13 @@ new-requires c κs = search needs
 enum-told : tie.Need-enum-told
 enum-told c = search needs
 
-refused-requires : tie.Need-refused-requires
-refused-requires c κs = search needs
-
 enum-told-2 : tie.Need-enum-told-2
 enum-told-2 c = search needs
 
-refused-requires-2 : tie.Need-refused-requires-2
-refused-requires-2 c κs = search needs
-
 returns : tie.Need-returns
 returns c =
-    let test = c .before in let k = test .before in let a = start (k .before .before) .args in
-    tells-refused (too-few (a .title .now) (a .n) (a .ordinates .now) (length (a .text .now)) (a .first) (a .last) (legal-at k) (test .if1 .taken)) (c .refused2 .ensures)
+    let k = c .before in let a = start (k .before .before) .args in
+    λ title _ space. too-few title (a .n) (a .ordinates .now) space (a .first) (a .last) (legal-at k) (c .if1 .taken)
 
 ratio-of-requires : tie.Need-ratio-of-requires
 ratio-of-requires c κs = search needs
@@ -85,15 +79,11 @@ shared-slice-copy-out-agree c = let test = c .before .before .before in let p = 
 agree-requires : tie.Need-agree-requires
 agree-requires c κs = search needs
 
-refused-requires-3 : tie.Need-refused-requires-3
-refused-requires-3 c κs = search needs
-
 returns-2 : tie.Need-returns-2
 returns-2 c =
-    let test = c .before in let g = test .before in let e = enough g in let k = e .before in let a = start (k .before .before) .args in
-    let no = sym (compared g) ∙ not-true (g .agree .result) (test .if2 .taken) in
-    tells-refused (unequal (a .title .now) (a .n) (a .ordinates .now) (length (a .text .now)) (a .first) (a .last) (legal-at k) (e .if1 .left) (points-at k .0) no)
-    (c .refused3 .ensures)
+    let g = c .before in let e = enough g in let k = e .before in let a = start (k .before .before) .args in
+    let no = sym (compared g) ∙ not-true (g .agree .result) (c .if2 .taken) in
+    λ title _ space. unequal title (a .n) (a .ordinates .now) space (a .first) (a .last) (legal-at k) (e .if1 .left) (points-at k .0) no
 
 shared-slice-copy-out-exact-with : tie.Need-shared-slice-copy-out-exact-with
 shared-slice-copy-out-exact-with c = let e = enough (c .before) in let p = points-at (e .before) in omega (arith, p .0, e .if1 .left)
@@ -101,47 +91,38 @@ shared-slice-copy-out-exact-with c = let e = enough (c .before) in let p = point
 exact-with-requires : tie.Need-exact-with-requires
 exact-with-requires c κs = search needs
 
-lay-requires : tie.Need-lay-requires
-lay-requires c κs =
-    let g = c .before .before .before .before in let e = enough g in let k = e .before in let z = start (k .before .before) in let a = z .args in
-    let framed : Framed (a .first) (a .last) (a .n .npoints) (a .ordinates .now) = record { legal = legal-at k; enough = e .if1 .left } in
-    (z .pre .0, all-writable (z .pre .1) (points-at k .1), rw (toZ-ofZ (z .fits .first), toZ-ofZ (z .fits .last)) framed)
-
 returns-3 : tie.Need-returns-3
 returns-3 c =
-    let told = c .before in let t = told .before .before in let z = start t in let a = z .args in
-    let out = framed-outside _ _ _ (sym (rw (toZ-ofZ (z .fits .first), toZ-ofZ (z .fits .last)) at (t .new .ensures)) ∙ told .enum-told .given .1) in
-    tells-refused (outside (a .title .now) (a .n) (a .ordinates .now) (length (a .text .now)) (a .first) (a .last) out) (c .refused .ensures)
-
-same-length : tie.Need-same-length
-same-length c = search needs
+    let t = c .before .before in let z = start t in let a = z .args in
+    let out = framed-outside _ _ _ (sym (rw (toZ-ofZ (z .fits .first), toZ-ofZ (z .fits .last)) at (t .new .ensures)) ∙ c .enum-told .given .1) in
+    λ title _ space. outside title (a .n) (a .ordinates .now) space (a .first) (a .last) out
 
 returns-4 : tie.Need-returns-4
 returns-4 c =
-    let laid = c .before .before in let x = laid .before .before in let test = x .before .before in let g = test .before in
+    let test = c .before .before in let g = test .before in
     let e = enough g in let k = e .before in let z = start (k .before .before) in let a = z .args in
     let yes = sym (compared g) ∙ not-false (g .agree .result) (test .if2 .left) in
-    tells-same (equal (a .title .now) (a .n) (a .ordinates .now) (length (a .text .now)) (a .first) (a .last) (legal-at k) (e .if1 .left) (points-at k .0) yes)
-    (rw (toZ-ofZ (z .fits .first), toZ-ofZ (z .fits .last), exact-here x) at (laid .lay .ensures))
+    rw (toZ-ofZ (z .fits .first), toZ-ofZ (z .fits .last)) (λ title short. record {
+      titled = short;
+      writable = all-writable (z .pre .0) (points-at k .1);
+      framed = record { legal = legal-at k; enough = e .if1 .left };
+      exact = exact-here c;
+      text = λ space. equal title (a .n) (a .ordinates .now) space (a .first) (a .last) (legal-at k) (e .if1 .left) (points-at k .0) yes;
+    })
 
-pub write-in-spec : {M : Type 1} → statement M
-write-in-spec =
+pub plan-in-spec : {M : Type 1} → statement M
+plan-in-spec =
     tie.close
     (tie.spec
     new-requires
     enum-told
-    refused-requires
     enum-told-2
-    refused-requires-2
     returns
     ratio-of-requires
     shared-slice-copy-out-agree
     agree-requires
-    refused-requires-3
     returns-2
     shared-slice-copy-out-exact-with
     exact-with-requires
-    lay-requires
     returns-3
-    same-length
     returns-4)

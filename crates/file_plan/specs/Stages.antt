@@ -1,4 +1,4 @@
--- The stages of writing a file, said of its numbers (02, T-04). Assumes nothing.
+-- The stages of writing a file, said of its numbers (02, T-04), and what each of them answers in all rooms at once (T-10). Assumes nothing.
 use mathlib.Core.Path.{_≡_}
 use mathlib.Core.Bool.{true}
 use mathlib.Core.List.{List, [], _∷_, _++_}
@@ -16,7 +16,9 @@ use Rattle.file_spec.specs.declared.Exactness.{Exactness}
 use Rattle.file_spec.specs.Figures.{ratio, abscissa-of, agrees, exactness-of}
 use Rattle.file_write_spec.specs.Records.{entriesText}
 use Rattle.file_write_spec.specs.File.{end-line, within-limit, ordinates, limited}
-use Rattle.file_lines.specs.Lines.{Writable, headingOf}
+use Rattle.file_lines.specs.Lines.{Writable, AllWritable, headingOf}
+use Rattle.file_plan.specs.declared.Plan.{Plan}
+use Rattle.file_plan.specs.declared.Planned.{Planned}
 
 -- heading, body and END's record
 abbrev pub laidOut : List ℕ → Numbers → List ℕ → List ℕ
@@ -65,3 +67,22 @@ last-from n = abscissa-of (n .lastx) (n .xfactor) .rounded
 unfoldable pub fromNumbers : List ℕ → Numbers → List ℤ → ℕ → Outcome
 fromNumbers title n es space =
     limited (first-from n) (limited (last-from n) (inFrame title n es space (within-limit (first-from n)) (within-limit (last-from n))))
+
+-- ---- what a stage answers
+
+-- the plan of a file whose outcome in each room is x: a title that is taken, the numbers and the frame of what is laid, and what of it is exact
+pub record Planning (x : ℕ → Outcome) (e : Exactness) (title : List ℕ) (es : List ℤ) (p : Plan) : Type 0 where
+  pub titled : length title ≤ 72
+  pub writable : AllWritable (p .numbers)
+  pub framed : Framed (p .first) (p .last) (p .numbers .npoints) es
+  pub exact : p .exact ≡ e
+  pub text : (space : ℕ) → x space ≡ fitted space (laidOut title (p .numbers) (bodyOf (p .first) (p .last) (p .numbers .npoints) es))
+
+-- a plan, or the number that is refused with in every room
+abbrev pub Plans : (ℕ → Outcome) → Exactness → List ℕ → List ℤ → Planned → Type 0
+Plans x e title es (Planned.Taken p) = Planning x e title es p
+Plans x e title es (Planned.Refused k) = (space : ℕ) → x space ≡ declined k
+
+-- what a stage answers of every title that is taken
+abbrev pub PlansAll : (List ℕ → ℕ → Outcome) → Exactness → List ℤ → Planned → Type 0
+PlansAll x e es r = (title : List ℕ) → length title ≤ 72 → Plans (x title) e title es r

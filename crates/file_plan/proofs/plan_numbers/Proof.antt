@@ -1,19 +1,18 @@
--- `file_write::write_numbers` meets its contract: 28 for F, then for L, then what the frame says.
+-- `file_plan::plan_numbers` meets its contract: 28 for F, then for L, then what the frame says.
 use mathlib.Core.Path.{_≡_, sym, ap, _∙_}
-use lib.ListN.{length}
 use mir.Syntax.{w64}
 use mir.Facts.{toZ-ofZ}
 use borrow.Author.Needs.{sfits-of}
 use Rattle.decimal_spec.specs.declared.Rounded.{Rounded}
 use Rattle.decimal_spec.specs.declared.Quotient.{Quotient}
-use Rattle.file_write.proofs.StageSteps.{tells-refused, tells-same, first-beyond, last-beyond, both-whole}
+use Rattle.file_plan.proofs.StageSteps.{plans-same, first-beyond, last-beyond, both-whole}
 use borrow.Author.Needs.{needs}
-use Rattle.file_write.proofs.write_numbers.Statement.{statement}
-use Rattle.file_write.proofs.write_numbers.Tie as tie
+use Rattle.file_plan.proofs.plan_numbers.Statement.{statement}
+use Rattle.file_plan.proofs.plan_numbers.Tie as tie
 
 -- where FIRSTX is divided by XFACTOR, and the start from there
 abbrev start : tie.After-ratio-of → tie.Start
-start c = c .before .before .before .before .before .before
+start c = c .before .before .before .before
 
 -- what is known of the parts of a quotient
 rounded-is : {q r : Quotient} {x : Rounded} → q ≡ r → q .rounded ≡ x → r .rounded ≡ x
@@ -28,9 +27,6 @@ ratio-of-requires c κs = search needs
 enum-told : tie.Need-enum-told
 enum-told c = search needs
 
-refused-requires : tie.Need-refused-requires
-refused-requires c κs = search needs
-
 enum-known-first-rounded : tie.Need-enum-known-first-rounded
 enum-known-first-rounded c = search needs
 
@@ -39,9 +35,6 @@ ratio-of-requires-2 c κs = search needs
 
 enum-told-2 : tie.Need-enum-told-2
 enum-told-2 c = search needs
-
-refused-requires-2 : tie.Need-refused-requires-2
-refused-requires-2 c κs = search needs
 
 enum-known-last-rounded : tie.Need-enum-known-last-rounded
 enum-known-last-rounded c = search needs
@@ -52,53 +45,47 @@ whole-of-requires c κs = rw (c .before .before .before .before .before .first-r
 whole-of-requires-2 : tie.Need-whole-of-requires-2
 whole-of-requires-2 c κs = rw (c .before .before .last-rounded .given .1) at (c .before .before .before .before .ratio-of2 .ensures .1)
 
-write-in-requires : tie.Need-write-in-requires
-write-in-requires c κs =
-    let l = c .before .before .before .before .before .before in let f = l .before .before .before .before in let p = start f .pre in
-    (p .0, p .1, record { first = exact-is (f .ratio-of .ensures .0); last = exact-is (l .ratio-of2 .ensures .0) })
+plan-in-requires : tie.Need-plan-in-requires
+plan-in-requires c κs =
+    let l = c .before .before .before .before .before in let f = l .before .before .before .before in
+    (start f .pre, record { first = exact-is (f .ratio-of .ensures .0); last = exact-is (l .ratio-of2 .ensures .0) })
 
 returns : tie.Need-returns
 returns c =
-    let told = c .before in let f = told .before .before in let a = start f .args in
-    tells-refused (first-beyond (a .title .now) (a .n) (a .ordinates .now) (length (a .text .now)) (rounded-is (f .ratio-of .ensures .0) (told .enum-told .given .1))) (c .refused .ensures)
+    let f = c .before .before in let a = start f .args in
+    λ title _ space. first-beyond title (a .n) (a .ordinates .now) space (rounded-is (f .ratio-of .ensures .0) (c .enum-told .given .1))
 
 returns-2 : tie.Need-returns-2
 returns-2 c =
-    let told = c .before in let l = told .before .before in let m = l .before .before in let f = m .before .before in let a = start f .args in
+    let l = c .before .before in let m = l .before .before in let f = m .before .before in let a = start f .args in
     let is = rounded-is (f .ratio-of .ensures .0) (m .first-rounded .given .1) in
-    let beyond = rounded-is (l .ratio-of2 .ensures .0) (told .enum-told2 .given .1) in
-    tells-refused (last-beyond (a .title .now) (a .n) (a .ordinates .now) (length (a .text .now)) is beyond) (c .refused2 .ensures)
-
-same-length : tie.Need-same-length
-same-length c = search needs
+    let beyond = rounded-is (l .ratio-of2 .ensures .0) (c .enum-told2 .given .1) in
+    λ title _ space. last-beyond title (a .n) (a .ordinates .now) space is beyond
 
 returns-3 : tie.Need-returns-3
 returns-3 c =
-    let read = c .before .before in let two = read .before .before in let one = two .before in let k = one .before .before in let l = k .before .before in
+    let two = c .before in let one = two .before in let k = one .before .before in let l = k .before .before in
     let m = l .before .before in let f = m .before .before in
     let a = start f .args in
     let is-first = rounded-is (f .ratio-of .ensures .0) (m .first-rounded .given .1) in
     let is-last = rounded-is (l .ratio-of2 .ensures .0) (k .last-rounded .given .1) in
-    tells-same (both-whole (a .title .now) (a .n) (a .ordinates .now) (length (a .text .now)) is-first is-last)
-    (rw (toZ-ofZ (sfits-of {w = w64} (one .whole-of .ok)), toZ-ofZ (sfits-of {w = w64} (two .whole-of2 .ok)), one .whole-of .ensures, two .whole-of2 .ensures)
-    at (read .write-in .ensures))
+    let next = rw (toZ-ofZ (sfits-of {w = w64} (one .whole-of .ok)), toZ-ofZ (sfits-of {w = w64} (two .whole-of2 .ok)), one .whole-of .ensures, two .whole-of2 .ensures)
+    at (c .plan-in .ensures) in
+    λ title short. plans-same _ _ _ title (a .ordinates .now) (c .plan-in .result) (λ space. both-whole title (a .n) (a .ordinates .now) space is-first is-last) (next title short)
 
-pub write-numbers-spec : {M : Type 1} → statement M
-write-numbers-spec =
+pub plan-numbers-spec : {M : Type 1} → statement M
+plan-numbers-spec =
     tie.close
     (tie.spec
     ratio-of-requires
     enum-told
-    refused-requires
     enum-known-first-rounded
     ratio-of-requires-2
     enum-told-2
-    refused-requires-2
     enum-known-last-rounded
     whole-of-requires
     whole-of-requires-2
-    write-in-requires
+    plan-in-requires
     returns
     returns-2
-    same-length
     returns-3)

@@ -1,5 +1,5 @@
--- The stages of writing a file, one inside the other. No place of the code is named here. Assumes nothing.
-use mathlib.Core.Path.{_≡_, refl, subst}
+-- The stages before a file is written, one inside the other. No place of the code is named here. Assumes nothing.
+use mathlib.Core.Path.{_≡_, refl, subst, _∙_}
 use mathlib.Core.Bool.{Bool, true, false}
 use mathlib.Core.List.{List, [], _∷_}
 use Prim.Native.Nat.{ℕ, zero, suc, _≤_, _<_}
@@ -7,9 +7,8 @@ use native.Mathlib.Omega.{arith}
 use lib.IntN.{ℤ, pos}
 use lib.ListN.{length, getD}
 use borrow.Author.Tests.{lt-ltb, le-ltb}
-use Rattle.terms.specs.Refusals.{fault-at}
 use Rattle.table_spec.specs.Frame.{frame-legal, ordinate-of}
-use Rattle.table_spec.specs.Writing.{Outcome, declined, fitted, laid}
+use Rattle.table_spec.specs.Writing.{Outcome, declined, fitted}
 use Rattle.decimal_spec.specs.declared.Rounded.{Rounded}
 use Rattle.frame.specs.declared.Frame.{Frame}
 use Rattle.frame.specs.Legal.{Sound}
@@ -19,19 +18,16 @@ use Rattle.file_spec.specs.declared.Decimal.{Decimal}
 use Rattle.file_spec.specs.declared.Numbers.{Numbers}
 use Rattle.file_spec.specs.declared.Exactness.{Exactness}
 use Rattle.file_spec.specs.Figures.{ratio, whole, agrees}
-use Rattle.file_write_spec.specs.declared.FileWritten.{FileWritten}
 use Rattle.file_write_spec.specs.File.{ordinates}
 use Rattle.file_lines.specs.Lines.{Writable, AllWritable}
-use Rattle.file_write.specs.Answers.{FileTells}
-use Rattle.file_write.specs.Stages.{laidOut, bodyOf, Scaled, inFrame, first-from, last-from, fromNumbers}
+use Rattle.file_plan.specs.Stages.{laidOut, bodyOf, Scaled, inFrame, first-from, last-from, fromNumbers, Plans}
+use Rattle.file_plan.specs.declared.Planned.{Planned}
 
--- a stage that refuses, and one that is what a later one is
-pub tells-refused : {q : Exactness} {x : Outcome} {o : List ℕ} {r : FileWritten} {k : ℕ} → x ≡ declined k → r ≡ FileWritten.Refused (fault-at k 0) → FileTells q x o o r
-unfolding laid
-tells-refused {q} {x} {o} {r} {k} e h = record { answer = rw (e, h) refl; bytes = rw e refl }
-
-pub tells-same : {q : Exactness} {x y : Outcome} {o o' : List ℕ} {r : FileWritten} → x ≡ y → FileTells q y o o' r → FileTells q x o o' r
-tells-same {q} {x} {y} {o} {o'} {r} e g = record { answer = rw e (g .answer); bytes = rw e (g .bytes) }
+-- a stage that is what a later one is
+pub plans-same : (x y : ℕ → Outcome) (e : Exactness) (title : List ℕ) (es : List ℤ) (r : Planned) → ((space : ℕ) → x space ≡ y space) → Plans y e title es r → Plans x e title es r
+plans-same x y e title es (Planned.Refused k) h g = λ space. h space ∙ g space
+plans-same x y e title es (Planned.Taken p) h g =
+    record { titled = g .titled; writable = g .writable; framed = g .framed; exact = g .exact; text = λ space. h space ∙ g .text space }
 
 -- what is taken can be divided
 pub small : {d : Decimal} → Writable d → Small d
