@@ -1,6 +1,5 @@
 // The functions that C calls (include/lastarunc.h; 02, T-01). Each fills its answer, which is a struct of 64-bit numbers for C, and returns the first of them, `refused`: 0 for acceptance.
 // Every argument is answered, every number is set, and what is not given is 0.
-ghost use mathlib.Core.Path.{_≡_};
 ghost use Rattle.table_spec.specs.declared.Style.the-variants.{Difdup};
 ghost use Rattle.host_text.specs.Answers.{TextTold, FormTold, FileTextTold, TextLengthTold, FileLengthTold};
 ghost use Rattle.host_profile.specs.Answers.{ProfileTold};
