@@ -349,6 +349,21 @@ static void compare_body(void)
     free(expected);
 }
 
+/* What a length is answered with: the refusal, or the bytes of the text. */
+struct measured {
+    int64_t number, length;
+};
+
+static struct measured take_measured(void)
+{
+    struct measured m;
+    m.number = take_u32();
+    if (m.number == UINT32_MAX)
+        m.number = LASTARUNC_NO_FORM;
+    m.length = take_i64();
+    return m;
+}
+
 /* A table of n ordinates to be written into `room` bytes, and the second writer's answer, a text of `length` bytes. */
 struct write_case {
     int64_t first, last, number, place;
@@ -357,6 +372,7 @@ struct write_case {
     size_t length;
     int32_t *ordinates;
     uint8_t *expected;
+    struct measured measured;
 };
 
 static struct write_case take_write_case(void)
@@ -375,6 +391,7 @@ static struct write_case take_write_case(void)
     c.place = take_i64();
     c.length = take_u64();
     c.expected = take_bytes(c.length);
+    c.measured = take_measured();
     return c;
 }
 
@@ -432,6 +449,25 @@ static void show_written(const struct write_case *c, const struct written *w, co
     show_bytes("the lent text now", w->text, c->room);
 }
 
+/* What is wrong with the length that is told before writing, NULL if nothing is; the C writers tell none. */
+static const char *length_differs(const struct write_case *c)
+{
+#ifdef COMPARE_C
+    (void)c;
+    return NULL;
+#else
+    int32_t *lent = copy_of(c->ordinates, c->n * sizeof *c->ordinates);
+    struct lastarunc_text *answer = filled_bytes(sizeof *answer);
+    int64_t returned = lastarunc_text_length(c->form, c->first, c->last, c->points, lent, c->n, answer);
+    bool same = returned == c->measured.number && answer->refused == returned && answer->length == c->measured.length
+        && !answer->first_exact && !answer->last_exact && !answer->firsty_exact
+        && !guard_altered(answer, sizeof *answer) && !memcmp(lent, c->ordinates, c->n * sizeof *c->ordinates);
+    free(lent);
+    free(answer);
+    return same ? NULL : "the length told before writing";
+#endif
+}
+
 /*
  * By write_form; then again, in fresh memory, DIFDUP by write_table, and a form that is none by a number that is too
  * large for 32 bits and a form's in its low half. The first difference decides.
@@ -450,6 +486,8 @@ static void compare_write(void)
         w = write_by(&c, form == LASTARUNC_DIFDUP ? NULL : &large);
         difference = written_differs(&c, &w);
     }
+    if (!difference)
+        difference = length_differs(&c);
     if (counted(c.form > LASTARUNC_SQZ ? NO_FORM : WRITES + c.form, c.number, difference))
         show_written(&c, &w, by);
     free_written(&w);
@@ -832,6 +870,7 @@ struct file_case {
     int64_t number, place, first, last;
     struct exact exact;
     size_t length;
+    struct measured measured;
 };
 
 static struct lastarunc_decimal take_decimal(void)
@@ -863,6 +902,7 @@ static struct file_case take_file_case(void)
     c.exact = take_exact();
     c.length = take_u64();
     c.expected = take_bytes(c.length);
+    c.measured = take_measured();
     return c;
 }
 
@@ -953,11 +993,24 @@ static void show_written_file(const struct file_case *c, const struct written_fi
     show_bytes("the lent text now", w->text, c->room);
 }
 
+/* What is wrong with the length of the file that is told before writing; NULL if nothing is. */
+static const char *file_length_differs(const struct file_case *c)
+{
+    struct lastarunc_text *answer = filled_bytes(sizeof *answer);
+    int64_t returned = lastarunc_file_length(c->title, c->title_length, c->points, &c->scales, c->ordinates, c->n,
+                                             answer);
+    bool same = returned == c->measured.number && answer->refused == returned && answer->length == c->measured.length
+        && !guard_altered(answer, sizeof *answer);
+    free(answer);
+    return same ? NULL : "the length told before writing";
+}
+
 static void compare_written_file(void)
 {
     struct file_case c = take_file_case();
     struct written_file w = write_the_file(&c);
-    if (counted(WRITTEN_FILES, c.number, written_file_differs(&c, &w)))
+    const char *difference = written_file_differs(&c, &w);
+    if (counted(WRITTEN_FILES, c.number, difference ? difference : file_length_differs(&c)))
         show_written_file(&c, &w);
     free(w.title);
     free(w.text);

@@ -47,6 +47,10 @@ enum lastarunc_form { LASTARUNC_DIFDUP = 0, LASTARUNC_AFFN = 1, LASTARUNC_PAC = 
 #define LASTARUNC_MOST_BYTES 1048576
 #define LASTARUNC_LARGEST_ABSCISSA INT64_C(9999999999)
 
+/* So many bytes hold every text of so many points, in each form, and every file of them. */
+#define LASTARUNC_TEXT_CEILING(points) (15 * (size_t)(points) + 44)
+#define LASTARUNC_FILE_CEILING(points) (15 * (size_t)(points) + 297)
+
 /* What lastarunc_read_table answers. */
 struct lastarunc_table {
     int64_t refused, place, line, column;
@@ -168,6 +172,15 @@ int64_t lastarunc_write_form(uint64_t form, int64_t first, int64_t last, size_t 
                              size_t n, uint8_t *text, size_t room, struct lastarunc_text *answer);
 
 /*
+ * The exact length of the text that lastarunc_write_form would write, before it is written.
+ * Accepted: answer->length; that many bytes hold the text, and with one byte less it is refused with 15.
+ * Refused as lastarunc_write_form, but never with 15.
+ * LASTARUNC_TEXT_CEILING(points) bytes hold every text of every form, so that nothing need be measured.
+ */
+int64_t lastarunc_text_length(uint64_t form, int64_t first, int64_t last, size_t points, const int32_t *ordinates,
+                              size_t n, struct lastarunc_text *answer);
+
+/*
  * Reads a simple JCAMP-DX file, from TITLE to END, with one XYDATA table.
  * Accepted: answer->points, first and last are the table's frame, and out[0] to out[answer->points - 1] are the
  * ordinates.
@@ -196,6 +209,14 @@ int64_t lastarunc_read_file(const uint8_t *file, size_t file_len, int32_t *out, 
 int64_t lastarunc_write_file(const uint8_t *title, size_t title_len, size_t points,
                              const struct lastarunc_scales *scales, const int32_t *ordinates, size_t n, uint8_t *text,
                              size_t room, struct lastarunc_text *answer);
+
+/*
+ * The exact length of the file that lastarunc_write_file would write, before it is written.
+ * Accepted and refused as lastarunc_text_length; LASTARUNC_FILE_CEILING(points) bytes hold every file.
+ */
+int64_t lastarunc_file_length(const uint8_t *title, size_t title_len, size_t points,
+                              const struct lastarunc_scales *scales, const int32_t *ordinates, size_t n,
+                              struct lastarunc_text *answer);
 
 /*
  * Finds the record with this name; names are compared as labels are, in upper case without blanks, `-`, `/` and `_`.

@@ -30,12 +30,12 @@ pub struct WriteCase {
 }
 
 impl WriteCase {
-    /// The number, the place and the text of the answer.
-    fn answer(&self) -> (u32, u64, Vec<u8>) {
+    /// The number, the place and the text of the answer, with so much room.
+    fn answer(&self, room: usize) -> (u32, u64, Vec<u8>) {
         let Some(form) = TextForm::numbered(self.form) else {
             return (ABSENT, 0, Vec::new());
         };
-        match write_body(form, &self.frame, &self.ordinates, self.room as usize) {
+        match write_body(form, &self.frame, &self.ordinates, room) {
             Ok(text) => (0, 0, text),
             Err(fault) => (fault.number, fault.place, Vec::new()),
         }
@@ -173,11 +173,19 @@ pub fn put_write_case(out: &mut impl Write, case: &WriteCase) -> io::Result<()> 
     put_u32(out, case.ordinates.len() as u32)?;
     put_ordinates(out, &case.ordinates)?;
     put_u32(out, case.room)?;
-    let (number, place, text) = case.answer();
+    let (number, place, text) = case.answer(case.room as usize);
     put_u32(out, number)?;
     put_u64(out, place)?;
     put_u64(out, text.len() as u64)?;
-    out.write_all(&text)
+    out.write_all(&text)?;
+    let (number, _, text) = case.answer(usize::MAX);
+    put_length(out, number, text.len())
+}
+
+/// The length of a text, whatever room there is, or the refusal (02, T-10).
+fn put_length(out: &mut impl Write, number: u32, length: usize) -> io::Result<()> {
+    put_u32(out, number)?;
+    put_u64(out, length as u64)
 }
 
 /// Writes a file case and its answer.
@@ -325,7 +333,11 @@ pub fn put_written_file_case(out: &mut impl Write, case: &WrittenFileCase) -> io
     put_u64(out, frame.last as u64)?;
     put_exact(out, exact)?;
     put_u64(out, text.len() as u64)?;
-    out.write_all(&text)
+    out.write_all(&text)?;
+    match case.answer_in(usize::MAX) {
+        Ok(written) => put_length(out, 0, written.text.len()),
+        Err(fault) => put_length(out, fault.number, 0),
+    }
 }
 
 /// A stream that is being read.
@@ -437,7 +449,7 @@ impl<R: Read> Stream<R> {
         let number = self.u32()?;
         self.u64()?;
         let length = self.u64()? as usize;
-        self.bytes(length)?;
+        self.bytes(length + 12)?;
         self.close += usize::from(number == 0 && frame.span().abs() < frame.steps());
         let names = ["W difdup", "W affn", "W pac", "W sqz"];
         Ok((form.map_or("W no form", |form| names[form as usize]), number, length))
@@ -537,7 +549,7 @@ impl<R: Read> Stream<R> {
         let number = self.u32()?;
         self.bytes(24 + 12)?;
         let length = self.u64()? as usize;
-        self.bytes(length)?;
+        self.bytes(length + 12)?;
         let case = WrittenFileCase { title, points, scales: Scales::of(scales), ordinates, room };
         for (times, holds) in self.tried_files.iter_mut().zip(file_tried::tried(&case)) {
             *times += usize::from(holds);
