@@ -1,0 +1,4 @@
+pub mod Plain
+pub mod Titles
+pub mod AnyPage
+pub mod ShownTexts
