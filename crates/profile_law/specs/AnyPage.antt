@@ -1,8 +1,8 @@
 -- A file that has all fifteen records gets one answer, whatever the page.
-use mathlib.Core.Path.{_≡_, refl, sym, ap, _∙_}
+use mathlib.Core.Path.{_≡_, refl, sym, _∙_}
 use mathlib.Core.Bool.{Bool, true, false}
 use mathlib.Core.List.{List, [], _∷_}
-use Prim.Native.Nat.{ℕ, zero, suc, _<_}
+use Prim.Native.Nat.{ℕ, suc, _<_}
 use native.Mathlib.Omega.{arith}
 use lib.ListN.{length, getD}
 use Rattle.terms.specs.Logic.{pick, zero-one}
@@ -19,7 +19,8 @@ use Rattle.profile_spec.specs.declared.Located.{Located}
 use Rattle.profile_spec.specs.declared.Profiled.{Profiled}
 use Rattle.profile_spec.specs.Wanted.{Wanted, wanted, kth}
 use Rattle.profile_spec.specs.Profile.{placed, located, textAt, listed, wordAt, judged, words, present, records, profiled, numbers, allNumbers, ProfileAnswer, refuse-profile, accept-profile, byProfiled, byProfile, byFile, readProfile}
-use Rattle.profile_law.specs.Titles.{long, name-untitled, record-after}
+use Rattle.profile_law.specs.Fifteen.{long}
+use Rattle.profile_law.specs.Titles.{name-untitled, record-after}
 
 -- the file has the k-th record, for each k
 abbrev pub HasAll : List ℕ → Type 0

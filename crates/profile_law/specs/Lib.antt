@@ -1,3 +1,4 @@
+pub mod Fifteen
 pub mod Plain
 pub mod Titles
 pub mod AnyPage

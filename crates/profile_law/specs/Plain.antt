@@ -1,5 +1,5 @@
 -- What the plain reader refuses, the profile's refuses so; and what it accepts, the plain reader accepts with the same table and ordinates.
-use mathlib.Core.Path.{_≡_, refl, ap}
+use mathlib.Core.Path.{_≡_, refl}
 use mathlib.Core.Bool.{false}
 use mathlib.Core.List.{List}
 use Prim.Native.Nat.{ℕ, suc}

@@ -1,26 +1,24 @@
 -- What an accepted profile shows of its k-th record is the text that the record has in the file, or else on the page.
-use mathlib.Core.Path.{_≡_, refl, sym, _∙_}
+use mathlib.Core.Path.{_≡_, refl, _∙_}
 use mathlib.Core.Bool.{Bool, true, false}
 use mathlib.Core.List.{List, [], _∷_}
-use Prim.Native.Nat.{ℕ, zero, suc, _+_, _*_, _<_}
+use Prim.Native.Nat.{ℕ, zero, suc, _*_, _<_}
 use native.Mathlib.Omega.{arith}
 use native.Mathlib.Nat.{not-suc-le-zero, le-of-suc-le-suc}
 use lib.Dec.{eqb}
 use lib.ListN.{length, getD}
 use Rattle.terms.specs.Logic.{pick, zero-one}
-use Rattle.label_spec.specs.Names.{sames, TITLE}
 use Rattle.label_spec.specs.Labels.{from}
-use Rattle.label_spec.specs.File.{labelled}
 use Rattle.label_spec.specs.Records.{recordOf, asRecord, recordFor}
 use Rattle.label_spec.specs.declared.Found.{Found}
-use Rattle.label_spec.specs.declared.Labelled.{Labelled}
 use Rattle.file_spec.specs.declared.FileTable.{FileTable}
 use Rattle.profile_spec.specs.declared.Shown.{Shown}
 use Rattle.profile_spec.specs.declared.Located.{Located}
 use Rattle.profile_spec.specs.declared.Profiled.{Profiled}
 use Rattle.profile_spec.specs.Wanted.{Wanted, wanted, kth}
 use Rattle.profile_spec.specs.Profile.{onPage, placed, located, textAt, words, present, records, profiled, numbers, allNumbers, pageText, shown}
-use Rattle.profile_law.specs.Titles.{long, name-untitled, record-after}
+use Rattle.profile_law.specs.Fifteen.{long}
+use Rattle.profile_law.specs.Titles.{name-untitled, record-after}
 use Rattle.profile_law.specs.Plain.{Accepted}
 
 -- the k-th three of these numbers: whether it is on the page, from, to

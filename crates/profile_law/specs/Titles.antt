@@ -1,5 +1,5 @@
 -- TITLE is none of the fifteen: where one of them stands in a file whose labels are not refused, it stands after TITLE and before END.
-use mathlib.Core.Path.{_≡_, refl, sym, _∙_}
+use mathlib.Core.Path.{_≡_, refl}
 use mathlib.Core.Bool.{Bool, true, false}
 use mathlib.Core.List.{List, [], _∷_, _++_}
 use Prim.Native.Nat.{ℕ, zero, suc, _+_, _<_, _≤_}
@@ -20,9 +20,10 @@ use Rattle.label_spec.specs.declared.Opened.{Opened}
 use Rattle.label_spec.specs.declared.Walked.{Walked}
 use Rattle.label_spec.specs.declared.Labelled.{Labelled}
 use Rattle.compound_law.specs.Above.{Above, from-above}
-use Rattle.compound_law.specs.Standing.{Sound, sound}
+use Rattle.compound_law.specs.Standing.{sound}
 use Rattle.compound_law.specs.Found.{opened-since}
 use Rattle.profile_spec.specs.Wanted.{Wanted, wanted, kth}
+use Rattle.profile_law.specs.Fifteen.{long}
 
 -- ---- no name of the fifteen is TITLE
 
@@ -42,10 +43,6 @@ each-untitled : (vs : List Wanted) → untitled vs ≡ true → (d : Wanted) (k 
 each-untitled [] e d k h = absurd (not-suc-le-zero h)
 each-untitled (v ∷ vs) e d zero h = pick-left (sames TITLE (v .name)) (untitled vs) e .0
 each-untitled (v ∷ vs) e d (suc k) h = each-untitled vs (pick-left (sames TITLE (v .name)) (untitled vs) e .1) d k (le-of-suc-le-suc h)
-
-pub long : length wanted ≡ 15
-unfolding wanted
-long = refl
 
 pub name-untitled : (k : ℕ) → k < 15 → sames TITLE (kth k .name) ≡ false
 name-untitled k h = let l : k < length wanted = rw long h in each-untitled wanted none-titled _ k l
