@@ -1,4 +1,4 @@
--- What `profile::read_profile` promises, in terms of its contract and of those of `file::read_file`, `label::find` and `profile::text_of`. Assumes nothing.
+-- What `profile::read_profile` promises, in terms of its contract and of those of `file::read_file`, `label::find` and `profile_text::text_of`. Assumes nothing.
 use mathlib.Core.Path.{_≡_, refl, sym, _∙_}
 use mathlib.Core.Bool.{false}
 use mathlib.Core.List.{List, _++_}
