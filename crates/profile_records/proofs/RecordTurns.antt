@@ -12,8 +12,9 @@ use Rattle.label_spec.specs.Space.{pastSpace}
 use Rattle.profile_spec.specs.declared.Shown.{Shown}
 use Rattle.profile_spec.specs.declared.Located.{Located}
 use Rattle.profile_spec.specs.declared.Profiled.{Profiled}
-use Rattle.profile_spec.specs.Wanted.{Wanted, wanted, kth}
+use Rattle.profile_spec.specs.Wanted.{wanted, kth}
 use Rattle.profile_spec.specs.Profile.{located, textAt, listed, wordAt, judged, words, present, records, profiled, numbers, allNumbers}
+use Rattle.profile_law.specs.Fifteen.{long, all-long}
 use Rattle.profile_find.specs.Post.{Locates, locatedIn}
 use Rattle.profile_records.specs.Post.{judgedIn, after, Surveys}
 
@@ -68,26 +69,11 @@ judged-after : (s p : List ℕ) (ws : List (List ℕ)) (x : Shown) (r : Profiled
 unfolding judged
 judged-after s p ws x r = picked-after (listed ws (textAt s p x)) (x .page) (wordAt s p x) r
 
-long : length wanted ≡ 15
-unfolding wanted
-long = refl
-
 next : (k : ℕ) → k < 15 → drop k wanted ≡ kth k ∷ drop (k + 1) wanted
 next k h = let l : k < length wanted = rw long h in drop-cons wanted k (record { name = []; words = [] }) l ∙ rw (add-one k) refl
 
 all-done : (k : ℕ) → 15 ≤ k → drop k wanted ≡ []
 all-done k h = let l : length wanted ≤ k = rw long h in drop-of-length-le wanted l
-
--- three numbers a record
-numbers-long : (l : Located) (ns : List ℕ) → length (numbers l ns) ≡ suc (suc (suc (length ns)))
-unfolding numbers
-numbers-long (Located.At x) ns = refl
-numbers-long Located.Absent ns = refl
-
-all-long : (s : List ℕ) (start stop : ℕ) (p : List ℕ) (vs : List Wanted) → length (allNumbers s start stop p vs) ≡ 3 * length vs
-unfolding allNumbers
-all-long s start stop p [] = refl
-all-long s start stop p (v ∷ vs) = let x = numbers-long (located s start stop p (v .name)) (allNumbers s start stop p vs) in let y = all-long s start stop p vs in omega arith
 
 -- a whole list stored over another
 pub sets-whole : (l vs : List ℕ) → length l ≡ length vs → sets l 0 vs ≡ vs

@@ -1,11 +1,11 @@
--- `profile::check_profile` meets its contract: the labels, the table, then the fifteen records.
+-- `profile_check::check_profile` meets its contract: the labels, the table, then the fifteen records.
 use mathlib.Core.Path.{sym, _∙_}
 use native.Mathlib.Omega.{arith}
 use borrow.Author.Needs.{needs}
 use Rattle.file.proofs.StageLaws.{labelled-short}
-use Rattle.profile.proofs.ReadTurns.{check-labels, check-fault, check-records}
-use Rattle.profile.proofs.check_profile.Statement.{statement}
-use Rattle.profile.proofs.check_profile.Tie as tie
+use Rattle.profile_check.proofs.CheckTurns.{check-labels, check-fault, check-records}
+use Rattle.profile_check.proofs.check_profile.Statement.{statement}
+use Rattle.profile_check.proofs.check_profile.Tie as tie
 
 labels-requires : tie.Need-labels-requires
 labels-requires c κs = search needs

@@ -1,9 +1,9 @@
--- `profile::text_of` meets its contract: the record of the file, or else of the page.
+-- `profile_text::text_of` meets its contract: the record of the file, or else of the page.
 use mathlib.Core.Path.{sym, _∙_}
 use borrow.Author.Needs.{needs}
-use Rattle.profile.proofs.ReadTurns.{shown-file, shown-refused, shown-page, shown-none}
-use Rattle.profile.proofs.text_of.Statement.{statement}
-use Rattle.profile.proofs.text_of.Tie as tie
+use Rattle.profile_text.proofs.TextTurns.{shown-file, shown-refused, shown-page, shown-none}
+use Rattle.profile_text.proofs.text_of.Statement.{statement}
+use Rattle.profile_text.proofs.text_of.Tie as tie
 
 find-requires : tie.Need-find-requires
 find-requires c κs = search needs

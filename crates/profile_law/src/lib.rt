@@ -1,0 +1,1 @@
+// Laws of the ion mobility profile (02, T-09). No code.
