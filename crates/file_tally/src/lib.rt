@@ -110,14 +110,14 @@ fn lowered(raised: u64, given: u64) -> i64
 }
 
 // A number of the report, of one ordinate or, for a magnitude, of none; 0 for `none`.
-fn level_of(u: u64, given: u64) -> Level
-    requires { ⌜ (u < 4294967296) × (given < 2) ⌝ }
-    ensures { λ r. ⌜ r ≡ levelFrom u given ⌝ }
+fn level_of(raised: u64, given: u64) -> Level
+    requires { ⌜ (raised < 4294967296) × (given < 2) ⌝ }
+    ensures { λ r. ⌜ r ≡ levelFrom raised given ⌝ }
 {
-    if u == 0 {
+    if raised == 0 {
         return Level::Nothing;
     }
-    Level::Is(lowered(u, given))
+    Level::Is(lowered(raised, given))
 }
 
 // What the report says of so many points that come to this.

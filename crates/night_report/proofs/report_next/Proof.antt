@@ -18,7 +18,7 @@ returns : tie.Need-returns
 returns c = next-strange (sym (c .before .walk-legal .ensures) ∙ not-true _ (c .if1 .taken))
 
 sub-left : tie.Need-sub-left
-sub-left c = legal-in _ (sym (c .before .walk-legal .ensures) ∙ not-false _ (c .if1 .left)) .0
+sub-left c = let h = legal-in _ (sym (c .before .walk-legal .ensures) ∙ not-false _ (c .if1 .left)) in omega (arith, h .0)
 
 next-record-requires : tie.Need-next-record-requires
 next-record-requires c κs = search needs
