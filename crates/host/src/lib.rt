@@ -3,6 +3,7 @@
 ghost use Rattle.table_spec.specs.declared.Style.the-variants.{Difdup};
 ghost use Rattle.host_text.specs.Answers.{TextTold, FormTold, FileTextTold, TextLengthTold, FileLengthTold};
 ghost use Rattle.host_profile.specs.Answers.{ProfileTold};
+ghost use Rattle.host_night.specs.Told.{StepTold};
 ghost use Rattle.host.specs.Answers.{TableTold, FileTold, RecordTold};
 ghost use Rattle.host.specs.Blocks.{BlocksTold, BlockTold, BlockRecordTold};
 use compound_spec::BlockRead;
@@ -339,4 +340,17 @@ pub extern "C" fn lastarunc_read_profile(
     ensures { λ r. ⌜ ProfileTold (now (file .entry)) (now (page .entry)) (now (out .entry)) (now (out .exit)) (now (shown .entry)) (now (shown .exit)) (now (answer .exit)) r ⌝ }
 {
     tell_profile(file, page, out, shown, answer)
+}
+
+// One step of the walk over a spool (02, T-11): the report of the next file, and `progress` is then past it; or the end.
+#[no_mangle]
+pub extern "C" fn lastarunc_next_report(
+    spool: &[u8],
+    out: &mut [i32],
+    progress: &mut [u64; 6],
+    answer: &mut [u64; 11],
+) -> u64
+    ensures { λ r. ⌜ StepTold (now (spool .entry)) (now (out .entry)) (now (out .exit)) (now (progress .entry)) (now (progress .exit)) (now (answer .exit)) r ⌝ }
+{
+    host_night::tell_next(spool, out, progress, answer)
 }

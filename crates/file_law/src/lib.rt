@@ -1,0 +1,1 @@
+// Laws about files that are accepted: no code.

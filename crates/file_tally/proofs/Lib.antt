@@ -1,0 +1,4 @@
+pub mod TallyLaws
+pub mod MeanLaws
+pub mod ReportLaws
+pub mod Widths
