@@ -6,6 +6,7 @@ pub mod damage;
 pub mod files;
 pub mod profile;
 pub mod spell;
+pub mod spools;
 pub mod tables;
 pub mod writes;
 pub mod written_files;
@@ -14,16 +15,16 @@ use crate::frame::{Frame, LONGEST, LONGEST_LINE};
 use crate::random::Random;
 use crate::stream::{
     put_block_record_case, put_body_case, put_compound_case, put_file_case, put_profile_case, put_record_case,
-    put_write_case, put_written_file_case, BodyCase,
+    put_spool_case, put_write_case, put_written_file_case, BodyCase,
 };
 use crate::text::{write_body, TextForm};
 use std::io::{self, Write};
 
 /// Writes as many cases of each kind as are asked for: bodies, tables to be written, files, files to be written,
-/// compound files, files with a page. A file case is often followed by a record case, that of a compound file by one of
+/// compound files, files with a page, spools. A file case is often followed by a record case, that of a compound file by one of
 /// a block's record.
-pub fn write_cases(out: &mut impl Write, seed: u64, counts: [usize; 6]) -> io::Result<()> {
-    let [bodies, writes, files, written, compound, profiles] = counts;
+pub fn write_cases(out: &mut impl Write, seed: u64, counts: [usize; 7]) -> io::Result<()> {
+    let [bodies, writes, files, written, compound, profiles, spools] = counts;
     let random = &mut Random::new(seed);
     for index in 0..bodies {
         put_body_case(out, &body_case(random, index, bodies))?;
@@ -50,6 +51,9 @@ pub fn write_cases(out: &mut impl Write, seed: u64, counts: [usize; 6]) -> io::R
     }
     for index in 0..profiles {
         put_profile_case(out, &profile::profile_case(random, index, profiles))?;
+    }
+    for index in 0..spools {
+        put_spool_case(out, &spools::spool_case(random, index, spools))?;
     }
     Ok(())
 }

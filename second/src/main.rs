@@ -11,6 +11,7 @@ mod frame;
 mod heads;
 mod lengths;
 mod line;
+mod night;
 mod plain;
 mod profile;
 mod random;
@@ -32,9 +33,8 @@ const PROGRAM_POINTS: u64 = 4_096;
 
 /// Prints how the program is used, and ends it.
 fn usage() -> ! {
-    eprintln!(
-        "second cases --seed S --bodies A --writes B --files C --written-files D --compound E --profiles G > stream"
-    );
+    eprintln!("second cases --seed S --bodies A --writes B --files C --written-files D --compound E --profiles G");
+    eprintln!("             --spools H > stream");
     eprintln!("second stored --seed S --bodies A --writes B --files C --written-files D --cases PATH --answers PATH");
     eprintln!("second count < stream");
     eprintln!("second body F L N [--room R] < body");
@@ -43,6 +43,7 @@ fn usage() -> ! {
     eprintln!("second file [--whole] [--room R] < file    (--whole: the library's limits, not the program's)");
     eprintln!("second compound [--room R] < file    (with the library's limits)");
     eprintln!("second profile PAGE [--room R] < file    (PAGE: a file; with the library's limits)");
+    eprintln!("second night [--room R] < spool");
     eprintln!("second selftest");
     exit(2)
 }
@@ -84,7 +85,7 @@ fn cases_command(arguments: &[String]) -> io::Result<()> {
     let out = &mut BufWriter::new(io::stdout().lock());
     let number = |name| option(arguments, name, 0) as usize;
     let seed = option(arguments, "--seed", 1);
-    let counts = ["--bodies", "--writes", "--files", "--written-files", "--compound", "--profiles"].map(number);
+    let counts = ["--bodies", "--writes", "--files", "--written-files", "--compound", "--profiles", "--spools"].map(number);
     cases::write_cases(out, seed, counts)?;
     out.flush()
 }
@@ -210,6 +211,29 @@ fn profile_command(arguments: &[String]) -> io::Result<()> {
     Ok(())
 }
 
+/// Reports the spool on standard input, a line a file, then the totals.
+fn night_command(arguments: &[String]) -> io::Result<()> {
+    let spool = input()?;
+    let night = night::report(&spool, option(arguments, "--room", u64::MAX) as usize);
+    let level = |level: Option<i64>| level.map_or("none".into(), |y| y.to_string());
+    for report in &night.reports {
+        match &report.outcome {
+            Err(fault) => println!("{} {}", report.at, fault.told(report.file)),
+            Ok((account, _)) => {
+                let levels = [account.lowest, account.highest, Some(account.sum), account.faintest].map(level);
+                println!("{} ok {} {} {}", report.at, account.points, account.missing, levels.join(" "));
+            }
+        }
+    }
+    let night::Totals { files, points, missing, sum } = night.totals;
+    println!("totals {files} {points} {missing} {sum}");
+    match night.ended {
+        Ok(()) => println!("whole"),
+        Err(fault) => println!("refused {} {}", fault.number, fault.place),
+    }
+    Ok(())
+}
+
 /// Does what the first argument asks for.
 fn main() -> io::Result<()> {
     let arguments: Vec<String> = std::env::args().skip(1).collect();
@@ -223,6 +247,7 @@ fn main() -> io::Result<()> {
         Some("file") => file_command(&arguments[1..]),
         Some("compound") => compound_command(&arguments[1..]),
         Some("profile") => profile_command(&arguments[1..]),
+        Some("night") => night_command(&arguments[1..]),
         Some("selftest") => exit(selftest::run()),
         _ => usage(),
     }

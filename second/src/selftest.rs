@@ -6,6 +6,7 @@ mod exact;
 mod forms;
 mod heads;
 mod lengths;
+mod night;
 mod profile;
 mod written_files;
 
@@ -594,6 +595,7 @@ pub fn run() -> i32 {
     compound::check(report);
     exact::check(report);
     profile::check(report);
+    night::check(report);
     let random = &mut Random::new(7);
     check_spellings(report, random);
     check_written(report, random);

@@ -9,6 +9,7 @@ use crate::frame::{Frame, Refusal};
 use crate::heads::{tried, TRIED};
 use crate::lengths;
 use crate::line::Told;
+use crate::night::{report, Totals};
 use crate::profile::{read_profile, WANTED};
 use crate::text::{write_body, TextForm};
 use std::collections::BTreeMap;
@@ -102,6 +103,12 @@ pub struct CompoundCase {
 pub struct ProfileCase {
     pub file: Vec<u8>,
     pub page: Vec<u8>,
+    pub room: u32,
+}
+
+/// A spool to be reported, each file read with so much room.
+pub struct SpoolCase {
+    pub spool: Vec<u8>,
     pub room: u32,
 }
 
@@ -295,6 +302,48 @@ pub fn put_profile_case(out: &mut impl Write, case: &ProfileCase) -> io::Result<
     }
 }
 
+/// A number that may be none: 1 and the number, or 0 and 0.
+fn put_level(out: &mut impl Write, level: Option<i64>) -> io::Result<()> {
+    put_u32(out, u32::from(level.is_some()))?;
+    put_u64(out, level.unwrap_or(0) as u64)
+}
+
+/// Ordinates by one number, FNV-1a over their bytes: a night has too many to write them all.
+fn digest(ordinates: &[i32]) -> u64 {
+    let bytes = ordinates.iter().flat_map(|y| y.to_le_bytes());
+    bytes.fold(0xcbf2_9ce4_8422_2325, |mix, byte| (mix ^ u64::from(byte)).wrapping_mul(0x0100_0000_01b3))
+}
+
+/// Writes a case of a spool: the report of each file, the totals, and how the spool ended.
+pub fn put_spool_case(out: &mut impl Write, case: &SpoolCase) -> io::Result<()> {
+    out.write_all(b"N")?;
+    put_u32(out, case.room)?;
+    put_bytes(out, &case.spool)?;
+    let night = report(&case.spool, case.room as usize);
+    put_u32(out, night.reports.len() as u32)?;
+    for report in &night.reports {
+        put_u64(out, report.at as u64)?;
+        match &report.outcome {
+            Err(fault) => put_told(out, fault.told(report.file))?,
+            Ok((account, ordinates)) => {
+                put_told(out, Told::default())?;
+                put_u64(out, account.points)?;
+                put_u64(out, account.missing)?;
+                put_level(out, account.lowest)?;
+                put_level(out, account.highest)?;
+                put_u64(out, account.sum as u64)?;
+                put_level(out, account.faintest)?;
+                put_u64(out, digest(ordinates))?;
+            }
+        }
+    }
+    let Totals { files, points, missing, sum } = night.totals;
+    [files, points, missing, sum as u64].iter().try_for_each(|total| put_u64(out, *total))?;
+    let ended = night.ended.err();
+    put_u32(out, ended.map_or(0, |fault| fault.number))?;
+    put_u64(out, ended.map_or(0, |fault| fault.place))
+}
+
 /// Writes a case of a data block's record and its answer; a block that is not there is absent too.
 pub fn put_block_record_case(out: &mut impl Write, case: &BlockRecordCase) -> io::Result<()> {
     out.write_all(b"K")?;
@@ -355,6 +404,8 @@ struct Stream<R: Read> {
     shown: [usize; 2],
     /// How many data blocks of compound files have each answer.
     blocks: BTreeMap<u32, usize>,
+    /// How many files of spools have each answer.
+    spooled: BTreeMap<u32, usize>,
     /// How many files to be written tried each of `file_tried::TRIED`.
     tried_files: [usize; file_tried::TRIED.len()],
 }
@@ -418,6 +469,7 @@ impl<R: Read> Stream<R> {
             b'C' => self.compound_case(),
             b'K' => Ok(named("K", self.block_record_case()?)),
             b'P' => self.profile_case(),
+            b'N' => Ok(named("N", self.spool_case()?)),
             _ => Err(io::Error::new(io::ErrorKind::InvalidData, "no such kind of case")),
         }
     }
@@ -504,6 +556,24 @@ impl<R: Read> Stream<R> {
         Ok((name, number, file.len()))
     }
 
+    /// The rest of a case of a spool; the answers of its files are counted apart.
+    fn spool_case(&mut self) -> io::Result<(u32, usize)> {
+        self.u32()?;
+        let length = self.counted()?.len();
+        for _ in 0..self.u32()? {
+            self.u64()?;
+            let answer = self.told()?;
+            if answer == 0 {
+                self.bytes(16 + 12 + 12 + 8 + 12 + 8)?;
+            }
+            *self.spooled.entry(answer).or_default() += 1;
+        }
+        self.bytes(32)?;
+        let number = self.u32()?;
+        self.u64()?;
+        Ok((number, length))
+    }
+
     /// The rest of a case of a file with a page, which is told by the text that its refusal counts in.
     fn profile_case(&mut self) -> io::Result<(&'static str, u32, usize)> {
         self.u32()?;
@@ -571,6 +641,7 @@ pub fn count(input: impl Read) -> io::Result<()> {
         exact: BTreeMap::new(),
         shown: [0; 2],
         blocks: BTreeMap::new(),
+        spooled: BTreeMap::new(),
         tried_files,
     };
     let mut counts: BTreeMap<(&str, u32), usize> = BTreeMap::new();
@@ -604,9 +675,11 @@ pub fn count(input: impl Read) -> io::Result<()> {
         println!("files accepted, F {}, L {}, FIRSTY {}: {times}", word(first), word(last), word(first_y));
     }
     println!("texts of profiles, in the file: {}, on the page: {}", stream.shown[0], stream.shown[1]);
-    for (number, times) in &stream.blocks {
-        let answer = if *number == 0 { "accepted".into() } else { format!("refused {number}") };
-        println!("data blocks of compound files, {answer}: {times}");
+    for (what, answers) in [("data blocks of compound files", &stream.blocks), ("files of spools", &stream.spooled)] {
+        for (number, times) in answers {
+            let answer = if *number == 0 { "accepted".into() } else { format!("refused {number}") };
+            println!("{what}, {answer}: {times}");
+        }
     }
     println!("tables with |L-F| below N-1, written: {}", stream.close);
     for (what, times) in file_tried::TRIED.iter().zip(stream.tried_files) {
