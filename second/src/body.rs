@@ -404,3 +404,21 @@ pub fn line_lengths(body: &[u8]) -> Vec<LineLength> {
     };
     lines(body).iter().map(of).collect()
 }
+
+/// How a line ends, for counting: passed over, in DIF form, or with another value.
+#[derive(Clone, Copy, PartialEq, Eq)]
+pub enum LineEnd {
+    PassedOver,
+    Difference,
+    Other,
+}
+
+/// How each line of an accepted body ends; a DUP has the form of what it repeats.
+pub fn line_ends(body: &[u8]) -> Vec<LineEnd> {
+    let of = |line: &Line| match tokens(line).iter().rev().find(|token| !matches!(token.kind, Kind::Duplicate(_))) {
+        None => LineEnd::PassedOver,
+        Some(Token { kind: Kind::Difference(_), .. }) => LineEnd::Difference,
+        Some(_) => LineEnd::Other,
+    };
+    lines(body).iter().map(of).collect()
+}

@@ -11,20 +11,21 @@ pub mod tables;
 pub mod writes;
 pub mod written_files;
 
+use crate::body::read_body;
 use crate::frame::{Frame, LONGEST, LONGEST_LINE};
 use crate::random::Random;
 use crate::stream::{
-    put_block_record_case, put_body_case, put_compound_case, put_file_case, put_profile_case, put_record_case,
+    put_block_record_case, put_body_case, put_compound_case, put_damage_case, put_file_case, put_profile_case, put_record_case,
     put_spool_case, put_write_case, put_written_file_case, BodyCase,
 };
-use crate::text::{write_body, TextForm};
+use crate::text::{write_body, TextForm, FORMS};
 use std::io::{self, Write};
 
 /// Writes as many cases of each kind as are asked for: bodies, tables to be written, files, files to be written,
-/// compound files, files with a page, spools. A file case is often followed by a record case, that of a compound file by one of
+/// compound files, files with a page, spools, bodies to be damaged. A file case is often followed by a record case, that of a compound file by one of
 /// a block's record.
-pub fn write_cases(out: &mut impl Write, seed: u64, counts: [usize; 7]) -> io::Result<()> {
-    let [bodies, writes, files, written, compound, profiles, spools] = counts;
+pub fn write_cases(out: &mut impl Write, seed: u64, counts: [usize; 8]) -> io::Result<()> {
+    let [bodies, writes, files, written, compound, profiles, spools, damaged] = counts;
     let random = &mut Random::new(seed);
     for index in 0..bodies {
         put_body_case(out, &body_case(random, index, bodies))?;
@@ -54,6 +55,9 @@ pub fn write_cases(out: &mut impl Write, seed: u64, counts: [usize; 7]) -> io::R
     }
     for index in 0..spools {
         put_spool_case(out, &spools::spool_case(random, index, spools))?;
+    }
+    for index in 0..damaged {
+        put_damage_case(out, &accepted_body(random, index))?;
     }
     Ok(())
 }
@@ -99,6 +103,20 @@ pub fn right_body(random: &mut Random, points: usize) -> (Frame, Vec<i32>, Vec<u
     let style = spell::style(random);
     let body = spell::body(random, &style, &frame, &ordinates);
     (frame, ordinates, body)
+}
+
+/// An accepted body of at most 40 points: in turn as the writer spells it in the four forms, and spelled at random.
+pub fn accepted_body(random: &mut Random, index: usize) -> BodyCase {
+    let points = 1 + random.below(40);
+    let (frame, ordinates, spelled) = right_body(random, points);
+    let body = match FORMS.get(index % (FORMS.len() + 1)) {
+        Some(form) => write_body(*form, &frame, &ordinates, usize::MAX).expect("the frame keeps its limits"),
+        None => spelled,
+    };
+    if read_body(frame.first, frame.last, frame.points, &body, points).is_err() {
+        return accepted_body(random, index);
+    }
+    BodyCase { frame, body, room: points as u32 }
 }
 
 /// A right spelling, now and then with one point too many or too few in the frame.

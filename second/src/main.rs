@@ -3,6 +3,7 @@
 mod body;
 mod cases;
 mod compound;
+mod damaged;
 mod difdup;
 mod file;
 mod file_text;
@@ -34,7 +35,7 @@ const PROGRAM_POINTS: u64 = 4_096;
 /// Prints how the program is used, and ends it.
 fn usage() -> ! {
     eprintln!("second cases --seed S --bodies A --writes B --files C --written-files D --compound E --profiles G");
-    eprintln!("             --spools H > stream");
+    eprintln!("             --spools H --damaged I > stream");
     eprintln!("second stored --seed S --bodies A --writes B --files C --written-files D --cases PATH --answers PATH");
     eprintln!("second count < stream");
     eprintln!("second body F L N [--room R] < body");
@@ -44,6 +45,7 @@ fn usage() -> ! {
     eprintln!("second compound [--room R] < file    (with the library's limits)");
     eprintln!("second profile PAGE [--room R] < file    (PAGE: a file; with the library's limits)");
     eprintln!("second night [--room R] < spool");
+    eprintln!("second damage --seed S --bodies A    (what becomes of every single-byte damage)");
     eprintln!("second selftest");
     exit(2)
 }
@@ -85,7 +87,8 @@ fn cases_command(arguments: &[String]) -> io::Result<()> {
     let out = &mut BufWriter::new(io::stdout().lock());
     let number = |name| option(arguments, name, 0) as usize;
     let seed = option(arguments, "--seed", 1);
-    let counts = ["--bodies", "--writes", "--files", "--written-files", "--compound", "--profiles", "--spools"].map(number);
+    let counts = ["--bodies", "--writes", "--files", "--written-files", "--compound", "--profiles", "--spools", "--damaged"];
+    let counts = counts.map(number);
     cases::write_cases(out, seed, counts)?;
     out.flush()
 }
@@ -234,6 +237,35 @@ fn night_command(arguments: &[String]) -> io::Result<()> {
     Ok(())
 }
 
+/// Prints what becomes of every single-byte damage of so many accepted bodies, by their spelling and by the line's end.
+fn damage_command(arguments: &[String]) -> io::Result<()> {
+    let random = &mut random::Random::new(option(arguments, "--seed", 1));
+    let names = ["DIFDUP", "AFFN", "PAC", "SQZ", "mixed"];
+    let ends = ["passed over", "in DIF form", "otherwise"];
+    let mut found = [[damaged::Outcomes::default(); 3]; 5];
+    for index in 0..option(arguments, "--bodies", 1_000) as usize {
+        let case = cases::accepted_body(random, index);
+        let Frame { first, last, points } = case.frame;
+        let list = body::read_body(first, last, points, &case.body, points as usize).expect("it is spelled right");
+        let by_line = damaged::damaged(&case.frame, &case.body, &list).by_line;
+        for (all, one) in found[index % names.len()].iter_mut().zip(by_line) {
+            *all = all.with(one);
+        }
+    }
+    println!("| spelled | line ends | damages | refused 10 | refused otherwise | same list | another list |");
+    println!("|---|---|---|---|---|---|---|");
+    for (name, by_line) in names.iter().zip(found) {
+        for (end, outcomes) in ends.iter().zip(by_line) {
+            let damaged::Outcomes { unequal, otherwise, same, other } = outcomes;
+            let all = unequal + otherwise + same + other;
+            if all > 0 {
+                println!("| {name} | {end} | {all} | {unequal} | {otherwise} | {same} | {other} |");
+            }
+        }
+    }
+    Ok(())
+}
+
 /// Does what the first argument asks for.
 fn main() -> io::Result<()> {
     let arguments: Vec<String> = std::env::args().skip(1).collect();
@@ -248,6 +280,7 @@ fn main() -> io::Result<()> {
         Some("compound") => compound_command(&arguments[1..]),
         Some("profile") => profile_command(&arguments[1..]),
         Some("night") => night_command(&arguments[1..]),
+        Some("damage") => damage_command(&arguments[1..]),
         Some("selftest") => exit(selftest::run()),
         _ => usage(),
     }

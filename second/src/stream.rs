@@ -9,6 +9,7 @@ use crate::frame::{Frame, Refusal};
 use crate::heads::{tried, TRIED};
 use crate::lengths;
 use crate::line::Told;
+use crate::damaged::{damaged, Outcomes};
 use crate::night::{report, Totals};
 use crate::profile::{read_profile, WANTED};
 use crate::text::{write_body, TextForm};
@@ -344,6 +345,24 @@ pub fn put_spool_case(out: &mut impl Write, case: &SpoolCase) -> io::Result<()> 
     put_u64(out, ended.map_or(0, |fault| fault.place))
 }
 
+/// Writes a case of an accepted body, all single-byte damages of which are read: how many are refused, read as before,
+/// read as another list, and a digest of all answers.
+pub fn put_damage_case(out: &mut impl Write, case: &BodyCase) -> io::Result<()> {
+    out.write_all(b"D")?;
+    put_frame(out, &case.frame)?;
+    put_bytes(out, &case.body)?;
+    let Frame { first, last, points } = case.frame;
+    let ordinates = read_body(first, last, points, &case.body, points as usize).map_err(|_| broken("not accepted"))?;
+    let found = damaged(&case.frame, &case.body, &ordinates);
+    let all = found.by_line.into_iter().fold(Outcomes::default(), Outcomes::with);
+    [all.unequal + all.otherwise, all.same, all.other, found.digest].iter().try_for_each(|n| put_u64(out, *n))
+}
+
+/// An error of a stream that cannot be.
+fn broken(what: &'static str) -> io::Error {
+    io::Error::new(io::ErrorKind::InvalidData, what)
+}
+
 /// Writes a case of a data block's record and its answer; a block that is not there is absent too.
 pub fn put_block_record_case(out: &mut impl Write, case: &BlockRecordCase) -> io::Result<()> {
     out.write_all(b"K")?;
@@ -470,7 +489,8 @@ impl<R: Read> Stream<R> {
             b'K' => Ok(named("K", self.block_record_case()?)),
             b'P' => self.profile_case(),
             b'N' => Ok(named("N", self.spool_case()?)),
-            _ => Err(io::Error::new(io::ErrorKind::InvalidData, "no such kind of case")),
+            b'D' => Ok(named("D", self.damage_case()?)),
+            _ => Err(broken("no such kind of case")),
         }
     }
 
@@ -572,6 +592,14 @@ impl<R: Read> Stream<R> {
         let number = self.u32()?;
         self.u64()?;
         Ok((number, length))
+    }
+
+    /// The rest of a case of a body to be damaged.
+    fn damage_case(&mut self) -> io::Result<(u32, usize)> {
+        self.frame()?;
+        let length = self.counted()?.len();
+        self.bytes(32)?;
+        Ok((0, length))
     }
 
     /// The rest of a case of a file with a page, which is told by the text that its refusal counts in.
