@@ -1,0 +1,4 @@
+pub mod Moved
+pub mod Lines
+pub mod Damage
+pub mod Needed

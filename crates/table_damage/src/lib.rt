@@ -1,0 +1,1 @@
+// No code: a damaged line is caught (02, T-12).
