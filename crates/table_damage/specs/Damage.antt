@@ -61,9 +61,10 @@ module _ (R : Rules) where
       let q = line-starts (R .tabs) m ax in
       let alike = alike-tokens (R .tabs) m 0 ax ay fresh in
       let r = next-fails R (b .count) (b .last) (n .last) (d .another-ordinate) tx ty (b .form) (n .form) (w .0) alike (q .0) (q .1) (d .in-dif) (d .also-in-dif) (k .1) in
+      let same : b .count ≡ n .count = d .same-number in
       let py = rw (n .read-so) at (lines-then R ys m 0 0 0 (after Own) (d .whole-now)) in
       let ends : push (n .points) (reading R m ay (n .count) (n .last) (after (n .form))) ≡ refuse 10 (r .0) =
-      rw (← (d .same-number), spelled-short (short-spelled ax m (k .0)) ay, r .2) refl in
+      rw (← same, spelled-short (short-spelled ax m (k .0)) ay, r .2) refl in
       (r .0, r .1, read-is R (onto ys m) ∙ py ∙ ends)
 
 module _ (f l : ℤ) (n : ℕ) (out : List ℤ) where
