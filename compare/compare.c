@@ -178,6 +178,7 @@ enum kind_of_case {
     COMPOUND,
     BLOCK_RECORDS,
     PROFILES,
+    DAMAGED,
     KINDS
 };
 static const struct {
@@ -195,6 +196,7 @@ static const struct {
     [COMPOUND] = {"files as compound ones", ""},
     [BLOCK_RECORDS] = {"records of blocks", "absent"},
     [PROFILES] = {"files with a page", ""},
+    [DAMAGED] = {"bodies with every byte damaged", ""},
 };
 
 static unsigned long passed, failed;
@@ -347,6 +349,75 @@ static void compare_body(void)
     free(answer);
     free(body);
     free(expected);
+}
+
+/* A digest with a number mixed in (FNV-1a, a number at a time). */
+static uint64_t mixed(uint64_t digest, uint64_t number)
+{
+    return (digest ^ number) * UINT64_C(0x100000001b3);
+}
+
+/* What becomes of the damages of a body: how many are refused, read as before, read as another list; and a digest. */
+struct damaged {
+    uint64_t refused, same, other, digest;
+};
+
+/* Reads one damaged body and counts its answer; `right` are the ordinates of the body as it was. */
+static void count_damage(struct damaged *d, int64_t first, int64_t last, size_t points, const uint8_t *body,
+                         size_t length, int32_t *out, const int32_t *right)
+{
+    struct lastarunc_table answer;
+    int64_t number = read_table(first, last, points, body, length, out, points, &answer);
+    d->digest = mixed(d->digest, (uint64_t)number);
+    if (number) {
+        d->digest = mixed(d->digest, (uint64_t)answer.place);
+        d->refused++;
+        return;
+    }
+    for (size_t i = 0; i < points; i++)
+        d->digest = mixed(d->digest, (uint32_t)out[i]);
+    if (memcmp(out, right, points * sizeof *out))
+        d->other++;
+    else
+        d->same++;
+}
+
+/* An accepted body, each of its bytes exchanged for each of the 255 others. */
+static void compare_damage(void)
+{
+    int64_t first = take_i64(), last = take_i64();
+    size_t points = take_u64();
+    uint32_t length = take_u32();
+    uint8_t *body = take_bytes(length);
+    struct damaged expected;
+    expected.refused = take_u64();
+    expected.same = take_u64();
+    expected.other = take_u64();
+    expected.digest = take_u64();
+
+    int32_t *right = filled_ordinates(points), *out = filled_ordinates(points);
+    struct lastarunc_table answer;
+    struct damaged here = {.digest = UINT64_C(0xcbf29ce484222325)};
+    int64_t number = read_table(first, last, points, body, length, right, points, &answer);
+    for (size_t at = 0; !number && at < length; at++) {
+        uint8_t was = body[at];
+        for (int byte = 0; byte < 256; byte++)
+            if (byte != was) {
+                body[at] = (uint8_t)byte;
+                count_damage(&here, first, last, points, body, length, out, right);
+            }
+        body[at] = was;
+    }
+    const char *difference = number ? "the body is refused" : NULL;
+    if (!difference && (here.refused != expected.refused || here.same != expected.same || here.other != expected.other))
+        difference = "how many are refused, or read as another list";
+    if (!difference && here.digest != expected.digest)
+        difference = "an answer";
+    if (counted(DAMAGED, 0, difference))
+        show_bytes("body", body, length);
+    free(body);
+    free(right);
+    free(out);
 }
 
 /* What a length is answered with: the refusal, or the bytes of the text. */
@@ -1059,6 +1130,9 @@ int main(void)
             break;
         case 'W':
             compare_write();
+            break;
+        case 'D':
+            compare_damage();
             break;
 #ifndef COMPARE_C
         case 'F':
