@@ -178,6 +178,8 @@ enum kind_of_case {
     COMPOUND,
     BLOCK_RECORDS,
     PROFILES,
+    SPOOLS,
+    SPOOLED,
     DAMAGED,
     KINDS
 };
@@ -196,6 +198,8 @@ static const struct {
     [COMPOUND] = {"files as compound ones", ""},
     [BLOCK_RECORDS] = {"records of blocks", "absent"},
     [PROFILES] = {"files with a page", ""},
+    [SPOOLS] = {"spools", ""},
+    [SPOOLED] = {"files of spools", ""},
     [DAMAGED] = {"bodies with every byte damaged", ""},
 };
 
@@ -931,6 +935,133 @@ static void compare_profile(void)
     free(c.expected);
 }
 
+/* A level that may be none. */
+static int64_t take_level(void)
+{
+    bool given = take_u32();
+    int64_t level = take_i64();
+    return given ? level : LASTARUNC_NONE;
+}
+
+/* The report of a file that the second reader makes, and a digest of its ordinates. */
+struct reported {
+    int64_t at;
+    struct lastarunc_report report;
+    uint64_t digest;
+};
+
+static struct reported take_reported(void)
+{
+    struct reported r = {.at = take_i64()};
+    struct refusal refusal = take_refusal();
+    r.report = (struct lastarunc_report){.refused = refusal.number,
+                                         .place = refusal.place,
+                                         .line = refusal.line,
+                                         .column = refusal.column,
+                                         .lowest = LASTARUNC_NONE,
+                                         .highest = LASTARUNC_NONE,
+                                         .faintest = LASTARUNC_NONE};
+    if (refusal.number)
+        return r;
+    r.report.points = take_i64();
+    r.report.missing = take_i64();
+    r.report.lowest = take_level();
+    r.report.highest = take_level();
+    r.report.sum = take_i64();
+    r.report.faintest = take_level();
+    r.digest = take_u64();
+    return r;
+}
+
+/* FNV-1a over the bytes of ordinates. */
+static uint64_t digest_of(const int32_t *y, size_t n)
+{
+    uint64_t digest = UINT64_C(0xcbf29ce484222325);
+    for (size_t i = 0; i < n; i++)
+        for (int shift = 0; shift < 32; shift += 8)
+            digest = mixed(digest, (uint8_t)((uint32_t)y[i] >> shift));
+    return digest;
+}
+
+/* What is wrong with a step of a walk, or with the ordinates lent to it, which were `before`; NULL if nothing is. */
+static const char *report_differs(const struct reported *right, int64_t returned, int64_t at,
+                                  const struct lastarunc_report *here, const int32_t *out, const int32_t *before,
+                                  size_t room)
+{
+    size_t n = (size_t)right->report.points;
+    if (at != right->at)
+        return "the place of a file in the spool";
+    if (memcmp(here, &right->report, sizeof *here))
+        return "the report of a file";
+    if (returned != here->refused)
+        return "it returns another number than it answers";
+    if (!here->refused && digest_of(out, n) != right->digest)
+        return "the ordinates of a file";
+    if (memcmp(out + n, before + n, (room + GUARD - n) * sizeof *out))
+        return "an entry past the points, or after a refusal, is altered";
+    return NULL;
+}
+
+static void show_report(const char *what, int64_t at, const struct lastarunc_report *r)
+{
+    printf("    %s: at %" PRId64 ", refused %" PRId64 " %" PRId64 ", ended %" PRId64 ", %" PRId64 " points, %" PRId64
+           " missing, %" PRId64 " to %" PRId64 ", sum %" PRId64 ", faintest %" PRId64 "\n",
+           what, at, r->refused, r->place, r->ended, r->points, r->missing, r->lowest, r->highest, r->sum, r->faintest);
+}
+
+/* A spool, walked step by step; each file counts as a case too. */
+static void compare_spool(void)
+{
+    uint32_t room = take_u32(), length = take_u32();
+    uint8_t *spool = take_bytes(length), *lent = copy_of(spool, length);
+    uint32_t files = take_u32();
+    int32_t *out = filled_ordinates(room), *before = filled_ordinates(room);
+    struct lastarunc_progress progress = {0};
+    struct lastarunc_report *report = filled_bytes(sizeof *report);
+    for (uint32_t k = 0; k < files; k++) {
+        struct reported right = take_reported();
+        int64_t at = progress.at;
+        int64_t returned = lastarunc_next_report(lent, length, out, room, &progress, report);
+        const char *difference = report_differs(&right, returned, at, report, out, before, room);
+        if (counted(SPOOLED, right.report.refused, difference)) {
+            show_bytes("spool", spool, length);
+            show_report("second", right.at, &right.report);
+            show_report("here", at, report);
+        }
+        memcpy(before, out, (room + GUARD) * sizeof *out);
+    }
+    struct lastarunc_progress totals = {.at = progress.at, .seen = files};
+    totals.files = take_i64();
+    totals.points = take_i64();
+    totals.missing = take_i64();
+    totals.sum = take_i64();
+    struct lastarunc_report end = {.ended = 1, .lowest = LASTARUNC_NONE, .highest = LASTARUNC_NONE};
+    end.refused = take_u32();
+    end.place = take_i64();
+    end.faintest = LASTARUNC_NONE;
+    int64_t returned = lastarunc_next_report(lent, length, out, room, &progress, report);
+
+    const char *difference = returned != end.refused ? "number" : NULL;
+    if (!difference && memcmp(report, &end, sizeof end))
+        difference = "how the spool ended";
+    if (!difference && memcmp(&progress, &totals, sizeof totals))
+        difference = "the totals";
+    if (!difference && guard_altered(report, sizeof *report))
+        difference = "what stands behind the answer is altered";
+    if (!difference && (memcmp(lent, spool, length) || memcmp(out, before, (room + GUARD) * sizeof *out)))
+        difference = "the spool or an ordinate is altered";
+    if (counted(SPOOLS, end.refused, difference)) {
+        show_bytes("spool", spool, length);
+        show_report("second", progress.at, &end);
+        show_report("here", progress.at, report);
+    }
+    free(spool);
+    free(lent);
+    free(out);
+    free(before);
+    free(report);
+}
+
 /* A file to be written into `room` bytes, and the second writer's answer: F and L, and a text of `length` bytes. */
 struct file_case {
     uint32_t title_length, n, room;
@@ -1152,6 +1283,9 @@ int main(void)
             break;
         case 'P':
             compare_profile();
+            break;
+        case 'N':
+            compare_spool();
             break;
 #endif
         default:

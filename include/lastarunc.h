@@ -131,6 +131,20 @@ struct lastarunc_profile {
     int64_t on_page;
 };
 
+/* How far a walk over a spool has come: all 0 at its start. The last four are the totals of the files accepted so far. */
+struct lastarunc_progress {
+    int64_t at, seen;
+    int64_t files, points, missing, sum;
+};
+
+/* What lastarunc_next_report answers. LASTARUNC_NONE stands for no lowest, highest or faintest ordinate. */
+#define LASTARUNC_NONE INT64_C(-2147483648)
+struct lastarunc_report {
+    int64_t refused, place, line, column;
+    int64_t ended;
+    int64_t points, missing, lowest, highest, sum, faintest;
+};
+
 /* A decimal: mantissa times ten to the exponent. */
 struct lastarunc_decimal {
     int64_t mantissa, exponent;
@@ -281,6 +295,23 @@ int64_t lastarunc_find_in_block(const uint8_t *file, size_t file_len, const stru
 int64_t lastarunc_read_profile(const uint8_t *file, size_t file_len, const uint8_t *page, size_t page_len, int32_t *out,
                                size_t out_len, struct lastarunc_shown shown[LASTARUNC_WANTED],
                                struct lastarunc_profile *answer);
+
+/*
+ * The next report of a night: a spool is at most 1,000 files, before each the bytes 4A and 44 (hexadecimal) and its
+ * length in three bytes, high byte first. *progress starts as zeros; each call reads one file, as lastarunc_read_file
+ * does into out, and goes on to the next.
+ * Accepted (answer->refused 0, ended 0): answer->points, missing, lowest, highest and sum of the file, and faintest: the
+ * smallest magnitude of its ordinates that are neither zero nor missing. LASTARUNC_NONE where there is none.
+ * Refused, ended 0: the file is, as lastarunc_read_file refuses it; out is as it was; the walk goes on.
+ * Ended 1: the walk is over, *progress is as it was and has the totals: files, points, missing and sum over the accepted
+ * files. answer->refused is 0 if the spool ended with a file, otherwise, at the place of the record in the spool,
+ *     36   there are more than 1,000 files
+ *     35   fewer than five bytes are left, or the file's length goes past the end
+ *     34   the record does not begin with 4A 44
+ *     -1   *progress is none that a walk over this spool can have
+ */
+int64_t lastarunc_next_report(const uint8_t *spool, size_t spool_len, int32_t *out, size_t out_len,
+                              struct lastarunc_progress *progress, struct lastarunc_report *answer);
 
 #ifdef __cplusplus
 }
