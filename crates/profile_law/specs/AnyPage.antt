@@ -18,7 +18,8 @@ use Rattle.profile_spec.specs.declared.Shown.{Shown}
 use Rattle.profile_spec.specs.declared.Located.{Located}
 use Rattle.profile_spec.specs.declared.Profiled.{Profiled}
 use Rattle.profile_spec.specs.Wanted.{Wanted, wanted, kth}
-use Rattle.profile_spec.specs.Profile.{placed, located, textAt, listed, wordAt, judged, words, present, records, profiled, numbers, allNumbers, ProfileAnswer, refuse-profile, accept-profile, byProfiled, byProfile, byFile, readProfile}
+use Rattle.profile_spec.specs.Profile.{placed, located, textAt, listed, wordAt, judged, words, present, records, profiled, numbers, allNumbers}
+use Rattle.profile_spec.specs.Profile.{ProfileAnswer, refuse-profile, accept-profile, byProfiled, byProfile, byFile, readProfile}
 use Rattle.profile_law.specs.Fifteen.{long}
 use Rattle.profile_law.specs.Titles.{name-untitled, record-after}
 
@@ -116,7 +117,8 @@ all-held s h m e x l = each s (suc e) x wanted (record { name = []; words = [] }
     one : (k : ℕ) → k < 15 → Held s (suc e) x (kth k .name)
     one k i =
         let y = h k i in
-        record { low = y .0; high = y .1; is = as-text (recordOf (length s) x (kth k .name) (from s (suc e) false)) (y .0) (y .1) (sym (record-after s m e x l (kth k .name) (name-untitled k i)) ∙ y .2) }
+        let r = record-after s m e x l (kth k .name) (name-untitled k i) in
+        record { low = y .0; high = y .1; is = as-text (recordOf (length s) x (kth k .name) (from s (suc e) false)) (y .0) (y .1) (sym r ∙ y .2) }
 
 module _ (s : List ℕ) (h : HasAll s) where
   by-labels : (p q : List ℕ) (t : FileTable) (ys : List ℕ) (l : Labelled) → labelled s ≡ l → (byProfile s p t ys l ≡ byProfile s q t ys l) × inFile (byProfile s p t ys l)

@@ -60,7 +60,8 @@ ended-above i len done (label y n z v rest) x q a e = first (λ g. ended-above i
     third k true g = zero-one cc
     third k false g = k g
 
-    second : (judged len (done ++ v ∷ []) rest ≡ Walked.Ended x q → i ≤ x) → (t : Bool) → pick t (Walked.Refused (fault-at 24 y)) (pick (twice v done) (Walked.Refused (fault-at 23 y)) (judged len (done ++ v ∷ []) rest)) ≡ Walked.Ended x q → i ≤ x
+    second : (judged len (done ++ v ∷ []) rest ≡ Walked.Ended x q → i ≤ x) → (t : Bool)
+        → pick t (Walked.Refused (fault-at 24 y)) (pick (twice v done) (Walked.Refused (fault-at 23 y)) (judged len (done ++ v ∷ []) rest)) ≡ Walked.Ended x q → i ≤ x
     second k true g = zero-one cc
     second k false g = third k (twice v done) g
 

@@ -49,7 +49,15 @@ words-of (suc (suc (suc (suc (suc (suc (suc (suc (suc (suc (suc (suc (suc zero))
 words-of (suc (suc (suc (suc (suc (suc (suc (suc (suc (suc (suc (suc (suc (suc zero)))))))))))))) = refl
 words-of (suc (suc (suc (suc (suc (suc (suc (suc (suc (suc (suc (suc (suc (suc (suc k))))))))))))))) =
     let n = suc (suc (suc (suc (suc (suc (suc (suc (suc (suc (suc (suc (suc (suc (suc k)))))))))))))) in
-    rw (ne-eqb n 0 (λ e. omega arith), ne-eqb n 1 (λ e. omega arith), ne-eqb n 2 (λ e. omega arith), ne-eqb n 9 (λ e. omega arith), ne-eqb n 10 (λ e. omega arith), ne-eqb n 13 (λ e. omega arith), ne-eqb n 14 (λ e. omega arith)) refl
+    rw (
+      ne-eqb n 0 (λ e. omega arith),
+      ne-eqb n 1 (λ e. omega arith),
+      ne-eqb n 2 (λ e. omega arith),
+      ne-eqb n 9 (λ e. omega arith),
+      ne-eqb n 10 (λ e. omega arith),
+      ne-eqb n 13 (λ e. omega arith),
+      ne-eqb n 14 (λ e. omega arith),
+    ) refl
 
 pub no-words : (k : ℕ) → (k ≡ 0 → ⊥) → (k ≡ 1 → ⊥) → (k ≡ 2 → ⊥) → (k ≡ 9 → ⊥) → (k ≡ 10 → ⊥) → (k ≡ 13 → ⊥) → (k ≡ 14 → ⊥) → kth k .words ≡ []
 no-words k a b c d e f g = words-of k ∙ rw (ne-eqb k 0 a, ne-eqb k 1 b, ne-eqb k 2 c, ne-eqb k 9 d, ne-eqb k 10 e, ne-eqb k 13 f, ne-eqb k 14 g) refl

@@ -38,7 +38,9 @@ same-length-2 : tie.Need-same-length-2
 same-length-2 c = search needs
 
 returns-2 : tie.Need-returns-2
-returns-2 c = read-right _ _ _ _ _ _ (rw (c .before .before .before .before .before .before .before .before .before .before .k .given .1) at (c .before .before .before .before .before .before .before .before .before .before .before .before .before .check-profile .ensures)) _ (c .before .before .before .before .before .before .store-file .ensures) _ (c .before .before .store-numbers .ensures)
+returns-2 c =
+    let at-store = c .before .before .before .before .before .before in let at-k = at-store .before .before .before .before in let at-check = at-k .before .before .before in
+    read-right _ _ _ _ _ _ (rw (at-k .k .given .1) at (at-check .check-profile .ensures)) _ (at-store .store-file .ensures) _ (c .before .before .store-numbers .ensures)
 
 pub read-profile-spec : {M : Type 1} → statement M
 read-profile-spec =

@@ -157,11 +157,14 @@ returns-14 c = rw (c .before .before .match .keys14) (c .find-named14 .ensures)
 returns-15 : tie.Need-returns-15
 unfolding wanted norm ignored blank upper
 returns-15 c =
-    let m = c .before .before .match in let k = c .before .before .before .before .before .args .k in
-    let h1 = beyond 0 k (omega arith) (m .rest .0 .0 .0 .0 .0 .0 .0 .0 .0 .0 .0 .0 .0 .1) in let h2 = beyond 1 k h1 (m .rest .0 .0 .0 .0 .0 .0 .0 .0 .0 .0 .0 .0 .1) in let h3 = beyond 2 k h2 (m .rest .0 .0 .0 .0 .0 .0 .0 .0 .0 .0 .0 .1) in let h4 = beyond 3 k h3 (m .rest .0 .0 .0 .0 .0 .0 .0 .0 .0 .0 .1) in
-    let h5 = beyond 4 k h4 (m .rest .0 .0 .0 .0 .0 .0 .0 .0 .0 .1) in let h6 = beyond 5 k h5 (m .rest .0 .0 .0 .0 .0 .0 .0 .0 .1) in let h7 = beyond 6 k h6 (m .rest .0 .0 .0 .0 .0 .0 .0 .1) in let h8 = beyond 7 k h7 (m .rest .0 .0 .0 .0 .0 .0 .1) in
-    let h9 = beyond 8 k h8 (m .rest .0 .0 .0 .0 .0 .1) in let h10 = beyond 9 k h9 (m .rest .0 .0 .0 .0 .1) in let h11 = beyond 10 k h10 (m .rest .0 .0 .0 .1) in let h12 = beyond 11 k h11 (m .rest .0 .0 .1) in
-    let h13 = beyond 12 k h12 (m .rest .0 .1) in let h14 = beyond 13 k h13 (m .rest .1) in
+    let m = c .before .before .match .rest in let k = c .before .before .before .before .before .args .k in
+    let r12 = m .0 in let r11 = r12 .0 in let r10 = r11 .0 in let r9 = r10 .0 in let r8 = r9 .0 in let r7 = r8 .0 in
+    let r6 = r7 .0 in let r5 = r6 .0 in let r4 = r5 .0 in let r3 = r4 .0 in let r2 = r3 .0 in let r1 = r2 .0 in
+    let r0 = r1 .0 in
+    let h1 = beyond 0 k (omega arith) (r0 .1) in let h2 = beyond 1 k h1 (r1 .1) in let h3 = beyond 2 k h2 (r2 .1) in let h4 = beyond 3 k h3 (r3 .1) in
+    let h5 = beyond 4 k h4 (r4 .1) in let h6 = beyond 5 k h5 (r5 .1) in let h7 = beyond 6 k h6 (r6 .1) in let h8 = beyond 7 k h7 (r7 .1) in
+    let h9 = beyond 8 k h8 (r8 .1) in let h10 = beyond 9 k h9 (r9 .1) in let h11 = beyond 10 k h10 (r10 .1) in let h12 = beyond 11 k h11 (r11 .1) in
+    let h13 = beyond 12 k h12 (r12 .1) in let h14 = beyond 13 k h13 (m .1) in
     let e : k ≡ 14 = omega (arith, c .before .before .before .before .before .pre .1) in
     rw e (c .find-named15 .ensures)
 

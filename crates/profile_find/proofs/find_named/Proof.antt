@@ -33,13 +33,15 @@ returns c = rw (c .found .ensures) (named-file _ _ _ _ _ _ _ (rw (c .before .bef
 
 returns-2 : tie.Need-returns-2
 returns-2 c =
-    let at-page = c .before .before .before .before in
-    rw (c .found2 .ensures) (named-page _ _ _ _ _ (rw (at-page .before .enum-told .given .1) at (at-page .before .before .before .find-record .ensures)) _ _ (rw (c .before .before .a .given .1) at (at-page .find-on-page .ensures)))
+    let at-page = c .before .before .before .before in let at-absent = at-page .before in
+    let f = rw (at-absent .enum-told .given .1) at (at-absent .before .before .find-record .ensures) in
+    rw (c .found2 .ensures) (named-page _ _ _ _ _ f _ _ (rw (c .before .before .a .given .1) at (at-page .find-on-page .ensures)))
 
 returns-3 : tie.Need-returns-3
 returns-3 c =
-    let at-page = c .before .before in
-    named-none _ _ _ _ _ (rw (at-page .before .enum-told .given .1) at (at-page .before .before .before .find-record .ensures)) (rw (c .enum-told2 .given .1) at (at-page .find-on-page .ensures))
+    let at-page = c .before .before in let at-absent = at-page .before in
+    let f = rw (at-absent .enum-told .given .1) at (at-absent .before .before .find-record .ensures) in
+    named-none _ _ _ _ _ f (rw (c .enum-told2 .given .1) at (at-page .find-on-page .ensures))
 
 pub find-named-spec : {M : Type 1} → statement M
 find-named-spec =

@@ -17,7 +17,7 @@ is-listed-requires : tie.Need-is-listed-requires
 is-listed-requires c κs = search needs
 
 returns : tie.Need-returns
-returns c = judged-listed (c .before .before .before .before .args .s .now) (c .before .before .before .before .args .x) _ _ (c .before .is-listed .ensures) (c .if1 .taken)
+returns c = let S = c .before .before .before .before in judged-listed (S .args .s .now) (S .args .x) _ _ (c .before .is-listed .ensures) (c .if1 .taken)
 
 past-space-requires : tie.Need-past-space-requires
 past-space-requires c κs = search needs
@@ -26,7 +26,9 @@ add-place : tie.Need-add-place
 add-place c = search needs
 
 returns-2 : tie.Need-returns-2
-returns-2 c = judged-unlisted (c .before .before .before .before .before .args .s .now) (c .before .before .before .before .before .args .x) _ _ (c .before .before .is-listed .ensures) (c .before .if1 .left) _ (c .past-space .ensures .is)
+returns-2 c =
+    let at-is-listed = c .before .before in let S = at-is-listed .before .before .before in
+    judged-unlisted (S .args .s .now) (S .args .x) _ _ (at-is-listed .is-listed .ensures) (c .before .if1 .left) _ (c .past-space .ensures .is)
 
 pub judge-in-spec : {M : Type 1} → statement M
 judge-in-spec =

@@ -65,7 +65,9 @@ unfolding wanted
 returns-7 c = rw (c .before .match .keys7, c .is-y-unit .ensures) refl
 
 returns-8 : tie.Need-returns-8
-returns-8 c = rw (no-words _ (c .match .rest .0 .0 .0 .0 .0 .0 .1) (c .match .rest .0 .0 .0 .0 .0 .1) (c .match .rest .0 .0 .0 .0 .1) (c .match .rest .0 .0 .0 .1) (c .match .rest .0 .0 .1) (c .match .rest .0 .1) (c .match .rest .1)) refl
+returns-8 c =
+    let m = c .match .rest in let r5 = m .0 in let r4 = r5 .0 in let r3 = r4 .0 in let r2 = r3 .0 in let r1 = r2 .0 in let r0 = r1 .0 in
+    rw (no-words _ (r0 .1) (r1 .1) (r2 .1) (r3 .1) (r4 .1) (r5 .1) (m .1)) refl
 
 pub is-listed-spec : {M : Type 1} → statement M
 is-listed-spec =

@@ -66,8 +66,20 @@ is-keyword-requires-10 c κs = search needs
 
 returns : tie.Need-returns
 returns c =
-    let c9 = c .before .before in let c8 = c9 .before .before in let c7 = c8 .before .before in let c6 = c7 .before .before in let c5 = c6 .before .before in let c4 = c5 .before .before in let c3 = c4 .before .before in let c2 = c3 .before .before in let c1 = c2 .before .before in
-    rw (c1 .is-keyword .ensures, c2 .is-keyword2 .ensures, c3 .is-keyword3 .ensures, c4 .is-keyword4 .ensures, c5 .is-keyword5 .ensures, c6 .is-keyword6 .ensures, c7 .is-keyword7 .ensures, c8 .is-keyword8 .ensures, c9 .is-keyword9 .ensures, c .is-keyword10 .ensures) (one-of _ _ _)
+    let c9 = c .before .before in let c8 = c9 .before .before in let c7 = c8 .before .before in let c6 = c7 .before .before in let c5 = c6 .before .before in
+    let c4 = c5 .before .before in let c3 = c4 .before .before in let c2 = c3 .before .before in let c1 = c2 .before .before in
+    rw (
+      c1 .is-keyword .ensures,
+      c2 .is-keyword2 .ensures,
+      c3 .is-keyword3 .ensures,
+      c4 .is-keyword4 .ensures,
+      c5 .is-keyword5 .ensures,
+      c6 .is-keyword6 .ensures,
+      c7 .is-keyword7 .ensures,
+      c8 .is-keyword8 .ensures,
+      c9 .is-keyword9 .ensures,
+      c .is-keyword10 .ensures,
+    ) (one-of _ _ _)
 
 pub is-mode-spec : {M : Type 1} → statement M
 is-mode-spec =
