@@ -1,9 +1,10 @@
 -- The theorem: the steps from the start on say the reports of the list of files, one after the other, and then the plain sums over them; never `Strange`. Assumes nothing.
 use mathlib.Core.Path.{_≡_, refl, sym, ap, _∙_, subst}
 use mathlib.Core.List.{List, [], _∷_}
-use Prim.Native.Nat.{ℕ, zero, suc, _+_, _-_, _<_}
+use Prim.Native.Nat.{ℕ, zero, suc, _+_, _-_, _≤_, _<_}
 use native.Mathlib.Omega.{arith}
-use Rattle.night_spec.specs.Spool.{most-files, recordAt, part, Spool, spoolFrom, spoolOf, filesOf, endOf}
+use lib.ListN.{length}
+use Rattle.night_spec.specs.Spool.{most-files, recordAt, part, Spool, spoolFrom, spoolOf, filesOf, endOf, spoolFor, Spoolable}
 use Rattle.night_spec.specs.Night.{reportAs, reportsOf, with-report, totalsOf, nightOf}
 use Rattle.night_spec.specs.Steps.{no-progress, stepOf, answerOf, Goes, over-at, stopped-at, file-at}
 use Rattle.night_spec.specs.declared.Spooled.{Spooled}
@@ -13,6 +14,7 @@ use Rattle.night_spec.specs.declared.Totals.{Totals}
 use Rattle.night_spec.specs.declared.Ending.{Ending}
 use Rattle.night_spec.specs.declared.Ending.the-variants as ending
 use Rattle.night_spec.specs.declared.Progress.{Progress}
+use Rattle.spool.proofs.Files.{spooled-back}
 use Rattle.spool.proofs.SpoolLaws.{file-in, spool-over, spool-stopped, spool-file}
 use Rattle.file_tally.proofs.Widths.{report-in}
 use Rattle.night_report.specs.Bounds.{TotalsIn}
@@ -61,3 +63,8 @@ module _ (space : ℕ) (s : List ℕ) where
   steps-tell =
       let all = reportsOf space (filesOf (spoolOf s)) in
       subst (λ t. Says no-progress all t (endOf (spoolOf s))) (none-plus (totalsOf all)) (tells most-files no-progress (omega arith) (none-in 0))
+
+-- of a spool that was made of files: the totals over those files, and that it is whole
+pub night-of-files : (space : ℕ) (fs : List (List ℕ)) → length fs ≤ most-files → Spoolable fs → nightOf space (spoolFor fs) ≡ record { totals = totalsOf (reportsOf space fs); end = ending.Whole }
+unfolding nightOf
+night-of-files space fs h g = let z = spooled-back fs h g in rw (z .0, z .1) refl

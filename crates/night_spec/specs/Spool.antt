@@ -1,7 +1,7 @@
 -- 02, T-11: a spool, the list of its files, and how it ends. Assumes nothing.
 use mathlib.Core.Bool.{Bool}
-use mathlib.Core.List.{List, [], _∷_}
-use Prim.Native.Nat.{ℕ, zero, suc, _+_, _-_, _*_}
+use mathlib.Core.List.{List, [], _∷_, _++_}
+use Prim.Native.Nat.{ℕ, zero, suc, _+_, _-_, _*_, _/_, _%_, _<_}
 use lib.Dec.{ltb, leb, eqb}
 use lib.ListN.{length, getD, take, drop}
 use Rattle.terms.specs.Logic.{pick, both}
@@ -76,3 +76,19 @@ unfoldable pub endOf : Spool → Ending
 endOf over = ending.Whole
 endOf (stopped r) = ending.Refused r
 endOf (file f rest) = endOf rest
+
+-- ---- from files to a spool
+
+-- the record of a file: the two mark bytes, its length in three, high byte first, and it
+abbrev pub recordFor : List ℕ → List ℕ
+recordFor f = 74 ∷ 68 ∷ length f / 65536 ∷ length f / 256 % 256 ∷ length f % 256 ∷ f
+
+-- the spool of a list of files
+unfoldable pub spoolFor : List (List ℕ) → List ℕ
+spoolFor [] = []
+spoolFor (f ∷ fs) = recordFor f ++ spoolFor fs
+
+-- each of them is short enough for three bytes
+unfoldable pub Spoolable : List (List ℕ) → Type 0
+Spoolable [] = Unit {0}
+Spoolable (f ∷ fs) = (length f < 16777216) × Spoolable fs
