@@ -1,14 +1,11 @@
 -- Numbers with a sign from 64 bits, and a walk there and back. No place of the code is named here. Assumes nothing.
 use mathlib.Core.Path.{_≡_, refl, sym, ap, _∙_}
-use mathlib.Core.Bool.{true, false}
 use Prim.Native.Nat.{ℕ, zero, suc, _-_, _≤_, _<_}
 use native.Mathlib.Omega.{arith}
-use lib.IntN.{ℤ, pos, negsuc, natAbs, _-ℤ_}
-use lib.Signed.{ltZ}
+use lib.IntN.{ℤ, pos, negsuc, _-ℤ_}
 use mir.Syntax.{w64}
 use mir.Val.{SFits}
-use borrow.Author.Tests.{ltb-true, lt-ltb, le-ltb}
-use Rattle.terms.specs.Logic.{no-way}
+use borrow.Author.Tests.{lt-ltb, le-ltb}
 use Rattle.night_spec.specs.declared.Progress.{Progress}
 use Rattle.host_numbers.specs.Numbers.{bits}
 use Rattle.host_night.specs.Numbers.{numberOf, numbersOf, progressOf}
