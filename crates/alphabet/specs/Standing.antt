@@ -8,7 +8,7 @@ use lib.Dec.{eqb, ltb, leb}
 use lib.ListN.{length, getD}
 use borrow.Author.Tests.{lt-ltb, le-ltb, ltb-true, ltb-false, leb-true, eqb-true}
 use Rattle.terms.specs.Logic.{pick, by-case, no-way}
-use Rattle.alphabet_spec.specs.Kinds.{dup, dif, sqz, Blank, space, tab, tabs-too}
+use Rattle.alphabet_spec.specs.Kinds.{dup, dif, sqz, Blank, space, tabs-too}
 use Rattle.alphabet_spec.specs.Digits.{within}
 use Rattle.alphabet_spec.specs.Bytes.{Byte, digit, lead, sign, quest, blank, point, lf, cr, dollar, other, kind}
 use Rattle.alphabet_spec.specs.KindLaws.{Back, kind-back, isDigit, kind-digit}
@@ -21,7 +21,7 @@ standing s i = pick (ltb i (length s)) (getD s i 0) 256
 
 -- is the byte a blank?
 abbrev pub blanking : ℕ → Bool
-blanking b = pick (eqb b 32) true (eqb b 9)
+blanking b = eqb b 32
 
 pub stands-in : (s : List ℕ) (i : ℕ) → i < length s → standing s i ≡ getD s i 0
 unfolding standing
@@ -88,15 +88,13 @@ digit-seen-not s i g e h = digit-stands-not s i (rw g at (sym e ∙ h))
 
 byte-blank : (b : ℕ) → blanking b ≡ true → entry b ≡ 112
 unfolding entry kind
-byte-blank b =
-    by-case (λ t. eqb b 32 ≡ t → pick t true (eqb b 9) ≡ true → entry b ≡ 112) (eqb b 32) (λ _ h _. ap entry (eqb-true b 32 h)) (λ _ _ h. ap entry (eqb-true b 9 h)) refl
+byte-blank b h = ap entry (eqb-true b 32 h)
 
 pub blank-stands : (s : List ℕ) (i : ℕ) → blanking (standing s i) ≡ true → entryAt s i ≡ 112
 blank-stands = stood (λ b e. blanking b ≡ true → e ≡ 112) byte-blank (λ w. no-way w)
 
-spaced : {b : ℕ} → Blank true b → blanking b ≡ true
+spaced : {b : ℕ} → Blank tabs-too b → blanking b ≡ true
 spaced space = refl
-spaced tab = refl
 
 -- the entry of a blank is no other byte's
 pub blank-stood : (s : List ℕ) (i : ℕ) → entryAt s i ≡ 112 → blanking (standing s i) ≡ true

@@ -24,7 +24,7 @@ pub const DIF_MINUS: u64 = 48;
 // The entry of `?`, a missing ordinate.
 pub const MISSING: u64 = 96;
 
-// The entry of a blank: space or tab.
+// The entry of a blank: a space.
 pub const BLANK: u64 = 112;
 
 // The entry of `+`.
@@ -93,8 +93,8 @@ pub fn entry_of(b: u8) -> u64
         46..=47 => either(b, b'.', POINT, b'?', MISSING),
         38..=45 => either(b, b'+', PLUS, b'-', MINUS),
         33..=37 => either(b, b'$', DOLLAR, b'%', DIF),
-        11..=32 => either(b, b'\r', CR, b' ', BLANK),
-        0..=10 => either(b, b'\t', BLANK, b'\n', LF),
+        32 => BLANK,
+        0..=31 => either(b, b'\n', LF, b'\r', CR),
         _ => OUTSIDE,
     }
 }
@@ -129,14 +129,11 @@ pub fn is_digit(b: u64) -> bool
     b < 58
 }
 
-// Is the byte that stands there a blank: space or tab?
+// Is the byte that stands there a blank? A tab is none (02, T-13).
 pub fn is_blank(b: u64) -> bool
     ensures { λ r. ⌜ r ≡ blanking b ⌝ }
 {
-    if b == 32 {
-        return true;
-    }
-    b == 9
+    b == 32
 }
 
 // The digits from a place on, after the number v: at most `most` of them are taken, and as many as there are up to that (01, "A digit run is always as long as it can be").

@@ -18,11 +18,11 @@ pub data Pseudo : Lead → ℕ → ℕ → Type 0 where
   dup-low : {d : ℕ} → 0 < d → d < 9 → Pseudo dup d (82 + d)
   dup-nine : Pseudo dup 9 115
 
--- 01, "Spelling of a body": blanks are space and tab. The argument says whether a tab is one
+-- 01, "Spelling of a body": blanks are space and tab; 02, T-13: "Demand 3's blanks are spaces only". The argument says whether a tab is one
 pub data Blank : Bool → ℕ → Type 0 where
   space : {tabs : Bool} → Blank tabs 32
   tab : Blank true 9
 
--- today a tab is a blank (01); this is the one place that says so
+-- a tab in a body is no blank any more (02, T-13); this is the one place that says so
 abbrev pub tabs-too : Bool
-tabs-too = true
+tabs-too = false

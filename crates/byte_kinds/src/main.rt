@@ -3,7 +3,7 @@
 // Standard output.
 const OUTPUT: i32 = 1;
 
-// 16 times a byte's kind, and its digit, as the table had them.
+// 16 times a byte's kind, and its digit, as the table had them; but the tab, 9, is outside the alphabet since T-13.
 const TABLE: [u8; 256] = [
     240,
     240,
@@ -14,7 +14,7 @@ const TABLE: [u8; 256] = [
     240,
     240,
     240,
-    112,
+    240,
     176,
     240,
     240,
