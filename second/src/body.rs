@@ -37,9 +37,20 @@ struct Token {
     kind: Kind,
 }
 
-/// Whether a byte is a blank: space or tab.
-pub fn is_blank(byte: u8) -> bool {
-    byte == b' ' || byte == b'\t'
+/// Which bytes are the blanks of a body.
+#[derive(Clone, Copy, PartialEq, Eq)]
+pub enum Blanks {
+    /// A tab is refused (02, T-13).
+    Spaces,
+    /// As it was before.
+    SpacesAndTabs,
+}
+
+impl Blanks {
+    /// Whether a byte is one of them.
+    fn have(self, byte: u8) -> bool {
+        byte == b' ' || self == Blanks::SpacesAndTabs && byte == b'\t'
+    }
 }
 
 /// The place where a line's comment starts, if it has one.
@@ -178,7 +189,7 @@ fn pseudo(form: Form, sign: i128, first: i128, digits: &[u8]) -> (Kind, usize) {
 }
 
 /// The value at `at` in a line and its length, or what is wrong there.
-fn value(line: &[u8], at: usize) -> (Kind, usize) {
+fn value(line: &[u8], at: usize, blanks: Blanks) -> (Kind, usize) {
     let byte = line[at];
     let after = &line[at + 1..];
     if let Some(sign) = sign_of(&line[at..]) {
@@ -193,7 +204,7 @@ fn value(line: &[u8], at: usize) -> (Kind, usize) {
     if !byte.is_ascii_digit() {
         return (Kind::BadByte, 1);
     }
-    if !is_blank(line[at - 1]) {
+    if !blanks.have(line[at - 1]) {
         return (Kind::Misspelled, 1);
     }
     affn(1, digit_run(&line[at..]), 0)
@@ -201,15 +212,15 @@ fn value(line: &[u8], at: usize) -> (Kind, usize) {
 
 /// The tokens of a line, none if the line is passed over. After one that is wrong no more are sought: all faults
 /// of later tokens stand later.
-fn tokens(line: &Line) -> Vec<Token> {
+fn tokens(line: &Line, blanks: Blanks) -> Vec<Token> {
     let mut found: Vec<Token> = Vec::new();
     let mut at = 0;
     while at < line.bytes.len() {
-        if is_blank(line.bytes[at]) {
+        if blanks.have(line.bytes[at]) {
             at += 1;
             continue;
         }
-        let (kind, length) = if found.is_empty() { head(&line.bytes[at..]) } else { value(line.bytes, at) };
+        let (kind, length) = if found.is_empty() { head(&line.bytes[at..]) } else { value(line.bytes, at, blanks) };
         found.push(Token { place: line.start + at, kind });
         if matches!(kind, Kind::BadByte | Kind::NoHead | Kind::Misspelled) {
             break;
@@ -254,6 +265,7 @@ impl Meaning {
 /// The table as far as it was read, and the heads that were judged, each with its index.
 struct Reading {
     frame: Frame,
+    blanks: Blanks,
     given: Vec<Option<i128>>,
     line_before_ended_in_difference: bool,
     heads: Vec<(Head, u64)>,
@@ -266,7 +278,7 @@ impl Reading {
             if line.length > LONGEST_LINE {
                 return Err(refusal(16, line.start));
             }
-            let tokens = tokens(&line);
+            let tokens = tokens(&line, self.blanks);
             if !tokens.is_empty() {
                 self.line(&tokens)?;
             }
@@ -361,11 +373,21 @@ impl Reading {
 
 /// Reads a table body into N ordinates, or refuses with 1 to 13 or 16; `room` is the length of the lent ordinate slice.
 pub fn read_body(first: i64, last: i64, points: u64, body: &[u8], room: usize) -> Result<Vec<i32>, Refusal> {
-    judged_body(&Frame { first, last, points }, body, room).0
+    judged_body(&Frame { first, last, points }, body, room, Blanks::Spaces).0
+}
+
+/// The same as it was before T-13, with tabs for blanks.
+pub fn read_body_before(first: i64, last: i64, points: u64, body: &[u8], room: usize) -> Result<Vec<i32>, Refusal> {
+    judged_body(&Frame { first, last, points }, body, room, Blanks::SpacesAndTabs).0
 }
 
 /// What `read_body` answers, and the heads that it judged, each with its index, up to the first that failed.
-pub fn judged_body(frame: &Frame, body: &[u8], room: usize) -> (Result<Vec<i32>, Refusal>, Vec<(Head, u64)>) {
+pub fn judged_body(
+    frame: &Frame,
+    body: &[u8],
+    room: usize,
+    blanks: Blanks,
+) -> (Result<Vec<i32>, Refusal>, Vec<(Head, u64)>) {
     if !frame.in_limits() || body.len() > LONGEST {
         return (Err(refusal(1, 0)), Vec::new());
     }
@@ -373,7 +395,7 @@ pub fn judged_body(frame: &Frame, body: &[u8], room: usize) -> (Result<Vec<i32>,
         return (Err(refusal(2, 0)), Vec::new());
     }
     let mut reading =
-        Reading { frame: *frame, given: Vec::new(), line_before_ended_in_difference: false, heads: Vec::new() };
+        Reading { frame: *frame, blanks, given: Vec::new(), line_before_ended_in_difference: false, heads: Vec::new() };
     let answer = reading.body(body);
     (answer, reading.heads)
 }
@@ -399,7 +421,7 @@ pub fn line_lengths(body: &[u8]) -> Vec<LineLength> {
             has_line_feed: !rest.is_empty(),
             has_cr_lf: rest.starts_with(b"\r"),
             ends_in_cr: body[line.start..end].ends_with(b"\r"),
-            is_passed_over: line.bytes.iter().all(|byte| is_blank(*byte)),
+            is_passed_over: line.bytes.iter().all(|byte| *byte == b' '),
         }
     };
     lines(body).iter().map(of).collect()
@@ -415,7 +437,7 @@ pub enum LineEnd {
 
 /// How each line of an accepted body ends; a DUP has the form of what it repeats.
 pub fn line_ends(body: &[u8]) -> Vec<LineEnd> {
-    let of = |line: &Line| match tokens(line).iter().rev().find(|token| !matches!(token.kind, Kind::Duplicate(_))) {
+    let of = |line: &Line| match tokens(line, Blanks::Spaces).iter().rev().find(|token| !matches!(token.kind, Kind::Duplicate(_))) {
         None => LineEnd::PassedOver,
         Some(Token { kind: Kind::Difference(_), .. }) => LineEnd::Difference,
         Some(_) => LineEnd::Other,

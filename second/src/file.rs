@@ -1,6 +1,6 @@
 //! Reading a file: its lines, its labels, its numbers, its table (01, The file).
 
-use crate::body::{content, is_blank, read_body};
+use crate::body::{content, read_body, read_body_before};
 use crate::frame::{nearest, refusal, Refusal, LARGEST_ABSCISSA, LONGEST, MISSING};
 use std::collections::HashSet;
 
@@ -105,6 +105,11 @@ fn lines(file: &[u8]) -> Vec<Line> {
 /// The place of a line's first byte that is no blank, or its end.
 fn first_non_blank(file: &[u8], line: &Line) -> usize {
     (line.start..line.end).find(|at| !is_blank(file[*at])).unwrap_or(line.end)
+}
+
+/// Whether a byte is a blank of a header: space or tab.
+pub fn is_blank(byte: u8) -> bool {
+    byte == b' ' || byte == b'\t'
 }
 
 /// A name as it is compared: upper case, without blanks, `-`, `/`, `_`.
@@ -436,20 +441,40 @@ fn in_file(fault: Refusal, start: usize) -> Refusal {
     }
 }
 
+/// A reader of bodies.
+type BodyReader = fn(i64, i64, u64, &[u8], usize) -> Result<Vec<i32>, Refusal>;
+
 /// Reads a file, or refuses with 19 to 29, 1 to 13 and 16 in 01's order; `room` is the length of the ordinate slice.
 pub fn read_file(file: &[u8], room: usize) -> Result<FileTable, Refusal> {
     read_records(file, &records(file)?, room)
 }
 
+/// The same as it was before T-13, with tabs for blanks in the body.
+pub fn read_file_before(file: &[u8], room: usize) -> Result<FileTable, Refusal> {
+    read_by(read_body_before, file, &records(file)?, room)
+}
+
 /// Reads the table of one block from its records: 25 on.
 pub fn read_records(file: &[u8], records: &Records, room: usize) -> Result<FileTable, Refusal> {
+    read_by(read_body, file, records, room)
+}
+
+/// Where the body of a file's table stands, if its labels are right, no record is absent and the list is there.
+pub fn body_extent(file: &[u8]) -> Option<(usize, usize)> {
+    let records = records(file).ok()?;
+    let needed = Needed::of(&records).ok()?;
+    Some((needed.body_start(file).ok()?, needed.table.to))
+}
+
+/// Reads the table of one block from its records, its body by this reader.
+fn read_by(reader: BodyReader, file: &[u8], records: &Records, room: usize) -> Result<FileTable, Refusal> {
     let needed = Needed::of(records)?;
     let numbers = needed.numbers(file)?;
     let start = needed.body_start(file)?;
     let first = abscissa(file, needed.first_x, numbers.first_x, numbers.x_factor)?;
     let last = abscissa(file, needed.last_x, numbers.last_x, numbers.x_factor)?;
     let body = &file[start..needed.table.to];
-    let ordinates = read_body(first, last, numbers.points, body, room).map_err(|fault| in_file(fault, start))?;
+    let ordinates = reader(first, last, numbers.points, body, room).map_err(|fault| in_file(fault, start))?;
     let expected = quotient(numbers.first_y, numbers.y_factor, 0);
     if ordinates[0] != MISSING && expected != Some(i128::from(ordinates[0])) {
         return Err(needed.first_y.refused(29, file));

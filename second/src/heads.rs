@@ -1,6 +1,6 @@
 //! What decides on the heads of a body, so that it can be counted how often a case tries 02's rule (T-03).
 
-use crate::body::judged_body;
+use crate::body::{judged_body, Blanks};
 use crate::frame::{Frame, Head};
 
 /// What is counted, in the order of `tried`.
@@ -30,7 +30,7 @@ fn little_beyond(frame: &Frame, head: Head, i: u64) -> bool {
 
 /// Which of the things that are counted hold for a body.
 pub fn tried(frame: &Frame, body: &[u8], room: usize) -> [bool; 5] {
-    let (answer, heads) = judged_body(frame, body, room);
+    let (answer, heads) = judged_body(frame, body, room, Blanks::Spaces);
     let accepted = answer.is_ok();
     let any = |holds: &dyn Fn(Head, u64) -> bool| heads.iter().any(|(head, i)| holds(*head, *i));
     let failed = heads.last().filter(|_| answer.is_err_and(|fault| fault.number == 6));

@@ -19,6 +19,7 @@ mod random;
 mod selftest;
 mod stored;
 mod stream;
+mod tabs;
 mod text;
 
 use file_text::{Given, Scales};
@@ -35,7 +36,7 @@ const PROGRAM_POINTS: u64 = 4_096;
 /// Prints how the program is used, and ends it.
 fn usage() -> ! {
     eprintln!("second cases --seed S --bodies A --writes B --files C --written-files D --compound E --profiles G");
-    eprintln!("             --spools H --damaged I > stream");
+    eprintln!("             --spools H --damaged I --old J > stream");
     eprintln!("second stored --seed S --bodies A --writes B --files C --written-files D --cases PATH --answers PATH");
     eprintln!("second count < stream");
     eprintln!("second body F L N [--room R] < body");
@@ -87,7 +88,7 @@ fn cases_command(arguments: &[String]) -> io::Result<()> {
     let out = &mut BufWriter::new(io::stdout().lock());
     let number = |name| option(arguments, name, 0) as usize;
     let seed = option(arguments, "--seed", 1);
-    let counts = ["--bodies", "--writes", "--files", "--written-files", "--compound", "--profiles", "--spools", "--damaged"];
+    let counts = ["--bodies", "--writes", "--files", "--written-files", "--compound", "--profiles", "--spools", "--damaged", "--old"];
     let counts = counts.map(number);
     cases::write_cases(out, seed, counts)?;
     out.flush()

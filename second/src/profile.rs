@@ -1,7 +1,7 @@
 //! The ion mobility profile: fifteen records that 001 requires, from a file or from a site's page (02, T-09).
 
-use crate::body::{content, is_blank};
-use crate::file::{all_labels, normalised, read_file, records, FileTable, Record, Records};
+use crate::body::content;
+use crate::file::{all_labels, is_blank, normalised, read_file, records, FileTable, Record, Records};
 use crate::frame::{refusal, Refusal};
 
 /// A record that the profile wants: its label, and the words that it may be, if 001 lists some.

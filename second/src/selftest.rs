@@ -8,6 +8,7 @@ mod heads;
 mod lengths;
 mod night;
 mod profile;
+mod tabs;
 mod written_files;
 
 use crate::body::read_body;
@@ -438,16 +439,16 @@ fn check_tables(report: &mut Report) {
     report.compare("list on a later line", plain(read_file(&file, 4)), Err((27, place(&file, "(X++"))));
     let file = file_with("XYDATA", " \n");
     report.compare("no list", plain(read_file(&file, 4)), Err((27, place(&file, "##END"))));
-    let file = file_with("XYDATA", "(X++(Y..Y))\n0@Jj\n \t");
+    let file = file_with("XYDATA", "(X++(Y..Y))\n0@Jj\n  ");
     report.compare("13 at the next ##", plain(read_file(&file, 4)), Err((12, place(&file, "##END"))));
-    let file = file_with("XYDATA", "(X++(Y..Y))\n0@Jj%\n \t");
+    let file = file_with("XYDATA", "(X++(Y..Y))\n0@Jj%\n  ");
     report.compare("12 at the next ##", plain(read_file(&file, 4)), Err((13, place(&file, "##END"))));
     let file = file_with("XYDATA", "(X++(Y..Y))\n0@J#%\n");
     report.compare("3 in the file", plain(read_file(&file, 4)), Err((3, place(&file, "#%"))));
 }
 
 /// Bodies as in `body_rows`, with number, place, line and column (02, T-01).
-const LINE_ROWS: [(&str, (u32, u64, u64, u64)); 17] = [
+const LINE_ROWS: [(&str, (u32, u64, u64, u64)); 18] = [
     // On the first line, and on later ones.
     ("!", (3, 0, 1, 1)),
     ("0A?J1", (8, 3, 1, 4)),
@@ -467,8 +468,9 @@ const LINE_ROWS: [(&str, (u32, u64, u64, u64)); 17] = [
     ("0A~/", (12, 4, 2, 1)),
     ("0A//", (12, 4, 3, 1)),
     ("0E0%U~/ $$", (13, 10, 2, 4)),
-    // A tab is one byte, and so one column; a letter outside ASCII is two here.
-    ("0\t\tA\t!", (3, 5, 1, 6)),
+    // A tab is one byte, and so one column, in a comment too; a letter outside ASCII is two here.
+    ("0  A\t!", (3, 4, 1, 5)),
+    ("0A$$\t\tc/!", (3, 8, 2, 1)),
     ("0A$$\u{fc}", (12, 6, 1, 7)),
 ];
 
@@ -500,7 +502,7 @@ fn check_lines_of_files(report: &mut Report) {
         ("XYDATA", "(X++(Y..Y))\n0@Jj%\n3A\n", (10, 116, 10, 2)),
         ("XYDATA", "(X++(Y..Y))\r\n0@J!%\r\n", (3, 113, 9, 4)),
         ("XYDATA", "(X++(Y..Y))\n$$\r\r\n0@J!%\n", (3, 117, 10, 4)),
-        ("XYDATA", "(X++(Y..Y))\n0@Jj%\n \t", (13, 117, 10, 3)),
+        ("XYDATA", "(X++(Y..Y))\n0@Jj%\n  ", (13, 117, 10, 3)),
         ("XYDATA", "(X++(Y..Y))\n0@Jj\n", (12, 114, 10, 1)),
     ];
     for (name, text, expected) in rows {
@@ -552,7 +554,7 @@ fn check_spellings(report: &mut Report, random: &mut Random) {
         let frame = if random.once_in(2) { tables::frame(random, points) } else { coarse::frame(random, points, unit) };
         let list = tables::ordinates(random, points);
         let never = spell::NEVER;
-        let style = spell::Style { half_heads: never, slips: never, over: never, ..spell::style(random) };
+        let style = spell::Style { half_heads: never, slips: never, over: never, tabs: never, ..spell::style(random) };
         let body = spell::body(random, &style, &frame, &list);
         let found = read_body(frame.first, frame.last, frame.points, &body, points);
         report.compare(&format!("{frame:?} {}", body.escape_ascii()), plain(found), Ok(list));
@@ -596,6 +598,7 @@ pub fn run() -> i32 {
     exact::check(report);
     profile::check(report);
     night::check(report);
+    tabs::check(report);
     let random = &mut Random::new(7);
     check_spellings(report, random);
     check_written(report, random);

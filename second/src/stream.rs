@@ -1,17 +1,18 @@
 //! The stream of cases with their answers: writing it, and counting what is in it. README.md gives the format.
 
-use crate::body::read_body;
+use crate::body::{read_body, read_body_before};
 use crate::compound::survey;
-use crate::file::{read_file, record_text, Exact, FileTable, RecordText};
+use crate::damaged::{damaged, Outcomes};
+use crate::file::{body_extent, read_file, read_file_before, record_text, Exact, FileTable, RecordText};
 use crate::file_text::{write_file, Given, Scales, WrittenFile};
 use crate::file_tried;
 use crate::frame::{Frame, Refusal};
 use crate::heads::{tried, TRIED};
 use crate::lengths;
 use crate::line::Told;
-use crate::damaged::{damaged, Outcomes};
 use crate::night::{report, Totals};
 use crate::profile::{read_profile, WANTED};
+use crate::tabs::{converted, converted_file};
 use crate::text::{write_body, TextForm};
 use std::collections::BTreeMap;
 use std::io::{self, Read, Write};
@@ -166,8 +167,12 @@ pub fn put_body_case(out: &mut impl Write, case: &BodyCase) -> io::Result<()> {
     put_u32(out, case.room)?;
     put_bytes(out, &case.body)?;
     let Frame { first, last, points } = case.frame;
-    let answer = read_body(first, last, points, &case.body, case.room as usize);
-    put_told(out, answer.as_ref().err().map_or(Told::default(), |fault| fault.told(&case.body)))?;
+    put_body_answer(out, &case.body, read_body(first, last, points, &case.body, case.room as usize))
+}
+
+/// The answer to a body.
+fn put_body_answer(out: &mut impl Write, body: &[u8], answer: Result<Vec<i32>, Refusal>) -> io::Result<()> {
+    put_told(out, answer.as_ref().err().map_or(Told::default(), |fault| fault.told(body)))?;
     let ordinates = answer.unwrap_or_default();
     put_u64(out, ordinates.len() as u64)?;
     put_ordinates(out, &ordinates)
@@ -358,6 +363,27 @@ pub fn put_damage_case(out: &mut impl Write, case: &BodyCase) -> io::Result<()> 
     [all.unequal + all.otherwise, all.same, all.other, found.digest].iter().try_for_each(|n| put_u64(out, *n))
 }
 
+/// Writes a case of an old body: what the converter makes of it, and how it was read before.
+pub fn put_old_body_case(out: &mut impl Write, case: &BodyCase) -> io::Result<()> {
+    out.write_all(b"T")?;
+    put_frame(out, &case.frame)?;
+    put_u32(out, case.room)?;
+    put_bytes(out, &case.body)?;
+    out.write_all(&converted(&case.body))?;
+    let Frame { first, last, points } = case.frame;
+    put_body_answer(out, &case.body, read_body_before(first, last, points, &case.body, case.room as usize))
+}
+
+/// Writes a case of an old file: what the converter makes of it, and how it was read before.
+pub fn put_old_file_case(out: &mut impl Write, case: &FileCase) -> io::Result<()> {
+    out.write_all(b"U")?;
+    put_u32(out, case.room)?;
+    put_bytes(out, &case.file)?;
+    out.write_all(&converted_file(&case.file))?;
+    put_u32(out, u32::from(body_extent(&case.file).is_some()))?;
+    put_file_answer(out, &case.file, read_file_before(&case.file, case.room as usize))
+}
+
 /// An error of a stream that cannot be.
 fn broken(what: &'static str) -> io::Error {
     io::Error::new(io::ErrorKind::InvalidData, what)
@@ -490,6 +516,8 @@ impl<R: Read> Stream<R> {
             b'P' => self.profile_case(),
             b'N' => Ok(named("N", self.spool_case()?)),
             b'D' => Ok(named("D", self.damage_case()?)),
+            b'T' => Ok(named("T", self.old_body_case()?)),
+            b'U' => Ok(named("U", self.old_file_case()?)),
             _ => Err(broken("no such kind of case")),
         }
     }
@@ -591,6 +619,29 @@ impl<R: Read> Stream<R> {
         self.bytes(32)?;
         let number = self.u32()?;
         self.u64()?;
+        Ok((number, length))
+    }
+
+    /// The rest of a case of an old body.
+    fn old_body_case(&mut self) -> io::Result<(u32, usize)> {
+        self.frame()?;
+        self.u32()?;
+        let length = self.counted()?.len();
+        self.bytes(length)?;
+        let number = self.told()?;
+        let count = self.u64()? as usize;
+        self.bytes(4 * count)?;
+        Ok((number, length))
+    }
+
+    /// The rest of a case of an old file.
+    fn old_file_case(&mut self) -> io::Result<(u32, usize)> {
+        self.u32()?;
+        let length = self.counted()?.len();
+        self.bytes(length + 4)?;
+        let number = self.told()?;
+        let points = self.u64()? as usize;
+        self.bytes(16 + 12 + 4 * points)?;
         Ok((number, length))
     }
 

@@ -21,6 +21,8 @@ pub struct Style {
     /// How often a line is filled up to 80 bytes, and how often beyond (02, T-06).
     pub full: usize,
     pub over: usize,
+    /// How often a blank is a tab, which a body no longer may have (02, T-13).
+    pub tabs: usize,
 }
 
 /// The ways to spell a value.
@@ -55,6 +57,7 @@ pub fn style(random: &mut Random) -> Style {
         slips: random.pick(&[20, NEVER, NEVER]),
         full: random.pick(&[4, 40, NEVER]),
         over: random.pick(&[12, NEVER, NEVER, NEVER]),
+        tabs: random.pick(&[3, 40, NEVER, NEVER, NEVER, NEVER]),
     }
 }
 
@@ -161,7 +164,8 @@ fn fit(random: &mut Random, style: &Style, start: usize, end: usize, body: &mut 
     }
     let in_comment = body[start..].windows(2).any(|pair| pair == b"$$");
     while body.len() < start + length {
-        body.push(if in_comment { random.pick(b"c$\r\xff ") } else { random.pick(b"  \t") });
+        let byte = if in_comment { random.pick(b"c$\r\xff \t") } else { blank(random, style) };
+        body.push(byte);
     }
 }
 
@@ -214,7 +218,7 @@ fn value(random: &mut Random, style: &Style, list: &[i32], at: usize, inside: bo
     }
     match form {
         Form::Signed => signed(random, y, body),
-        Form::AfterBlank => after_blank(random, y, body),
+        Form::AfterBlank => after_blank(random, style, y, body),
         Form::Squeezed => body.extend(pseudo(y, b"@ABCDEFGHI", b"-abcdefghi")),
         Form::Difference => body.extend(pseudo(y - i64::from(list[at - 1]), b"%JKLMNOPQR", b"-jklmnopqr")),
     }
@@ -262,8 +266,8 @@ fn signed(random: &mut Random, y: i64, body: &mut Vec<u8>) {
 }
 
 /// An AFFN or PAC value after a blank; one below zero keeps its sign.
-fn after_blank(random: &mut Random, y: i64, body: &mut Vec<u8>) {
-    body.push(random.pick(b"   \t"));
+fn after_blank(random: &mut Random, style: &Style, y: i64, body: &mut Vec<u8>) {
+    body.push(blank(random, style));
     if y < 0 {
         body.push(b'-');
     }
@@ -342,11 +346,20 @@ fn spelled_head(random: &mut Random, style: &Style, h: i128, places: usize) -> V
     spelled
 }
 
+/// A blank: a space, or as often as the style says a tab.
+fn blank(random: &mut Random, style: &Style) -> u8 {
+    if random.once_in(style.tabs) {
+        b'\t'
+    } else {
+        b' '
+    }
+}
+
 /// Blanks, now and then.
 pub fn blanks(random: &mut Random, style: &Style, body: &mut Vec<u8>) {
     if random.once_in(style.blanks) {
         for _ in 0..1 + random.below(3) {
-            body.push(random.pick(b"  \t"));
+            body.push(blank(random, style));
         }
     }
 }
@@ -355,7 +368,7 @@ pub fn blanks(random: &mut Random, style: &Style, body: &mut Vec<u8>) {
 pub fn comment(random: &mut Random, body: &mut Vec<u8>) {
     body.extend(b"$$");
     for _ in 0..random.below(12) {
-        let byte = if random.once_in(3) { random.byte() } else { random.pick(b"A0$#=\r ?.x%T1") };
+        let byte = if random.once_in(3) { random.byte() } else { random.pick(b"A0$#=\r \t?.x%T1") };
         body.push(if byte == b'\n' { b'\r' } else { byte });
     }
 }
