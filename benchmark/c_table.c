@@ -35,7 +35,6 @@ const uint8_t c_kinds[256] = {
     ['+'] = K(PLUS, 0),
     ['-'] = K(MINUS, 0),
     [' '] = K(BLANK, 0),
-    ['\t'] = K(BLANK, 0),
     ['\n'] = K(LF, 0),
     ['\r'] = K(CR, 0),
     ['$'] = K(DOLLAR, 0),
@@ -62,7 +61,7 @@ ALWAYS_INLINE bool is_digit(const uint8_t *p, const uint8_t *end)
 
 ALWAYS_INLINE bool is_blank(uint8_t byte)
 {
-    return byte == ' ' || byte == '\t';
+    return byte == ' ';
 }
 
 /* The end of the line that p stands at the end of: after its comment and LF or CR LF; NULL if something else is there. */
