@@ -181,6 +181,8 @@ enum kind_of_case {
     SPOOLS,
     SPOOLED,
     DAMAGED,
+    OLD_BODIES,
+    OLD_FILES,
     KINDS
 };
 static const struct {
@@ -201,6 +203,8 @@ static const struct {
     [SPOOLS] = {"spools", ""},
     [SPOOLED] = {"files of spools", ""},
     [DAMAGED] = {"bodies with every byte damaged", ""},
+    [OLD_BODIES] = {"old bodies, converted", ""},
+    [OLD_FILES] = {"old files, converted", ""},
 };
 
 static unsigned long passed, failed;
@@ -1062,6 +1066,89 @@ static void compare_spool(void)
     free(report);
 }
 
+/* An old body, converted and then read: the bytes, and the answer of before. */
+static void compare_old_body(void)
+{
+    int64_t first = take_i64(), last = take_i64();
+    uint64_t points = take_u64();
+    uint32_t room = take_u32(), length = take_u32();
+    uint8_t *body = take_bytes(length), *converted = take_bytes(length);
+    struct refusal right = take_refusal();
+    int64_t count = take_i64();
+    int32_t *expected = take_ordinates((size_t)count);
+
+    uint8_t *lent = filled_bytes(length);
+    memcpy(lent, body, length);
+    int32_t *out = filled_ordinates(room);
+    struct lastarunc_table answer;
+    lastarunc_detab_table(lent, length);
+    const char *difference = memcmp(lent, converted, length) ? "a converted byte" : NULL;
+    if (!difference && guard_altered(lent, length))
+        difference = "a byte behind the body is altered";
+    int64_t returned = lastarunc_read_table(first, last, points, lent, length, out, room, &answer);
+    struct refusal here = {answer.refused, answer.place, answer.line, answer.column};
+    if (!difference)
+        difference = refusal_differs(returned, here, right);
+    if (!difference)
+        difference = ordinates_differ(out, room, expected, (size_t)count);
+    if (counted(OLD_BODIES, right.number, difference)) {
+        show_bytes("body", body, length);
+        show_bytes("converted", lent, length);
+        show_refusal("second", right);
+        show_refusal(", here", here);
+        printf("\n");
+    }
+    free(body);
+    free(converted);
+    free(expected);
+    free(lent);
+    free(out);
+}
+
+/* An old file, converted and then read: the bytes, whether there is a body, and the answer of before. */
+static void compare_old_file(void)
+{
+    uint32_t room = take_u32(), length = take_u32();
+    uint8_t *file = take_bytes(length), *converted = take_bytes(length);
+    bool has_body = take_u32();
+    struct refusal right = take_refusal();
+    int64_t points = take_i64(), first = take_i64(), last = take_i64();
+    struct exact exact = take_exact();
+    int32_t *expected = take_ordinates((size_t)points);
+
+    uint8_t *lent = filled_bytes(length);
+    memcpy(lent, file, length);
+    int32_t *out = filled_ordinates(room);
+    struct lastarunc_file answer;
+    const char *difference = lastarunc_detab_file(lent, length) != has_body ? "whether there is a body" : NULL;
+    if (!difference && memcmp(lent, converted, length))
+        difference = "a converted byte";
+    if (!difference && guard_altered(lent, length))
+        difference = "a byte behind the file is altered";
+    int64_t returned = lastarunc_read_file(lent, length, out, room, &answer);
+    struct refusal here = {answer.refused, answer.place, answer.line, answer.column};
+    if (!difference)
+        difference = refusal_differs(returned, here, right);
+    if (!difference && (answer.points != points || answer.first != first || answer.last != last))
+        difference = "N, F or L";
+    if (!difference && !is_same((struct exact){answer.first_exact, answer.last_exact, answer.firsty_exact}, exact))
+        difference = "what is exact";
+    if (!difference)
+        difference = ordinates_differ(out, room, expected, (size_t)points);
+    if (counted(OLD_FILES, right.number, difference)) {
+        show_bytes("file", file, length);
+        show_bytes("converted", lent, length);
+        show_refusal("second", right);
+        show_refusal(", here", here);
+        printf("\n");
+    }
+    free(file);
+    free(converted);
+    free(expected);
+    free(lent);
+    free(out);
+}
+
 /* A file to be written into `room` bytes, and the second writer's answer: F and L, and a text of `length` bytes. */
 struct file_case {
     uint32_t title_length, n, room;
@@ -1286,6 +1373,12 @@ int main(void)
             break;
         case 'N':
             compare_spool();
+            break;
+        case 'T':
+            compare_old_body();
+            break;
+        case 'U':
+            compare_old_file();
             break;
 #endif
         default:

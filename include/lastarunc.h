@@ -313,6 +313,20 @@ int64_t lastarunc_read_profile(const uint8_t *file, size_t file_len, const uint8
 int64_t lastarunc_next_report(const uint8_t *spool, size_t spool_len, int32_t *out, size_t out_len,
                               struct lastarunc_progress *progress, struct lastarunc_report *answer);
 
+/*
+ * Converts the body of an old table in place: each tab outside a comment becomes a space, every other byte stays. Then
+ * lastarunc_read_table reads it as it read the body before tabs were refused, with the same number, place, line, column
+ * and ordinates.
+ */
+void lastarunc_detab_table(uint8_t *body, size_t body_len);
+
+/*
+ * Converts the body of an old file's table in place, and no other byte. Returns 1, or 0 if there is no body to be found
+ * (the labels are refused, one of the seven records is absent, or XYDATA's list is not there), and then nothing changes.
+ * A data block of a compound file is converted so too, from its `from` to its `to`.
+ */
+int64_t lastarunc_detab_file(uint8_t *file, size_t file_len);
+
 #ifdef __cplusplus
 }
 #endif
