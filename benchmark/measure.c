@@ -140,6 +140,26 @@ static void run_blocks(size_t length, long times)
             wrong("blocks");
 }
 
+/* Reports a night's spool of TIMES copies of a file, which holds so many points or, if none, is refused with 25. */
+static void run_night(const uint8_t *file, size_t length, size_t points, long times)
+{
+    const uint8_t mark[] = {0x4A, 0x44, (uint8_t)(length >> 16), (uint8_t)(length >> 8), (uint8_t)length};
+    size_t record = sizeof mark + length, all = record * (size_t)times;
+    uint8_t *spool = malloc(all);
+    for (size_t at = 0; at < all; at += record) {
+        memcpy(spool + at, mark, sizeof mark);
+        memcpy(spool + at + sizeof mark, file, length);
+    }
+    int32_t *out = malloc((points + 1) * sizeof *out);
+    struct lastarunc_progress progress = {0};
+    struct lastarunc_report report;
+    while (lastarunc_next_report(spool, all, out, points + 1, &progress, &report), !report.ended)
+        if (report.refused != (points ? 0 : 25))
+            wrong("night");
+    if (progress.seen != times || progress.points != (int64_t)points * times)
+        wrong("night");
+}
+
 /* Makes the tables of this name, as many as stand after `*`, or one; false if there is no such table. */
 static bool make_turns(struct turns *turns, const char *name)
 {
@@ -164,12 +184,16 @@ static bool run(const char *name, const char *table, const char *times)
         uint8_t *file = make_file(points, &length);
         if (size)
             printf("%zu %zu\n", length, points);
+        else if (!strcmp(name, "report-library"))
+            run_night(file, length, points, atol(times));
         else if (!strcmp(name, "read-library-table"))
             run_reader(name, read_library, &(struct turns){{make_file_table(points)}, 1}, atol(times));
         else
             run_file(file, length, points, atol(times));
         return true;
     }
+    if (!strncmp(table, "labels-", 7) && !strcmp(name, "report-library"))
+        return run_night(make_labels(strtoul(table + 7, NULL, 10)), strtoul(table + 7, NULL, 10), 0, atol(times)), true;
     if (!strncmp(table, "labels-", 7))
         return run_labels(strtoul(table + 7, NULL, 10), atol(times)), true;
     if (!strncmp(table, "blocks-", 7))
