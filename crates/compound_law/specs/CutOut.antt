@@ -24,7 +24,7 @@ use Rattle.label_spec.specs.SpaceLaws.{past-stop}
 use Rattle.label_spec.specs.File.{longestFile, titled, openedAt, opened, placed, afterTitle, labelled}
 use Rattle.label_spec.specs.Records.{markOf, recordOf, asRecord, recordIn, recordFor}
 use Rattle.file_spec.specs.Texts.{XFACTOR, YFACTOR, FIRSTX, LASTX, NPOINTS, FIRSTY, XYDATA, text-of, gatheredFrom}
-use Rattle.file_spec.specs.File.{byRecords, byLabels, readFile}
+use Rattle.file_spec.specs.File.{byRecords, labelsBy, readFileBy, readFile}
 use Rattle.compound_spec.specs.declared.Block.{Block}
 use Rattle.compound_spec.specs.Compound.{CompoundAnswer, inPlace, inBlock, readCompound}
 use Rattle.compound_spec.specs.Cut.{restOfLine, endOf, cutOut, shifted}
@@ -161,7 +161,7 @@ labelled-cut u e x q h o p = rw (le-leb (length u) longestFile h, o, plain-judge
 -- What the simple reader makes of the cut.
 read-cut : (u : List ℕ) (space e x q : ℕ) → length u ≤ longestFile → opened u ≡ Opened.Title 0 e → Plain u [] (from u (e + 1) false) x q
     → readFile u space ≡ byRecords u space x (gatheredFrom u (e + 1) x)
-unfolding readFile labelled afterTitle placed byLabels
+unfolding readFileBy labelled afterTitle placed labelsBy
 read-cut u space e x q h o p =
     rw (le-leb (length u) longestFile h, o, plain-judged u (length u) [] (from u (e + 1) false) x q p, add-one e) refl
 

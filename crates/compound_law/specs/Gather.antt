@@ -28,6 +28,7 @@ use Rattle.file_spec.specs.declared.Listed.the-variants as listed
 use Rattle.file_spec.specs.Texts.{textIn, withText, markIn, markOf, listedIn}
 use Rattle.file_spec.specs.Figures.{decimalIn, countIn, exceeding, withDecimal, withCount, figuresOf, ratio, abscissa-of, whole, agrees, exactness-of}
 use Rattle.file_spec.specs.File.{FileAnswer, refuse-file, accept-file, inFile, byFirst, byTable, byLast, byAbscissas, byList, byFigures, byRecords}
+use Rattle.file_spec.specs.File.{tableBy, lastBy, abscissasBy, listBy, figuresBy, recordsBy}
 use Rattle.compound_spec.specs.Cut.{shifted}
 use Rattle.compound_law.specs.Carry.{shiftFound, foundIn}
 
@@ -150,35 +151,35 @@ module _ (s u : List ℕ) (m : ℕ)
 
       module _ (start : ℕ) where
         table-cut : (f l : ℤ) → byTable s space (shiftNeeded m t) n start f l ≡ shifted m (byTable u space t n start f l)
-        unfolding byTable
+        unfolding tableBy
         table-cut f l =
             rw (text-cut (t .xydata) (i .xydata), add-assoc m (t .xydata .from) start)
             (first-cut f l (t .xydata .from + start) (readTable f l (n .npoints) (drop start (textIn u (t .xydata))) space))
 
         -- 28
         last-cut : (f : ℤ) (r : Rounded) → byLast s space (shiftNeeded m t) n start f r ≡ shifted m (byLast u space t n start f r)
-        unfolding byLast
+        unfolding lastBy
         last-cut f Rounded.Beyond = rw (mark-cut (t .lastx) (i .lastx)) refl
         last-cut f (Rounded.Whole minus q) = table-cut f (whole minus q)
 
         abscissas-cut : (r : Rounded) → byAbscissas s space (shiftNeeded m t) n start r ≡ shifted m (byAbscissas u space t n start r)
-        unfolding byAbscissas
+        unfolding abscissasBy
         abscissas-cut Rounded.Beyond = rw (mark-cut (t .firstx) (i .firstx)) refl
         abscissas-cut (Rounded.Whole minus q) = last-cut (whole minus q) (abscissa-of (n .lastx) (n .xfactor) .rounded)
 
       -- 27
       listed-cut : (r : Listed) → byList s space (shiftNeeded m t) n r ≡ shifted m (byList u space t n r)
-      unfolding byList
+      unfolding listBy
       listed-cut listed.Unlisted = rw (mark-cut (t .xydata) (i .xydata)) refl
       listed-cut (listed.Body start) = abscissas-cut start (abscissa-of (n .firstx) (n .xfactor) .rounded)
 
     figured-cut : (space : ℕ) (r : Figures) → byFigures s space (shiftNeeded m t) (shiftFigures m r) ≡ shifted m (byFigures u space t r)
-    unfolding byFigures
+    unfolding figuresBy
     figured-cut space (figures.Wrong a) = refl
     figured-cut space (figures.All n) = rw (text-cut (t .xydata) (i .xydata)) (listed-cut space n (listedIn (textIn u (t .xydata))))
 
   -- From 25 on: END's `##` stands at x in the cut.
   pub records-cut : (space x : ℕ) (r : Gathered) → gatheredIn (length u) r → byRecords s space (m + x) (shiftGathered m r) ≡ shifted m (byRecords u space x r)
-  unfolding byRecords
+  unfolding recordsBy
   records-cut space x gathered.Lacking i = refl
   records-cut space x (gathered.All t) i = rw (figures-cut t i) (figured-cut t i space (figuresOf u t))

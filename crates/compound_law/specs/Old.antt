@@ -15,7 +15,7 @@ use Rattle.label_spec.specs.Names.{sames, TITLE, END}
 use Rattle.label_spec.specs.Labels.{Walk, over, bad, label, from}
 use Rattle.label_spec.specs.File.{longestFile, twice, judged, opened, placed, afterTitle, labelled}
 use Rattle.label_spec.specs.Records.{markOf}
-use Rattle.file_spec.specs.File.{byLabels, readFile}
+use Rattle.file_spec.specs.File.{labelsBy, byLabels, readFileBy, readFile}
 use Rattle.compound_spec.specs.Blocks.{says, Level, fresh, noted, deepest, Survey, refused, closed, tested, turn, nested, withinTitle, surveyed}
 use Rattle.compound_spec.specs.Compound.{CompoundAnswer, whole, inPlace, answersOf, bySurvey, findBlocks, readCompound}
 use Rattle.compound_law.specs.Plain.{Plain}
@@ -46,7 +46,7 @@ module _ (s : List ℕ) (space m : ℕ) where
 
   at-end : (K : Level → List Level → Survey) (l : Level) (x e : ℕ) → l .link ≡ false
       → answered s space (closed K l x e []) ≡ whole (byLabels s space (Labelled.Places m (l .eq) x))
-  unfolding closed bySurvey byLabels inPlace
+  unfolding closed bySurvey labelsBy inPlace
   at-end K l x e h = rw h refl
 
   module _ (x n e : ℕ) (v : List ℕ) (rest : Walk) (l : Level) (c : l .link ≡ false) (ih : (o : Level) → o .link ≡ false → linkSaid s rest ≡ false → Same rest o) where
@@ -60,7 +60,7 @@ module _ (s : List ℕ) (space m : ℕ) where
         → answered s space (pick t (pick (both (l .link) (ltb 1 deepest)) (nested s rest (fresh x e) (l ∷ [])) (refused 24 x))
         (pick u (refused 23 x) (tested (nested s rest) x (noted s v (e + 1) (markOf (length s) rest) l) [])))
         ≡ whole (byLabels s space (placed m (l .eq) (pick t (Walked.Refused (fault-at 24 x)) (pick u (Walked.Refused (fault-at 23 x)) (judged (length s) (l .names ++ v ∷ []) rest)))))
-    unfolding bySurvey byLabels placed
+    unfolding bySurvey labelsBy placed
     at-rest true p u q h g = rw c refl
     at-rest false p true q h g = refl
     at-rest false p false q h g = at-own h g
@@ -78,19 +78,19 @@ module _ (s : List ℕ) (space m : ℕ) where
         at-rest (sames v TITLE) refl (twice v (l .names)) refl (b .0) (b .1)
 
   same : (k : Walk) (l : Level) → l .link ≡ false → linkSaid s k ≡ false → Same k l
-  unfolding nested turn judged linkSaid bySurvey byLabels placed
+  unfolding nested turn judged linkSaid bySurvey labelsBy placed
   same over l c h = refl
   same (bad x rest) l c h = refl
   same (label x n e v rest) l c h = at-label x n e v rest l c (same rest) (sames v END) refl h
 
 old-title : (s : List ℕ) (space : ℕ) (o : Opened) → linkAfter s o ≡ false → answered s space (withinTitle s o) ≡ whole (byLabels s space (afterTitle s o))
-unfolding linkAfter withinTitle afterTitle bySurvey byLabels
+unfolding linkAfter withinTitle afterTitle bySurvey labelsBy
 old-title s space (Opened.Title m e) h = same s space m (from s (e + 1) false) (fresh m e) refl h
 old-title s space (Opened.Refused r) h = refl
 
 -- A file whose outermost block does not say LINK is answered as the simple reader answers it, refusals too.
 pub old-answers : (s : List ℕ) (space : ℕ) → isCompound s ≡ false → readCompound s space ≡ whole (readFile s space)
-unfolding isCompound readCompound findBlocks readFile surveyed labelled bySurvey byLabels
+unfolding isCompound readCompound findBlocks readFileBy surveyed labelled bySurvey labelsBy
 old-answers s space h = cases (leb (length s) longestFile)
   where
     cases : (t : Bool) → answered s space (pick t (withinTitle s (opened s)) (refused 19 0)) ≡ whole (byLabels s space (pick t (afterTitle s (opened s)) (Labelled.Refused (fault-at 19 0))))

@@ -12,7 +12,7 @@ ghost use Rattle.file_spec.specs.File.{inFile, byTable, byAbscissas, byFigures,
 ghost use Rattle.figure.specs.Carried.{Carried};
 ghost use Rattle.file_records.specs.Bounds.{AllWithin, AllSmall};
 ghost use Rattle.file.specs.declared.Tabled.{Tabled};
-ghost use Rattle.file.specs.Places.{bodyFrom, bodyAt, bodyIn, bodyOf};
+ghost use Rattle.file_spec.specs.Places.{bodyFrom, bodyAt, bodyIn, bodyOf};
 ghost use Rattle.file.specs.Answers.{tableAt, Laid, laidIn, stagedBy, leftBy, StageChecks, StageSays, FileSays};
 use decimal_spec::Rounded;
 use figure::agree;

@@ -45,42 +45,71 @@ module _ (s : List ℕ) (space : ℕ) where
       pick (agrees (getD ys 0 0) (ratio 0 (n .firsty) (n .yfactor) .rounded))
       (accept-file (record { points = n .npoints; first = f; last = l; exact = exactness-of n (getD ys 0 0) }) ys) (refuse-file 29 (markOf s (t .firsty)))
 
+-- the stages by any reader of tables, as `readTable` is one and `readBefore` (02, T-13): F, L and N, the body, and the room
+module _ (reader : ℤ → ℤ → ℕ → List ℕ → ℕ → Answer) (s : List ℕ) (space : ℕ) where
   -- 1 to 13, and 16 (02, T-06), on the body: "from the line after the list to the next label's `##`", so the text of XYDATA from its start on
-  unfoldable pub byTable : Needed → Numbers → ℕ → ℤ → ℤ → FileAnswer
-  byTable t n start f l = byFirst t n f l (t .xydata .from + start) (readTable f l (n .npoints) (drop start (textIn s (t .xydata))) space)
+  unfoldable pub tableBy : Needed → Numbers → ℕ → ℤ → ℤ → FileAnswer
+  tableBy t n start f l = byFirst s space t n f l (t .xydata .from + start) (reader f l (n .npoints) (drop start (textIn s (t .xydata))) space)
 
   -- 28, F first
-  unfoldable pub byLast : Needed → Numbers → ℕ → ℤ → Rounded → FileAnswer
-  byLast t n start f Rounded.Beyond = refuse-file 28 (markOf s (t .lastx))
-  byLast t n start f (Rounded.Whole minus q) = byTable t n start f (whole minus q)
+  unfoldable pub lastBy : Needed → Numbers → ℕ → ℤ → Rounded → FileAnswer
+  lastBy t n start f Rounded.Beyond = refuse-file 28 (markOf s (t .lastx))
+  lastBy t n start f (Rounded.Whole minus q) = tableBy t n start f (whole minus q)
 
-  unfoldable pub byAbscissas : Needed → Numbers → ℕ → Rounded → FileAnswer
-  byAbscissas t n start Rounded.Beyond = refuse-file 28 (markOf s (t .firstx))
-  byAbscissas t n start (Rounded.Whole minus q) = byLast t n start (whole minus q) (abscissa-of (n .lastx) (n .xfactor) .rounded)
+  unfoldable pub abscissasBy : Needed → Numbers → ℕ → Rounded → FileAnswer
+  abscissasBy t n start Rounded.Beyond = refuse-file 28 (markOf s (t .firstx))
+  abscissasBy t n start (Rounded.Whole minus q) = lastBy t n start (whole minus q) (abscissa-of (n .lastx) (n .xfactor) .rounded)
 
   -- 27
-  unfoldable pub byList : Needed → Numbers → Listed → FileAnswer
-  byList t n listed.Unlisted = refuse-file 27 (markOf s (t .xydata))
-  byList t n (listed.Body start) = byAbscissas t n start (abscissa-of (n .firstx) (n .xfactor) .rounded)
+  unfoldable pub listBy : Needed → Numbers → Listed → FileAnswer
+  listBy t n listed.Unlisted = refuse-file 27 (markOf s (t .xydata))
+  listBy t n (listed.Body start) = abscissasBy t n start (abscissa-of (n .firstx) (n .xfactor) .rounded)
 
   -- 26
-  unfoldable pub byFigures : Needed → Figures → FileAnswer
-  byFigures t (figures.Wrong a) = refuse-file 26 a
-  byFigures t (figures.All n) = byList t n (listedIn (textIn s (t .xydata)))
+  unfoldable pub figuresBy : Needed → Figures → FileAnswer
+  figuresBy t (figures.Wrong a) = refuse-file 26 a
+  figuresBy t (figures.All n) = listBy t n (listedIn (textIn s (t .xydata)))
 
   -- 25, at END's `##`
-  unfoldable pub byRecords : ℕ → Gathered → FileAnswer
-  byRecords stop gathered.Lacking = refuse-file 25 stop
-  byRecords stop (gathered.All t) = byFigures t (figuresOf s t)
+  unfoldable pub recordsBy : ℕ → Gathered → FileAnswer
+  recordsBy stop gathered.Lacking = refuse-file 25 stop
+  recordsBy stop (gathered.All t) = figuresBy t (figuresOf s t)
 
   -- 19, 21, and 20, 22, 23, 24 in one walk
-  unfoldable pub byLabels : Labelled → FileAnswer
-  byLabels (Labelled.Refused r) = refuse-file (r .number) (r .place)
-  byLabels (Labelled.Places m e x) = byRecords x (gatheredFrom s (suc e) x)
+  unfoldable pub labelsBy : Labelled → FileAnswer
+  labelsBy (Labelled.Refused r) = refuse-file (r .number) (r .place)
+  labelsBy (Labelled.Places m e x) = recordsBy x (gatheredFrom s (suc e) x)
 
   -- what a file says, with room for so many ordinates
-  unfoldable pub readFile : FileAnswer
-  readFile = byLabels (labelled s)
+  unfoldable pub readFileBy : FileAnswer
+  readFileBy = labelsBy (labelled s)
+
+-- the stages by the reader of this release
+module _ (s : List ℕ) (space : ℕ) where
+  abbrev pub byTable : Needed → Numbers → ℕ → ℤ → ℤ → FileAnswer
+  byTable = tableBy readTable s space
+
+  abbrev pub byLast : Needed → Numbers → ℕ → ℤ → Rounded → FileAnswer
+  byLast = lastBy readTable s space
+
+  abbrev pub byAbscissas : Needed → Numbers → ℕ → Rounded → FileAnswer
+  byAbscissas = abscissasBy readTable s space
+
+  abbrev pub byList : Needed → Numbers → Listed → FileAnswer
+  byList = listBy readTable s space
+
+  abbrev pub byFigures : Needed → Figures → FileAnswer
+  byFigures = figuresBy readTable s space
+
+  abbrev pub byRecords : ℕ → Gathered → FileAnswer
+  byRecords = recordsBy readTable s space
+
+  abbrev pub byLabels : Labelled → FileAnswer
+  byLabels = labelsBy readTable s space
+
+  -- what a file says, with room for so many ordinates
+  abbrev pub readFile : FileAnswer
+  readFile = readFileBy readTable s space
 
 -- the answer of a stage for each of its cases
 abbrev pub staged : FileAnswer → FileStaged

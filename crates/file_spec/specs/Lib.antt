@@ -1,3 +1,5 @@
 pub mod Texts
 pub mod Figures
 pub mod File
+pub mod Places
+pub mod Tabs

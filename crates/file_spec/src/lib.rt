@@ -60,6 +60,12 @@ pub enum Listed {
     Unlisted,
 }
 
+// Where the body of a file's table stands, or that it has none to be found.
+pub enum FoundBody {
+    At(Span),
+    Absent,
+}
+
 // Whether the quotients of a file are exact, nothing being rounded (02, T-08): F's, L's, and FIRSTY's, which is exact too where it is not compared.
 pub struct Exactness {
     pub first: bool,

@@ -21,7 +21,7 @@ use Rattle.table_write_law.specs.ReadBack.{Entries, wrote-inner, wrote-most, re
 use Rattle.decimal_spec.specs.declared.Rounded.{Rounded}
 use Rattle.file_spec.specs.declared.Listed.the-variants as listed
 use Rattle.file_spec.specs.Texts.{spacing, LIST, listedAs, listedIn}
-use Rattle.file_spec.specs.File.{accept-file, byFirst, byTable, byLast, byAbscissas, byList, byFigures, byRecords, byLabels, readFile, storedFile}
+use Rattle.file_spec.specs.File.{accept-file, byFirst, tableBy, lastBy, abscissasBy, listBy, figuresBy, recordsBy, labelsBy, readFileBy, readFile, storedFile}
 use Rattle.file_write_spec.specs.declared.Scales.{Scales}
 use Rattle.file_write_spec.specs.Records.{crlf}
 use Rattle.file_write_spec.specs.File.{title-legal, scales-legal, numbers, within-limit, first-quotient, last-quotient, first-of, last-of, ordinates, firsty-agrees, file-exact, limited}
@@ -47,7 +47,7 @@ module _ (title : List ℕ) (c : Scales) (n : ℕ) (body : List ℕ) (k : Parts 
       → readFile (wholeFile title c n body) room
       ≡ byFirst (wholeFile title c n body) room (spans title c n body) (numbers c n) (within-limit f) (within-limit l) (spans title c n body .xydata .from + 13)
       (readTable (within-limit f) (within-limit l) n body room)
-  unfolding readFile byLabels byRecords byFigures byList byAbscissas byLast byTable
+  unfolding readFileBy labelsBy recordsBy figuresBy listBy abscissasBy lastBy tableBy
   file-table f l d e p q =
       let t = texts-written title c n body .1 .1 .1 .1 .1 .1 .0 in
       rw (labelled-is title c n body k, gathered-is title c n body k, figures-are title c n body k, t, listed-is body, d, p .is, e, q .is, t) refl
