@@ -32,7 +32,7 @@ none-later (b ∷ s) = refl
 
 -- ---- bytes
 
-eq-same : (c : Bool) (b x : ℕ) → eqb 32 x ≡ false → eqb 9 x ≡ false → eqb (changed c b) x ≡ eqb b x
+pub eq-same : (c : Bool) (b x : ℕ) → eqb 32 x ≡ false → eqb 9 x ≡ false → eqb (changed c b) x ≡ eqb b x
 eq-same true b x h k = refl
 eq-same false b x h k =
     by-case (λ t. eqb b 9 ≡ t → eqb (pick t 32 b) x ≡ eqb b x) (eqb b 9) (λ _ e. h ∙ sym (ap (λ (y : ℕ). eqb y x) (eqb-true b 9 e) ∙ k)) (λ _ e. refl) refl
@@ -46,7 +46,7 @@ kind-same : (b : ℕ) → kind false (changed false b) ≡ kind true b
 unfolding kind
 kind-same b = by-case (λ t. eqb b 9 ≡ t → kind false (pick t 32 b) ≡ kind true b) (eqb b 9) (λ _ e. rw (eqb-true b 9 e) refl) (λ _ e. rw e refl) refl
 
-within-same : (b : ℕ) → within 48 10 (changed false b) ≡ within 48 10 b
+pub within-same : (b : ℕ) → within 48 10 (changed false b) ≡ within 48 10 b
 within-same b = by-case (λ t. eqb b 9 ≡ t → within 48 10 (pick t 32 b) ≡ within 48 10 b) (eqb b 9) (λ _ e. rw (eqb-true b 9 e) refl) (λ _ e. refl) refl
 
 above : (b : ℕ) → within 48 10 b ≡ true → 48 ≤ b
@@ -58,7 +58,7 @@ plain-byte b s l = (rw (ne-eqb b 9 (λ e. omega arith)) refl, rw (ne-eqb b 36 (�
 
 -- ---- what is looked at ahead
 
-more-same : (f g : ℕ → ℕ → ℕ → Run) (m v n d : ℕ) → ((m v n : ℕ) → f m v n ≡ g m v n) → oneMore f m v n d ≡ oneMore g m v n d
+pub more-same : (f g : ℕ → ℕ → ℕ → Run) (m v n d : ℕ) → ((m v n : ℕ) → f m v n ≡ g m v n) → oneMore f m v n d ≡ oneMore g m v n d
 more-same f g zero v n d h = refl
 more-same f g (suc m) v n d h = h m (v * 10 + d) (suc n)
 

@@ -1,0 +1,3 @@
+pub mod Headers
+pub mod Numbers
+pub mod Files
