@@ -26,7 +26,7 @@ use Rattle.file_spec.specs.declared.Listed.the-variants as listed
 use Rattle.file_spec.specs.declared.FileTable.{FileTable}
 use Rattle.file_spec.specs.Texts.{gatheredFrom, textIn, markOf, listedIn}
 use Rattle.file_spec.specs.Figures.{figuresOf, ratio, abscissa-of, whole, agrees, exactness-of}
-use Rattle.file_spec.specs.File.{FileAnswer, refuse-file, accept-file, byFirst, byTable, byLast, byAbscissas, byList, byFigures, byRecords, byLabels, readFile}
+use Rattle.file_spec.specs.File.{FileAnswer, refuse-file, accept-file, byFirst, tableBy, lastBy, abscissasBy, listBy, figuresBy, recordsBy, labelsBy, readFileBy, readFile}
 
 -- a table of n points with these ordinates, each below 2^32 as y + 2^31, and room for them
 pub record Holds (space n : ℕ) (ys : List ℕ) : Type 0 where
@@ -64,41 +64,41 @@ module _ (s : List ℕ) (space : ℕ) where
       by-case (λ q. Good space (pick q (accept-file table ys) (refuse-file 29 (markOf s (t .firsty))))) (agrees (getD ys 0 0) (ratio 0 (n .firsty) (n .yfactor) .rounded))
       (λ _. table-holds f l (n .npoints) p space ys e) (λ _. tt)
 
-  good-table : (t : Needed) (n : Numbers) (start : ℕ) (f l : ℤ) → Good space (byTable s space t n start f l)
-  unfolding byTable
+  good-table : (t : Needed) (n : Numbers) (start : ℕ) (f l : ℤ) → Good space (tableBy readTable s space t n start f l)
+  unfolding tableBy
   good-table t n start f l =
       let body = drop start (textIn s (t .xydata)) in good-first t n f l (t .xydata .from + start) body (readTable f l (n .npoints) body space) refl
 
-  good-last : (t : Needed) (n : Numbers) (start : ℕ) (f : ℤ) (r : Rounded) → Good space (byLast s space t n start f r)
-  unfolding byLast
+  good-last : (t : Needed) (n : Numbers) (start : ℕ) (f : ℤ) (r : Rounded) → Good space (lastBy readTable s space t n start f r)
+  unfolding lastBy
   good-last t n start f Rounded.Beyond = tt
   good-last t n start f (Rounded.Whole minus q) = good-table t n start f (whole minus q)
 
-  good-abscissas : (t : Needed) (n : Numbers) (start : ℕ) (r : Rounded) → Good space (byAbscissas s space t n start r)
-  unfolding byAbscissas
+  good-abscissas : (t : Needed) (n : Numbers) (start : ℕ) (r : Rounded) → Good space (abscissasBy readTable s space t n start r)
+  unfolding abscissasBy
   good-abscissas t n start Rounded.Beyond = tt
   good-abscissas t n start (Rounded.Whole minus q) = good-last t n start (whole minus q) (abscissa-of (n .lastx) (n .xfactor) .rounded)
 
-  good-list : (t : Needed) (n : Numbers) (x : Listed) → Good space (byList s space t n x)
-  unfolding byList
+  good-list : (t : Needed) (n : Numbers) (x : Listed) → Good space (listBy readTable s space t n x)
+  unfolding listBy
   good-list t n listed.Unlisted = tt
   good-list t n (listed.Body start) = good-abscissas t n start (abscissa-of (n .firstx) (n .xfactor) .rounded)
 
-  good-figures : (t : Needed) (x : Figures) → Good space (byFigures s space t x)
-  unfolding byFigures
+  good-figures : (t : Needed) (x : Figures) → Good space (figuresBy readTable s space t x)
+  unfolding figuresBy
   good-figures t (figures.Wrong a) = tt
   good-figures t (figures.All n) = good-list t n (listedIn (textIn s (t .xydata)))
 
-  good-records : (stop : ℕ) (x : Gathered) → Good space (byRecords s space stop x)
-  unfolding byRecords
+  good-records : (stop : ℕ) (x : Gathered) → Good space (recordsBy readTable s space stop x)
+  unfolding recordsBy
   good-records stop gathered.Lacking = tt
   good-records stop (gathered.All t) = good-figures t (figuresOf s t)
 
-  good-labels : (x : Labelled) → Good space (byLabels s space x)
-  unfolding byLabels
+  good-labels : (x : Labelled) → Good space (labelsBy readTable s space x)
+  unfolding labelsBy
   good-labels (Labelled.Refused r) = tt
   good-labels (Labelled.Places m e x) = good-records x (gatheredFrom s (suc e) x)
 
   pub good-file : Good space (readFile s space)
-  unfolding readFile
+  unfolding readFileBy
   good-file = good-labels (labelled s)
