@@ -1,9 +1,16 @@
 -- `file_detab::detab_file` meets its contract: the body converted, where there is one, and the rest of the file kept.
 use mathlib.Core.Path.{sym, _∙_}
+use native.Mathlib.Omega.{arith}
+use lib.ListN.{length}
 use borrow.Author.Needs.{needs}
+use Rattle.file_texts.specs.Spans.{Within}
 use Rattle.file_detab.proofs.Bodies.{left-as-it-is, body-converted}
 use Rattle.file_detab.proofs.detab_file.Statement.{statement}
 use Rattle.file_detab.proofs.detab_file.Tie as tie
+
+-- the body that is found lies within the file
+abbrev within : (c : tie.After-known-told) → Within (length (c .before .before .before .before .before .before .args .file .now)) (c .before .b .given .0 .0)
+within c = rw (c .before .b .given .1) at (c .before .before .before .find-body .ensures .1)
 
 find-body-requires : tie.Need-find-body-requires
 find-body-requires c κs = search needs
@@ -15,13 +22,13 @@ enum-known-b : tie.Need-enum-known-b
 enum-known-b c = search needs
 
 sub-detab : tie.Need-sub-detab
-sub-detab c = (rw (c .before .b .given .1) at (c .before .before .before .find-body .ensures .1)) .low
+sub-detab c = let w = within c in omega (arith, w .low, w .high)
 
 part-detab-start : tie.Need-part-detab-start
-part-detab-start c = (rw (c .before .b .given .1) at (c .before .before .before .find-body .ensures .1)) .low
+part-detab-start c = let w = within c in omega (arith, w .low, w .high)
 
 part-detab-end : tie.Need-part-detab-end
-part-detab-end c = (rw (c .before .b .given .1) at (c .before .before .before .find-body .ensures .1)) .high
+part-detab-end c = let w = within c in omega (arith, w .low, w .high)
 
 detab-requires : tie.Need-detab-requires
 detab-requires c κs = search needs
