@@ -5,6 +5,7 @@ ghost use Rattle.host_text.specs.Answers.{TextTold, FormTold, FileTextTold, Tex
 ghost use Rattle.host_profile.specs.Answers.{ProfileTold};
 ghost use Rattle.host_night.specs.Told.{StepTold};
 ghost use Rattle.host.specs.Answers.{TableTold, FileTold, RecordTold};
+ghost use Rattle.host_detab.specs.Answers.{TableConverted, FileConverted};
 ghost use Rattle.host.specs.Blocks.{BlocksTold, BlockTold, BlockRecordTold};
 use compound_spec::BlockRead;
 use compound_spec::BlocksFound;
@@ -353,4 +354,20 @@ pub extern "C" fn lastarunc_next_report(
     ensures { λ r. ⌜ StepTold (now (spool .entry)) (now (out .entry)) (now (out .exit)) (now (progress .entry)) (now (progress .exit)) (now (answer .exit)) r ⌝ }
 {
     host_night::tell_next(spool, out, progress, answer)
+}
+
+// Converts the body of an old table in place (02, T-13): a space for each tab outside comments.
+#[no_mangle]
+pub extern "C" fn lastarunc_detab_table(body: &mut [u8])
+    ensures { λ _. ⌜ TableConverted (now (body .entry)) (now (body .exit)) ⌝ }
+{
+    detab::detab(body);
+}
+
+// Converts the body of an old file in place (02, T-13): 1 where it has one, and 0 where it has none and is left as it is.
+#[no_mangle]
+pub extern "C" fn lastarunc_detab_file(file: &mut [u8]) -> u64
+    ensures { λ r. ⌜ FileConverted (now (file .entry)) (now (file .exit)) r ⌝ }
+{
+    host_detab::convert_file(file)
 }

@@ -361,6 +361,29 @@ fn file_case(a: Asked) {
     show_file(answer, &out);
 }
 
+// A body from before tabs were refused (02, T-13): its bytes follow, and are converted before they are read.
+fn old_body_case(a: Asked) {
+    let mut body = [0u8; 4096];
+    take_bytes(&mut body, a.count);
+    detab::detab(&mut body);
+    let mut out = [FILL; READ];
+    let answer = read_table(a, &body, &mut out);
+    show_read(answer, &out);
+}
+
+// A file from before tabs were refused, likewise.
+fn old_file_case(a: Asked) {
+    let mut file = [0u8; 4096];
+    take_bytes(&mut file, a.count);
+    let count = a.count;
+    if count <= 4096 {
+        file_detab::detab_file(&mut file[0..count]);
+    }
+    let mut out = [FILL; READ];
+    let answer = read_file(a, &file, &mut out);
+    show_file(answer, &out);
+}
+
 // The next decimal of the input: a mantissa and an exponent.
 fn next_decimal() -> GivenDecimal {
     let mantissa = next_abscissa();
@@ -431,7 +454,7 @@ fn file_write_case(a: Asked) {
     show_file_written(a, answer, &ys, &text);
 }
 
-// The next case, and that there was one: 1 is a body, 3 a file; 2 is a table to write as DIFDUP, 4 as AFFN, 5 as PAC, 6 as SQZ; 7 is a file to write.
+// The next case, and that there was one: 1 is a body, 3 a file; 2 is a table to write as DIFDUP, 4 as AFFN, 5 as PAC, 6 as SQZ; 7 is a file to write; 8 is an old body, 9 an old file.
 fn next_case() -> bool {
     let kind = next_number();
     if kind == 0 {
@@ -445,6 +468,8 @@ fn next_case() -> bool {
         5 => write_case(Style::Pac, a),
         6 => write_case(Style::Sqz, a),
         7 => file_write_case(a),
+        8 => old_body_case(a),
+        9 => old_file_case(a),
         _ => file_case(a),
     }
     true
