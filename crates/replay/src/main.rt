@@ -371,14 +371,18 @@ fn old_body_case(a: Asked) {
     show_read(answer, &out);
 }
 
+// Converts the file in the first n bytes.
+fn convert_file(file: &mut [u8], n: usize) {
+    if n <= file.len() {
+        file_detab::detab_file(&mut file[0..n]);
+    }
+}
+
 // A file from before tabs were refused, likewise.
 fn old_file_case(a: Asked) {
     let mut file = [0u8; 4096];
     take_bytes(&mut file, a.count);
-    let count = a.count;
-    if count <= 4096 {
-        file_detab::detab_file(&mut file[0..count]);
-    }
+    convert_file(&mut file, a.count);
     let mut out = [FILL; READ];
     let answer = read_file(a, &file, &mut out);
     show_file(answer, &out);
