@@ -170,6 +170,7 @@ static void *filled_bytes(size_t n)
 /* The kinds of case, writes by form, as they are counted; and what -1 means in answer to one. */
 enum kind_of_case {
     BODIES,
+    PLAIN_BODIES,
     WRITES,
     NO_FORM = WRITES + 4,
     FILES,
@@ -189,6 +190,7 @@ static const struct {
     const char *name, *minus_one;
 } kinds[KINDS] = {
     [BODIES] = {"bodies", ""},
+    [PLAIN_BODIES] = {"bodies, by the plain engine", ""},
     [WRITES + LASTARUNC_DIFDUP] = {"writes in DIFDUP", ""},
     [WRITES + LASTARUNC_AFFN] = {"writes in AFFN", ""},
     [WRITES + LASTARUNC_PAC] = {"writes in PAC", ""},
@@ -317,46 +319,78 @@ static const char *text_differs(const uint8_t *out, size_t room, const uint8_t *
 
 /* ---- The kinds of case ---- */
 
-static void compare_body(void)
-{
-    int64_t first = take_i64(), last = take_i64();
-    uint64_t points = take_u64();
-    uint32_t room = take_u32(), length = take_u32();
-    uint8_t *body = take_bytes(length);
-    struct refusal right = take_refusal();
-    int64_t count = take_i64();
-    int32_t *expected = take_ordinates((size_t)count);
+/* A reader of tables. */
+typedef int64_t body_reader(int64_t first, int64_t last, size_t points, const uint8_t *body, size_t body_len,
+                            int32_t *out, size_t room, struct lastarunc_table *answer);
 
-    uint8_t *lent = copy_of(body, length);
-    int32_t *out = filled_ordinates(room);
+/* A body to be read into `room` ordinates, and the second reader's answer. */
+struct body_case {
+    int64_t first, last, count;
+    uint64_t points;
+    uint32_t room, length;
+    uint8_t *body;
+    struct refusal right;
+    int32_t *expected;
+};
+
+static struct body_case take_body_case(void)
+{
+    struct body_case c;
+    c.first = take_i64();
+    c.last = take_i64();
+    c.points = take_u64();
+    c.room = take_u32();
+    c.length = take_u32();
+    c.body = take_bytes(c.length);
+    c.right = take_refusal();
+    c.count = take_i64();
+    c.expected = take_ordinates((size_t)c.count);
+    return c;
+}
+
+static void compare_reader(enum kind_of_case kind, body_reader *reader, const struct body_case *c)
+{
+    uint8_t *lent = copy_of(c->body, c->length);
+    int32_t *out = filled_ordinates(c->room);
     struct lastarunc_table *answer = filled_bytes(sizeof *answer);
-    int64_t returned = read_table(first, last, points, lent, length, out, room, answer);
+    int64_t returned = reader(c->first, c->last, c->points, lent, c->length, out, c->room, answer);
     struct refusal here = {answer->refused, answer->place, answer->line, answer->column};
 
-    const char *difference = refusal_differs(returned, here, right);
-    if (!difference && answer->points != count)
+    const char *difference = refusal_differs(returned, here, c->right);
+    if (!difference && answer->points != c->count)
         difference = "count";
     if (!difference && guard_altered(answer, sizeof *answer))
         difference = "what stands behind the answer is altered";
-    if (!difference && memcmp(lent, body, length))
+    if (!difference && memcmp(lent, c->body, c->length))
         difference = "the body is altered";
     if (!difference)
-        difference = ordinates_differ(out, room, expected, (size_t)count);
-    if (counted(BODIES, right.number, difference)) {
-        printf("    F %" PRId64 ", L %" PRId64 ", N %" PRIu64 ", room %" PRIu32 "\n", first, last, points, room);
-        show_bytes("body", body, length);
-        show_refusal("second", right);
-        printf(", %" PRId64 " points\n", count);
+        difference = ordinates_differ(out, c->room, c->expected, (size_t)c->count);
+    if (counted(kind, c->right.number, difference)) {
+        printf("    F %" PRId64 ", L %" PRId64 ", N %" PRIu64 ", room %" PRIu32 "\n", c->first, c->last, c->points,
+               c->room);
+        show_bytes("body", c->body, c->length);
+        show_refusal("second", c->right);
+        printf(", %" PRId64 " points\n", c->count);
         show_refusal("here", here);
         printf(", %" PRId64 " points, returned %" PRId64 "\n", answer->points, returned);
-        show_ordinates("second's ordinates", expected, (size_t)count);
-        show_ordinates("the lent ordinates now", out, room);
+        show_ordinates("second's ordinates", c->expected, (size_t)c->count);
+        show_ordinates("the lent ordinates now", out, c->room);
     }
     free(lent);
     free(out);
     free(answer);
-    free(body);
-    free(expected);
+}
+
+/* A body, read by both engines. */
+static void compare_body(void)
+{
+    struct body_case c = take_body_case();
+    compare_reader(BODIES, read_table, &c);
+#ifndef COMPARE_C
+    compare_reader(PLAIN_BODIES, lastarunc_read_plain, &c);
+#endif
+    free(c.body);
+    free(c.expected);
 }
 
 /* A digest with a number mixed in (FNV-1a, a number at a time). */

@@ -174,6 +174,14 @@ int64_t lastarunc_write_table(int64_t first, int64_t last, size_t points, const 
                               uint8_t *text, size_t room, struct lastarunc_text *answer);
 
 /*
+ * The same as lastarunc_read_table, to the last lent entry, by the plain engine: it expands each line to a row of actual
+ * ordinates, then makes the checks row by row, then lays the rows one after another. It is there to be read; the other
+ * is faster.
+ */
+int64_t lastarunc_read_plain(int64_t first, int64_t last, size_t points, const uint8_t *body, size_t body_len,
+                             int32_t *out, size_t out_len, struct lastarunc_table *answer);
+
+/*
  * Writes a table body as lastarunc_write_table does, in the form with this number (enum lastarunc_form). In AFFN, PAC
  * and SQZ each value is written in full, as many on a line as fit: AFFN has a space before every value, PAC before
  * those that are not negative and not missing, SQZ has none. Each form's text is read by lastarunc_read_table.
