@@ -111,7 +111,7 @@ unfolding push
 push-add vs (refused c a) k = refl
 push-add vs (went us i p w) k = push-push vs us (k i p w)
 
-resume-pick : (t : Bool) (x y : Done) (k : ℕ → ℕ → Spot → Answer) → resume (pick t x y) k ≡ pick t (resume x k) (resume y k)
+pub resume-pick : (t : Bool) (x y : Done) (k : ℕ → ℕ → Spot → Answer) → resume (pick t x y) k ≡ pick t (resume x k) (resume y k)
 resume-pick true x y k = refl
 resume-pick false x y k = refl
 
@@ -124,7 +124,7 @@ module _ (R : Rules) (y : Tokens) where
       let d = g (i + length vs) (lastOr p vs) r in
       rw (resume-pick (leb (i + length vs) (R .points)) (add vs d) (refused 11 a) (judge R y), ← push-add vs d (judge R y), h (i + length vs) (lastOr p vs) r) refl
 
-  goes-on : (x : Tokens) → HeadsClosed x → (i p : ℕ) (w : Spot) → judge R (and-then x y) i p w ≡ resume (does R x i p w) (judge R y)
+  pub goes-on : (x : Tokens) → HeadsClosed x → (i p : ℕ) (w : Spot) → judge R (and-then x y) i p w ≡ resume (does R x i p w) (judge R y)
   unfolding judge checked does
   goes-on (over a) l i p w = push-none (judge R y i p w)
   goes-on (fault c a) l i p w = refl

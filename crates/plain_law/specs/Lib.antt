@@ -1,0 +1,4 @@
+pub mod Along
+pub mod Single
+pub mod Lines
+pub mod Agree
