@@ -39,7 +39,7 @@ pub enum Checked {
 }
 
 // The index that a head belongs to: the last point given on a check line, else the next (01, "Checks").
-fn index_of(dif: bool, k: usize) -> usize
+pub fn index_of(dif: bool, k: usize) -> usize
     ensures { λ r. ⌜ r ≡ index dif k ⌝ }
 {
     if !dif {
@@ -86,7 +86,7 @@ fn read_line(s: &[u8], fr: Frame, out: &mut [i32], r: Row, at: usize, e: u64) ->
 }
 
 // The end of the body: 12, 13, or all is there.
-fn finish(points: usize, len: usize, k: usize, dif: bool) -> Passed
+pub fn finish(points: usize, len: usize, k: usize, dif: bool) -> Passed
     ensures { λ v. ⌜ v ≡ finished points len k dif ⌝ }
 {
     if k < points {
@@ -143,7 +143,7 @@ fn check_lines(body: &[u8], fr: Frame) -> Checked
 }
 
 // 16, where a long line begins at what was found otherwise or before it (02, T-06).
-fn sooner(long: LongLine, found: Checked) -> Checked
+pub fn sooner(long: LongLine, found: Checked) -> Checked
     ensures { λ r. ⌜ r ≡ soonerOf long found ⌝ }
 {
     match long {
