@@ -111,7 +111,8 @@ no-says e = no-way (ap tells e)
 pub first-one : (v : Value) (vs : List ℕ) (g : Form) → says (after (Dup false)) 0 v ≡ adds vs g → says (first false) 0 v ≡ adds (lastOr 0 vs ∷ []) g
 unfolding says
 first-one (own m x) vs g e =
-    says-first (own m x) ∙ by-case (λ t. pick t (adds (ordinate m x ∷ []) Own) (refuses 9) ≡ adds vs g → pick t (adds (ordinate m x ∷ []) Own) (refuses 9) ≡ adds (lastOr 0 vs ∷ []) g) (leb x 2147483647)
+    says-first (own m x)
+    ∙ by-case (λ t. pick t (adds (ordinate m x ∷ []) Own) (refuses 9) ≡ adds vs g → pick t (adds (ordinate m x ∷ []) Own) (refuses 9) ≡ adds (lastOr 0 vs ∷ []) g) (leb x 2147483647)
     (λ _ z. z ∙ ap (λ (l : List ℕ). adds l g) (rw (← ap listed z) refl)) (λ _ z. absurd (no-says z)) e
 first-one gap vs g e = e ∙ ap (λ (l : List ℕ). adds l g) (rw (← ap listed e) refl)
 first-one (by m d) vs g e = absurd (no-says e)

@@ -114,7 +114,8 @@ module _ (R : Rules) where
         row-says a h u (value b v r) o i p w l
         ∙ rw (d, e, goes-held (values r (after g) x) i p (beyond-line r) l)
         (by-case (λ t. pick (R .passing h u (i - 1)) (met (pick t fine (wrong 10 b)) (after-row (beyond-line r) (hold (values r (after g) x) (R .points - i)) i p)) (refuse 6 a)
-        ≡ pick (R .passing h u (i - 1)) (pick t (after-row (beyond-line r) (hold (values r (after g) x) (R .points - i)) i p) (refuse 10 b)) (refuse 6 a)) (both (ltb 0 x) (eqb x p)) (λ _. refl) (λ _. refl))
+        ≡ pick (R .passing h u (i - 1)) (pick t (after-row (beyond-line r) (hold (values r (after g) x) (R .points - i)) i p) (refuse 10 b)) (refuse 6 a))
+        (both (ltb 0 x) (eqb x p)) (λ _. refl) (λ _. refl))
 
     -- another line's first value: 11; else it is a point, and the others are held to what is then missing
     pub row-opened : (b x : ℕ) (g : Form) (v : Value) (r : Tokens) → Within r → says (first false) 0 v ≡ adds (x ∷ []) g → difBefore w ≡ false

@@ -105,7 +105,8 @@ module _ (fr : Frame) (s : List ℕ) (r : Row) (at : ℕ) {h u j : ℕ} (t : Top
         → further k (p₀ .last) ≡ push (ordinates (rest-of (fr .points) s (start k))) (judge (frame-rules fr) (seen s i fresh) (c .k) (c .q) (spot-of (isDif (form-of (c .form)))))
     further-done k i c d = rw (d .fine, ← d .count, d .last, d .form, d .beyond) refl
 
-    between : (i : ℕ) (c : Grows) → (isDif (form-of (c .form)) ≡ true → 0 < c .q) → Between (record { at = i; k = c .k; q = c .q; dif = isDif (form-of (c .form)) }) (c .q) (spot-of (isDif (form-of (c .form))))
+    between : (i : ℕ) (c : Grows) → (isDif (form-of (c .form)) ≡ true → 0 < c .q)
+        → Between (record { at = i; k = c .k; q = c .q; dif = isDif (form-of (c .form)) }) (c .q) (spot-of (isDif (form-of (c .form))))
     between i c o = record { form = dif-spot (isDif (form-of (c .form))); last = λ e. (refl, o e) }
 
     -- ---- a check line
@@ -180,7 +181,8 @@ module _ (fr : Frame) (s : List ℕ) (r : Row) (at : ℕ) {h u j : ℕ} (t : Top
               count = omega arith;
               stored = v .laid ∙ rw (q, add-one (r .k)) refl;
               law = told _ p w y (more-says l p w y)
-                  ∙ rw e (ap (push (p₀ .last ∷ [])) (further-done (r .k + 1) i c v) ∙ push-push (p₀ .last ∷ []) us (judge (frame-rules fr) (seen s i fresh) (c .k) (c .q) (spot-of (isDif (form-of (c .form))))));
+                  ∙ rw e (ap (push (p₀ .last ∷ [])) (further-done (r .k + 1) i c v)
+                  ∙ push-push (p₀ .last ∷ []) us (judge (frame-rules fr) (seen s i fresh) (c .k) (c .q) (spot-of (isDif (form-of (c .form))))));
             },
           ))
           (λ _ e p w y. told _ p w y (more-says l p w y) ∙ rw e refl) refl)

@@ -26,7 +26,9 @@ same-length : tie.Need-same-length Inv-loop μ-loop
 same-length c = search needs
 
 returns : tie.Need-returns Inv-loop μ-loop
-returns c = record { says = grow-end _ _ _ _ _ _ (c .before .before .before .before .loop .inv) _ (rw (c .before .j .given .1) at (c .before .before .before .next-value .ensures)) }
+returns c =
+    let next = c .before .before .before in
+    record { says = grow-end _ _ _ _ _ _ (next .before .loop .inv) _ (rw (c .before .j .given .1) at (next .next-value .ensures)) }
 
 enum-known-n : tie.Need-enum-known-n Inv-loop μ-loop
 enum-known-n c = search needs
@@ -35,15 +37,17 @@ same-length-2 : tie.Need-same-length-2 Inv-loop μ-loop
 same-length-2 c = search needs
 
 returns-2 : tie.Need-returns-2 Inv-loop μ-loop
-returns-2 c = record { says = grow-bad _ _ _ _ _ _ (c .before .before .before .before .loop .inv) _ _ (rw (c .before .n .given .1) at (c .before .before .before .next-value .ensures)) }
+returns-2 c =
+    let next = c .before .before .before in
+    record { says = grow-bad _ _ _ _ _ _ (next .before .loop .inv) _ _ (rw (c .before .n .given .1) at (next .next-value .ensures)) }
 
 enum-known-p : tie.Need-enum-known-p Inv-loop μ-loop
 enum-known-p c = search needs
 
 add-end : tie.Need-add-end Inv-loop μ-loop
 add-end c =
-    let h = rw (c .before .p .given .1) at (c .before .before .before .next-value .ensures) in let a = h .2 .few in let b = c .before .before .before .before .loop .inv .stands .few in
-    let d = c .before .before .before .before .before .before .pre .0 in
+    let next = c .before .before .before in let turn = next .before in let h = rw (c .before .p .given .1) at (next .next-value .ensures) in
+    let a = h .2 .few in let b = turn .loop .inv .stands .few in let d = turn .before .before .pre .0 in
     omega arith
 
 same-length-3 : tie.Need-same-length-3 Inv-loop μ-loop
@@ -51,24 +55,24 @@ same-length-3 c = search needs
 
 returns-3 : tie.Need-returns-3 Inv-loop μ-loop
 returns-3 c =
-    let h = rw (c .before .before .p .given .1) at (c .before .before .before .before .next-value .ensures) in
-    record { says = grow-over _ _ _ _ _ _ (c .before .before .before .before .before .loop .inv) _ _ _ h (c .if1 .taken) }
+    let value = c .before .before in let next = value .before .before in
+    record { says = grow-over _ _ _ _ _ _ (next .before .loop .inv) _ _ _ (rw (value .p .given .1) at (next .next-value .ensures)) (c .if1 .taken) }
 
 repeat-requires : tie.Need-repeat-requires Inv-loop μ-loop
 repeat-requires c κs =
-    let h = rw (c .before .before .before .p .given .1) at (c .before .before .before .before .before .next-value .ensures) in let l = c .before .if1 .left in
-    let d = c .before .before .before .before .before .before .before .before .pre .0 in
+    let value = c .before .before .before in let next = value .before .before in let h = rw (value .p .given .1) at (next .next-value .ensures) in
+    let l = c .before .if1 .left in let d = next .before .before .before .pre .0 in
     (omega arith, h .2 .small, h .2 .reach)
 
 loop-less : tie.Need-loop-less Inv-loop μ-loop
 loop-less c =
-    let h = rw (c .before .before .before .before .before .p .given .1) at (c .before .before .before .before .before .before .before .next-value .ensures) in let l = h .0 in let j = h .1 in
+    let value = c .before .before .before .before .before in let h = rw (value .p .given .1) at (value .before .before .next-value .ensures) in let l = h .0 in let j = h .1 in
     omega arith
 
 loop-again : tie.Need-loop-again Inv-loop μ-loop
 loop-again c =
-    let h = rw (c .before .before .before .before .before .p .given .1) at (c .before .before .before .before .before .before .before .next-value .ensures) in
-    grow-on _ _ _ _ _ _ (c .before .before .before .before .before .before .before .before .loop .inv) _ _ _ h _ (c .before .before .before .if1 .left) (search needs) (c .before .repeat .ensures)
+    let laid = c .before in let test = laid .before .before in let value = test .before .before in let next = value .before .before in
+    grow-on _ _ _ _ _ _ (next .before .loop .inv) _ _ _ (rw (value .p .given .1) at (next .next-value .ensures)) _ (test .if1 .left) (search needs) (laid .repeat .ensures)
 
 pub expand-spec : {M : Type 1} → statement M
 expand-spec =

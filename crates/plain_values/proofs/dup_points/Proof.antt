@@ -40,12 +40,14 @@ enum-told-3 c = search needs
 returns-2 : tie.Need-returns-2
 returns-2 c =
     let a = c .before .before .before .before .args in let p = c .before .before .before .before .pre in let l = c .before .before .before .if1 .left in let h = p .2 in
-    rw (c .same-points .ensures, c .before .enum-told .given .1) (down (λ (i : ℕ). Means (a .q) Own (times i) (same-again (a .q) (a .v - 1))) (a .v) l (dup-own (a .q) (a .v - 1) (p .0) (omega arith) (omega arith)))
+    rw (c .same-points .ensures, c .before .enum-told .given .1)
+    (down (λ (i : ℕ). Means (a .q) Own (times i) (same-again (a .q) (a .v - 1))) (a .v) l (dup-own (a .q) (a .v - 1) (p .0) (omega arith) (omega arith)))
 
 returns-3 : tie.Need-returns-3
 returns-3 c =
     let a = c .before .before .before .before .args in let p = c .before .before .before .before .pre in let l = c .before .before .before .if1 .left in let h = p .2 in
-    rw (c .same-points2 .ensures, c .before .enum-told2 .given .1) (down (λ (i : ℕ). Means (a .q) Gap (times i) (same-again (a .q) (a .v - 1))) (a .v) l (dup-gap (a .q) (a .v - 1) (p .0) (omega arith) (omega arith)))
+    rw (c .same-points2 .ensures, c .before .enum-told2 .given .1)
+    (down (λ (i : ℕ). Means (a .q) Gap (times i) (same-again (a .q) (a .v - 1))) (a .v) l (dup-gap (a .q) (a .v - 1) (p .0) (omega arith) (omega arith)))
 
 returns-4 : tie.Need-returns-4
 returns-4 c =
