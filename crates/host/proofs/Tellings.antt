@@ -7,6 +7,7 @@ use lib.ListN.{length}
 use Rattle.terms.specs.Logic.{zero-one}
 use Rattle.terms.specs.Refusals.{refusalIn}
 use Rattle.terms.specs.declared.Refusal.{Refusal}
+use Rattle.terms.specs.declared.TableRead.{TableRead}
 use Rattle.terms.specs.declared.TableRead.the-variants as tables
 use Rattle.table_spec.specs.Reading.{Answer, refuse, accept, readTable}
 use Rattle.table_read.specs.Answers.{told, TableSays}
@@ -18,29 +19,25 @@ use Rattle.file_spec.specs.declared.FileTable.{FileTable}
 use Rattle.file_spec.specs.declared.FileRead.the-variants as files
 use Rattle.file.specs.Answers.{FileSays}
 use Rattle.host_numbers.specs.Numbers.{refusedOf, flag, flags, no-flags, bits}
-use Rattle.host.specs.Answers.{tableAnswer, TableTold, fileAnswer, FileTold, recordAnswer, RecordTold}
+use Rattle.host.specs.Answers.{tableAnswer, tableNumbers, TableTells, TableTold, fileAnswer, FileTold, recordAnswer, RecordTold}
 
 -- ---- a table read
 
-table-accepted : (n : ℕ) (s : List ℕ) (x : Answer) {m : ℕ} → tables.Accepted m ≡ told n s x → 0 ∷ 0 ∷ 0 ∷ 0 ∷ m ∷ [] ≡ tableAnswer n s x
-table-accepted n s (refuse c a) e = zero-one cc
-table-accepted n s (accept ys) e = cc
+told-numbers : (n : ℕ) (s : List ℕ) (x : Answer) → tableNumbers (told n s x) ≡ tableAnswer n s x
+told-numbers n s (refuse c a) = refl
+told-numbers n s (accept ys) = refl
 
-table-refused : (n : ℕ) (s : List ℕ) (x : Answer) {r : Refusal} → tables.Refused r ≡ told n s x → r .number ∷ r .place ∷ r .line ∷ r .column ∷ 0 ∷ [] ≡ tableAnswer n s x
-table-refused n s (refuse c a) {r} e = let z : r ≡ refusalIn s c a = cc in rw z refl
-table-refused n s (accept ys) e = zero-one cc
+pub told-table : {f l : ℤ} {n : ℕ} {body : List ℕ} {out out' : List ℤ} {x : TableRead} {answer : List ℕ} {r : ℕ} → TableSays f l n body out out' x → TableTells x answer r
+    → TableTold f l n body out out' answer r
+told-table {f} {l} {n} {body} {out} g t =
+    let z = ap tableNumbers (g .answers) ∙ told-numbers n body (readTable f l n body (length out)) in
+    record { numbers = t .numbers ∙ z; returned = t .returned ∙ ap refusedOf z; leaves = g .leaves }
 
-module _ {f l : ℤ} {n : ℕ} {body : List ℕ} {out out' : List ℤ} where
-  pub told-accepted : {m : ℕ} → TableSays f l n body out out' (tables.Accepted m) → TableTold f l n body out out' (0 ∷ 0 ∷ 0 ∷ 0 ∷ m ∷ []) 0
-  told-accepted g =
-      let z = table-accepted n body (readTable f l n body (length out)) (g .answers) in
-      record { numbers = z; returned = ap refusedOf z; leaves = g .leaves }
+pub tells-points : {x : TableRead} {n : ℕ} → x ≡ tables.Accepted n → TableTells x (0 ∷ 0 ∷ 0 ∷ 0 ∷ n ∷ []) 0
+tells-points e = rw e (record { numbers = refl; returned = refl })
 
-  pub told-refused : {r : Refusal} → TableSays f l n body out out' (tables.Refused r)
-      → TableTold f l n body out out' (r .number ∷ r .place ∷ r .line ∷ r .column ∷ 0 ∷ []) (r .number)
-  told-refused g =
-      let z = table-refused n body (readTable f l n body (length out)) (g .answers) in
-      record { numbers = z; returned = ap refusedOf z; leaves = g .leaves }
+pub tells-fault : {x : TableRead} {r : Refusal} → x ≡ tables.Refused r → TableTells x (r .number ∷ r .place ∷ r .line ∷ r .column ∷ 0 ∷ []) (r .number)
+tells-fault e = rw e (record { numbers = refl; returned = refl })
 
 -- ---- a file read
 

@@ -5,6 +5,8 @@ use Prim.Native.Nat.{ℕ, _-_}
 use lib.IntN.{ℤ}
 use lib.ListN.{length}
 use Rattle.terms.specs.Places.{lineOf, columnOf}
+use Rattle.terms.specs.declared.TableRead.{TableRead}
+use Rattle.terms.specs.declared.TableRead.the-variants as tables
 use Rattle.table_spec.specs.Reading.{Answer, refuse, accept, readTable, stored}
 use Rattle.label_spec.specs.Records.{recordFor}
 use Rattle.label_spec.specs.Names.{norm}
@@ -16,6 +18,15 @@ use Rattle.host_numbers.specs.Numbers.{refusedOf, flags, no-flags, bits}
 abbrev pub tableAnswer : ℕ → List ℕ → Answer → List ℕ
 tableAnswer n s (refuse c a) = c ∷ a ∷ lineOf s a ∷ columnOf s a ∷ 0 ∷ []
 tableAnswer n s (accept ys) = 0 ∷ 0 ∷ 0 ∷ 0 ∷ n ∷ []
+
+-- the numbers of what a reader of tables answered
+abbrev pub tableNumbers : TableRead → List ℕ
+tableNumbers (tables.Accepted n) = 0 ∷ 0 ∷ 0 ∷ 0 ∷ n ∷ []
+tableNumbers (tables.Refused r) = r .number ∷ r .place ∷ r .line ∷ r .column ∷ 0 ∷ []
+
+pub record TableTells (x : TableRead) (answer : List ℕ) (r : ℕ) : Type 0 where
+  pub numbers : answer ≡ tableNumbers x
+  pub returned : r ≡ refusedOf (tableNumbers x)
 
 pub record TableTold (f l : ℤ) (n : ℕ) (body : List ℕ) (out out' : List ℤ) (answer : List ℕ) (r : ℕ) : Type 0 where
   pub numbers : answer ≡ tableAnswer n body (readTable f l n body (length out))

@@ -4,7 +4,7 @@ ghost use Rattle.table_spec.specs.declared.Style.the-variants.{Difdup};
 ghost use Rattle.host_text.specs.Answers.{TextTold, FormTold, FileTextTold, TextLengthTold, FileLengthTold};
 ghost use Rattle.host_profile.specs.Answers.{ProfileTold};
 ghost use Rattle.host_night.specs.Told.{StepTold};
-ghost use Rattle.host.specs.Answers.{TableTold, FileTold, RecordTold};
+ghost use Rattle.host.specs.Answers.{TableTells, TableTold, FileTold, RecordTold};
 ghost use Rattle.host_detab.specs.Answers.{TableConverted, FileConverted};
 ghost use Rattle.host.specs.Blocks.{BlocksTold, BlockTold, BlockRecordTold};
 use compound_spec::BlockRead;
@@ -26,6 +26,22 @@ use terms::TableRead;
 // What is answered for a record that is absent, -1 for C (LASTARUNC_ABSENT in the header): no refusal has this number.
 const ABSENT: u64 = 18446744073709551615;
 
+// Tells what a reader of tables answered: refused, place, line, column, points.
+fn tell_table(read: TableRead, answer: &mut [u64; 5]) -> u64
+    ensures { λ r. ⌜ TableTells read (now (answer .exit)) r ⌝ }
+{
+    match read {
+        TableRead::Accepted(n) => {
+            *answer = [0, 0, 0, 0, n as u64];
+            0
+        }
+        TableRead::Refused(r) => {
+            *answer = [r.number, r.place as u64, r.line as u64, r.column as u64, 0];
+            r.number
+        }
+    }
+}
+
 // Reads a table: refused, place, line, column, points.
 #[no_mangle]
 pub extern "C" fn lastarunc_read_table(
@@ -38,16 +54,24 @@ pub extern "C" fn lastarunc_read_table(
 ) -> u64
     ensures { λ r. ⌜ TableTold first last points (now (body .entry)) (now (out .entry)) (now (out .exit)) (now (answer .exit)) r ⌝ }
 {
-    match table_read::read_table(first, last, points, body, out) {
-        TableRead::Accepted(n) => {
-            *answer = [0, 0, 0, 0, n as u64];
-            0
-        }
-        TableRead::Refused(r) => {
-            *answer = [r.number, r.place as u64, r.line as u64, r.column as u64, 0];
-            r.number
-        }
-    }
+    let read = table_read::read_table(first, last, points, body, out);
+    tell_table(read, answer)
+}
+
+// The same by the plain engine (02, T-14).
+#[no_mangle]
+pub extern "C" fn lastarunc_read_plain(
+    first: i64,
+    last: i64,
+    points: usize,
+    body: &[u8],
+    out: &mut [i32],
+    answer: &mut [u64; 5],
+) -> u64
+    ensures { λ r. ⌜ TableTold first last points (now (body .entry)) (now (out .entry)) (now (out .exit)) (now (answer .exit)) r ⌝ }
+{
+    let read = plain_read::read_plain(first, last, points, body, out);
+    tell_table(read, answer)
 }
 
 // Writes a table in a form: refused, length, and three zeros where a file has what is exact.
