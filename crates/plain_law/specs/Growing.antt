@@ -1,12 +1,12 @@
 -- A row held to the points that are still missing, and how it grows, value by value: what code keeps of a row. Assumes nothing.
 use mathlib.Core.Path.{_≡_, refl, sym, ap, _∙_}
-use mathlib.Core.Bool.{Bool, true, false}
+use mathlib.Core.Bool.{false}
 use mathlib.Core.List.{List, [], _∷_, _++_, append-assoc}
 use Prim.Native.Nat.{ℕ, zero, suc, _+_, _-_, _≤_, _<_}
 use native.Mathlib.Omega.{arith}
 use lib.Dec.{ltb, leb}
 use lib.ListN.{length}
-use Rattle.terms.specs.Logic.{pick, by-case, no-way}
+use Rattle.terms.specs.Logic.{pick, by-case, zero-one}
 use Rattle.table_spec.specs.Values.{Value, own, gap, by, times, Form, Own, Dup, isDif, ordinate, first, after, lastOr}
 use Rattle.table_spec.specs.Reading.{Tokens, over, fault, head, value, line, Says, adds, refuses, says, again}
 use Rattle.plain_spec.specs.Rows.{Row, point, done, bad, points, given, values}
@@ -100,20 +100,13 @@ abbrev listed : Says → List ℕ
 listed (adds vs g) = vs
 listed (refuses c) = []
 
-no-says : {c : ℕ} {vs : List ℕ} {g : Form} → refuses c ≡ adds vs g → ⊥
-no-says e = no-way (ap tells e)
-  where
-    tells : Says → Bool
-    tells (refuses c) = false
-    tells (adds vs g) = true
-
 -- the first value stands for one ordinate
 pub first-one : (v : Value) (vs : List ℕ) (g : Form) → says (after (Dup false)) 0 v ≡ adds vs g → says (first false) 0 v ≡ adds (lastOr 0 vs ∷ []) g
 unfolding says
 first-one (own m x) vs g e =
     says-first (own m x)
     ∙ by-case (λ t. pick t (adds (ordinate m x ∷ []) Own) (refuses 9) ≡ adds vs g → pick t (adds (ordinate m x ∷ []) Own) (refuses 9) ≡ adds (lastOr 0 vs ∷ []) g) (leb x 2147483647)
-    (λ _ z. z ∙ ap (λ (l : List ℕ). adds l g) (rw (← ap listed z) refl)) (λ _ z. absurd (no-says z)) e
+    (λ _ z. z ∙ ap (λ (l : List ℕ). adds l g) (rw (← ap listed z) refl)) (λ _ z. zero-one cc) e
 first-one gap vs g e = e ∙ ap (λ (l : List ℕ). adds l g) (rw (← ap listed e) refl)
-first-one (by m d) vs g e = absurd (no-says e)
-first-one (times n) vs g e = absurd (no-says (says-first (times n) ∙ e))
+first-one (by m d) vs g e = zero-one cc
+first-one (times n) vs g e = let z = says-first (times n) ∙ e in zero-one cc

@@ -30,7 +30,7 @@ abbrev pub spot-of : Bool → Spot
 spot-of true = after (Dup true)
 spot-of false = after Own
 
-spot-dif : (d : Bool) → difBefore (spot-of d) ≡ d
+pub spot-dif : (d : Bool) → difBefore (spot-of d) ≡ d
 spot-dif true = refl
 spot-dif false = refl
 

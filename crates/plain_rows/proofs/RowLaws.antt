@@ -13,7 +13,7 @@ use Rattle.terms.specs.Logic.{pick, both, by-case, no-way}
 use Rattle.alphabet_spec.specs.Kinds.{tabs-too}
 use Rattle.table_spec.specs.Frame.{passes, entry-for}
 use Rattle.table_spec.specs.Values.{Form, Dup, isDif, Spot, first, index}
-use Rattle.table_spec.specs.Reading.{head, fresh, says, adds, Answer, refuse, push, difBefore, judge}
+use Rattle.table_spec.specs.Reading.{head, fresh, says, adds, Answer, refuse, push, judge}
 use Rattle.table_lines.specs.Seen.{seen, behind, here}
 use Rattle.table_lines.specs.Heads.{Topped}
 use Rattle.table_spec.specs.ReadingLaws.{push-push}
@@ -22,7 +22,7 @@ use Rattle.table_read.specs.Rows.{frame-rules, Between, LineSays}
 use Rattle.table_values.specs.declared.Row.{Row}
 use Rattle.plain_spec.specs.Plain.{ordinates}
 use Rattle.plain_law.specs.Within.{Within, tokens-within}
-use Rattle.plain_law.specs.Rowwise.{spot-of, after-row, beyond-line, row-says, Headed, row-bare, row-checked, row-opened}
+use Rattle.plain_law.specs.Rowwise.{spot-of, spot-dif, after-row, beyond-line, row-says, Headed, row-bare, row-checked, row-opened}
 use Rattle.plain_law.specs.Growing.{values-first, first-one}
 use Rattle.plain_values.specs.Means.{form-of, Right, points-of}
 use Rattle.plain_rows.specs.Rows.{NextSays, rest-of, Done, ExpandSays, Expands, after-head, after-rest}
@@ -41,10 +41,6 @@ here-within s b = tokens-within tabs-too (drop b s) 0 b (behind s b)
 both-not : (t : Bool) → both t false ≡ false
 both-not true = refl
 both-not false = refl
-
-dif-spot : (d : Bool) → difBefore (spot-of d) ≡ d
-dif-spot true = refl
-dif-spot false = refl
 
 -- in DIF form the last ordinate is not missing
 dif-some : (f : Kept) {q : ℕ} → Right f q → isDif (form-of f) ≡ true → 0 < q
@@ -107,7 +103,7 @@ module _ (fr : Frame) (s : List ℕ) (r : Row) (at : ℕ) {h u j : ℕ} (t : Top
 
     between : (i : ℕ) (c : Grows) → (isDif (form-of (c .form)) ≡ true → 0 < c .q)
         → Between (record { at = i; k = c .k; q = c .q; dif = isDif (form-of (c .form)) }) (c .q) (spot-of (isDif (form-of (c .form))))
-    between i c o = record { form = dif-spot (isDif (form-of (c .form))); last = λ e. (refl, o e) }
+    between i c o = record { form = spot-dif (isDif (form-of (c .form))); last = λ e. (refl, o e) }
 
     -- ---- a check line
 
