@@ -24,6 +24,15 @@ static uint64_t read_library(int64_t first, int64_t last, size_t points, const u
     return (uint64_t)refused;
 }
 
+static uint64_t read_plain(int64_t first, int64_t last, size_t points, const uint8_t *body, size_t body_len,
+                           int32_t *out, size_t out_len, uint64_t *place)
+{
+    struct lastarunc_table answer;
+    int64_t refused = lastarunc_read_plain(first, last, points, body, body_len, out, out_len, &answer);
+    *place = (uint64_t)(refused ? answer.place : answer.points);
+    return (uint64_t)refused;
+}
+
 static uint64_t write_library(uint64_t form, int64_t first, int64_t last, size_t points, const int32_t *ordinates,
                               size_t n, uint8_t *text, size_t room, uint64_t *length)
 {
@@ -40,6 +49,7 @@ static const struct {
     table_reader *function;
 } readers[] = {
     {"read-library", read_library},
+    {"read-plain", read_plain},
     {"read-two", c_read_table},
     {"read-decode", c_read_table_then_decode},
     {"read-one", c_read_table_scratch},

@@ -42,6 +42,13 @@ samples =
     says-plainly (48 ∷ 65 ∷ 48 ∷ 74 ∷ 10 ∷ padded 46 81 []) (refuse 16 5) ∷
     -- `0AJU/3D/`: the DUP of a DIF repeats the difference: 1 2 3 4
     says-plainly (48 ∷ 65 ∷ 74 ∷ 85 ∷ 10 ∷ 51 ∷ 68 ∷ 10 ∷ []) (accept (2147483649 ∷ 2147483650 ∷ 2147483651 ∷ 2147483652 ∷ [])) ∷
+    -- docs/ENGINE.md, `0A0J5%/2B5kT?C/7A/`: 10 25 25 in DIF form; 25 23 21 ? 3; 1
+    gives (48 ∷ 65 ∷ 48 ∷ 74 ∷ 53 ∷ 37 ∷ 10 ∷ 50 ∷ 66 ∷ 53 ∷ 107 ∷ 84 ∷ 63 ∷ 67 ∷ 10 ∷ 55 ∷ 65 ∷ 10 ∷ [])
+    (row 0 10000000000 1000 (point 1 2147483658 (point 3 2147483673 (point 5 2147483673 (done true)))) ∷
+    row 7 10000002000 1000 (point 8 2147483673 (point 10 2147483671 (point 11 2147483669 (point 12 0 (point 13 2147483651 (done false)))))) ∷
+    row 15 10000007000 1000 (point 16 2147483649 (done false)) ∷ []) ∷
+    -- and its damaged line `0A0J4%`: 10 24 24
+    gives (48 ∷ 65 ∷ 48 ∷ 74 ∷ 52 ∷ 37 ∷ 10 ∷ []) (row 0 10000000000 1000 (point 1 2147483658 (point 3 2147483672 (point 5 2147483672 (done true)))) ∷ []) ∷
     []
 
 abbrev pub Holds : Sample → Type 0
@@ -55,4 +62,4 @@ AllHold (x ∷ xs) = Holds x × AllHold xs
 pub samples-hold : AllHold samples
 unfolding samples plainTable plain frame-legal passes checks laid lines expanded expand values kind digits tokens
     lineLength comment ending scaled pointed thousandths opening inside step stop again says
-samples-hold = (refl, (refl, (refl, (refl, (refl, (refl, (refl, (refl, (refl, (refl, (refl, tt)))))))))))
+samples-hold = (refl, (refl, (refl, (refl, (refl, (refl, (refl, (refl, (refl, (refl, (refl, (refl, (refl, tt)))))))))))))
