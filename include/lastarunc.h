@@ -6,8 +6,9 @@
  * they were.  No function allocates, keeps a pointer, or uses more than a little stack.
  *
  * Answers.  Each function fills the struct that its last argument points to, and returns that struct's `refused`: 0 if
- * it accepts.  Every field is set by every call; what is not given is 0.  A struct may gain fields at its end in later
- * versions, so compile with the header of the library that you link.
+ * it accepts.  Every field is set by every call; what is not given is 0 (in a report, LASTARUNC_NONE where that is
+ * said).  A struct may gain fields at its end in later versions, so compile with the header of the library that you
+ * link.
  *
  * Refusals.  `refused` is the number, `place` the byte, from 0; both are those of document 01.  `line` and `column` are
  * where that byte stands in the text that is read, both from 1: LF, and nothing else, ends a line, and a column counts
@@ -47,7 +48,10 @@ enum lastarunc_form { LASTARUNC_DIFDUP = 0, LASTARUNC_AFFN = 1, LASTARUNC_PAC = 
 #define LASTARUNC_MOST_BYTES 1048576
 #define LASTARUNC_LARGEST_ABSCISSA INT64_C(9999999999)
 
-/* So many bytes hold every text of so many points, in each form, and every file of them. */
+/*
+ * So many bytes hold every text of so many points, in each form, and every file of them. A text in DIFDUP never has
+ * more than 34 * points + 24 bytes either, which is less for one point only.
+ */
 #define LASTARUNC_TEXT_CEILING(points) (15 * (size_t)(points) + 44)
 #define LASTARUNC_FILE_CEILING(points) (15 * (size_t)(points) + 297)
 
@@ -131,7 +135,9 @@ struct lastarunc_profile {
     int64_t on_page;
 };
 
-/* How far a walk over a spool has come: all 0 at its start. The last four are the totals of the files accepted so far. */
+/*
+ * How far a walk over a spool has come: all 0 at its start. The last four are the totals of the files accepted so far.
+ */
 struct lastarunc_progress {
     int64_t at, seen;
     int64_t files, points, missing, sum;
@@ -164,6 +170,14 @@ int64_t lastarunc_read_table(int64_t first, int64_t last, size_t points, const u
                              int32_t *out, size_t out_len, struct lastarunc_table *answer);
 
 /*
+ * The same as lastarunc_read_table, to the last lent entry, by the plain engine: it expands each line to a row of
+ * actual ordinates, then makes the checks row by row, then lays the rows one after another. It is there to be read; the
+ * other is faster.
+ */
+int64_t lastarunc_read_plain(int64_t first, int64_t last, size_t points, const uint8_t *body, size_t body_len,
+                             int32_t *out, size_t out_len, struct lastarunc_table *answer);
+
+/*
  * Writes the first `points` of the n ordinates lent as a table body in DIFDUP form.
  * Accepted: answer->length is the number of bytes of the text, and they stand from text[0] on.
  * Refused, 1, 2 or 15: text is as it was.
@@ -172,14 +186,6 @@ int64_t lastarunc_read_table(int64_t first, int64_t last, size_t points, const u
  */
 int64_t lastarunc_write_table(int64_t first, int64_t last, size_t points, const int32_t *ordinates, size_t n,
                               uint8_t *text, size_t room, struct lastarunc_text *answer);
-
-/*
- * The same as lastarunc_read_table, to the last lent entry, by the plain engine: it expands each line to a row of actual
- * ordinates, then makes the checks row by row, then lays the rows one after another. It is there to be read; the other
- * is faster.
- */
-int64_t lastarunc_read_plain(int64_t first, int64_t last, size_t points, const uint8_t *body, size_t body_len,
-                             int32_t *out, size_t out_len, struct lastarunc_table *answer);
 
 /*
  * Writes a table body as lastarunc_write_table does, in the form with this number (enum lastarunc_form). In AFFN, PAC
@@ -308,11 +314,12 @@ int64_t lastarunc_read_profile(const uint8_t *file, size_t file_len, const uint8
  * The next report of a night: a spool is at most 1,000 files, before each the bytes 4A and 44 (hexadecimal) and its
  * length in three bytes, high byte first. *progress starts as zeros; each call reads one file, as lastarunc_read_file
  * does into out, and goes on to the next.
- * Accepted (answer->refused 0, ended 0): answer->points, missing, lowest, highest and sum of the file, and faintest: the
- * smallest magnitude of its ordinates that are neither zero nor missing. LASTARUNC_NONE where there is none.
+ * Accepted (answer->refused 0, ended 0): answer->points, missing, lowest, highest and sum of the file, and faintest:
+ * the smallest magnitude of its ordinates that are neither zero nor missing. LASTARUNC_NONE where there is none.
  * Refused, ended 0: the file is, as lastarunc_read_file refuses it; out is as it was; the walk goes on.
- * Ended 1: the walk is over, *progress is as it was and has the totals: files, points, missing and sum over the accepted
- * files. answer->refused is 0 if the spool ended with a file, otherwise, at the place of the record in the spool,
+ * Ended 1: the walk is over, *progress is as it was and has the totals: files, points, missing and sum over the
+ * accepted files. answer->refused is 0 if the spool ended with a file, otherwise, at the place of the record in the
+ * spool,
  *     36   there are more than 1,000 files
  *     35   fewer than five bytes are left, or the file's length goes past the end
  *     34   the record does not begin with 4A 44
@@ -330,8 +337,8 @@ void lastarunc_detab_table(uint8_t *body, size_t body_len);
 
 /*
  * Converts the body of an old file's table in place, and no other byte. Returns 1, or 0 if there is no body to be found
- * (the labels are refused, one of the seven records is absent, or XYDATA's list is not there), and then nothing changes.
- * A data block of a compound file is converted so too, from its `from` to its `to`.
+ * (the labels are refused, one of the seven records is absent, or XYDATA's list is not there), and then nothing
+ * changes. A data block of a compound file is converted so too, from its `from` to its `to`.
  */
 int64_t lastarunc_detab_file(uint8_t *file, size_t file_len);
 
