@@ -93,8 +93,8 @@ pub fn entry_of(b: u8) -> u64
         46..=47 => either(b, b'.', POINT, b'?', MISSING),
         38..=45 => either(b, b'+', PLUS, b'-', MINUS),
         33..=37 => either(b, b'$', DOLLAR, b'%', DIF),
-        32 => BLANK,
-        0..=31 => either(b, b'\n', LF, b'\r', CR),
+        11..=32 => either(b, b'\r', CR, b' ', BLANK),
+        0..=10 => either(b, b'\n', LF, b'\r', CR),
         _ => OUTSIDE,
     }
 }

@@ -181,7 +181,8 @@ fn check_records(file: &[u8], room: usize, x: Needed) -> Tabled
 // The records from the place `start`, after TITLE's `=`, up to END's `##` (25), then the rest.
 pub fn check_part(file: &[u8], room: usize, start: usize, end: usize) -> Tabled
     requires { ⌜ (start ≤ length (now file)) × (length (now file) ≤ longestFile) ⌝ }
-    ensures { λ r. ⌜ StageChecks (now (file .entry)) room (bodyIn (now (file .entry)) (gatheredFrom (now (file .entry)) start end)) (byRecords (now (file .entry)) room end (gatheredFrom (now (file .entry)) start end)) r ⌝ }
+    ensures { λ r. ⌜ StageChecks (now (file .entry)) room (bodyIn (now (file .entry)) (gatheredFrom (now (file .entry)) start end))
+        (byRecords (now (file .entry)) room end (gatheredFrom (now (file .entry)) start end)) r ⌝ }
 {
     match gather(file, start, end) {
         Gathered::Lacking => refused(25, end),
