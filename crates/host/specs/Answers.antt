@@ -5,28 +5,17 @@ use Prim.Native.Nat.{ℕ, _-_}
 use lib.IntN.{ℤ}
 use lib.ListN.{length}
 use Rattle.terms.specs.Places.{lineOf, columnOf}
-use Rattle.terms.specs.declared.TableRead.{TableRead}
-use Rattle.terms.specs.declared.TableRead.the-variants as tables
 use Rattle.table_spec.specs.Reading.{Answer, refuse, accept, readTable, stored}
 use Rattle.label_spec.specs.Records.{recordFor}
 use Rattle.label_spec.specs.Names.{norm}
-use Rattle.label_spec.specs.declared.Record.{Record}
 use Rattle.file_spec.specs.File.{FileAnswer, refuse-file, accept-file, readFile, storedFile}
 use Rattle.host_numbers.specs.Numbers.{refusedOf, flags, no-flags, bits}
+use Rattle.host_read.specs.Answers.{recordNumbers}
 
 -- a table read: refused, place, line, column, points
 abbrev pub tableAnswer : ℕ → List ℕ → Answer → List ℕ
 tableAnswer n s (refuse c a) = c ∷ a ∷ lineOf s a ∷ columnOf s a ∷ 0 ∷ []
 tableAnswer n s (accept ys) = 0 ∷ 0 ∷ 0 ∷ 0 ∷ n ∷ []
-
--- the numbers of what a reader of tables answered
-abbrev pub tableNumbers : TableRead → List ℕ
-tableNumbers (tables.Accepted n) = 0 ∷ 0 ∷ 0 ∷ 0 ∷ n ∷ []
-tableNumbers (tables.Refused r) = r .number ∷ r .place ∷ r .line ∷ r .column ∷ 0 ∷ []
-
-pub record TableTells (x : TableRead) (answer : List ℕ) (r : ℕ) : Type 0 where
-  pub numbers : answer ≡ tableNumbers x
-  pub returned : r ≡ refusedOf (tableNumbers x)
 
 pub record TableTold (f l : ℤ) (n : ℕ) (body : List ℕ) (out out' : List ℤ) (answer : List ℕ) (r : ℕ) : Type 0 where
   pub numbers : answer ≡ tableAnswer n body (readTable f l n body (length out))
@@ -43,16 +32,7 @@ pub record FileTold (file : List ℕ) (out out' : List ℤ) (answer : List ℕ) 
   pub returned : r ≡ refusedOf (fileAnswer file (readFile file (length out)))
   pub leaves : out' ≡ storedFile out (readFile file (length out))
 
--- the number for a record that is absent, -1 in 64 bits: no refusal has it (Numbers.refused-number)
-abbrev pub absent : ℕ
-absent = 18446744073709551615
-
--- a record's text: refused, place, line, column, from, to
-abbrev pub recordAnswer : Record → List ℕ
-recordAnswer (Record.Text a b) = 0 ∷ 0 ∷ 0 ∷ 0 ∷ a ∷ b ∷ []
-recordAnswer Record.Absent = absent ∷ 0 ∷ 0 ∷ 0 ∷ 0 ∷ 0 ∷ []
-recordAnswer (Record.Refused r) = r .number ∷ r .place ∷ r .line ∷ r .column ∷ 0 ∷ 0 ∷ []
-
+-- a record found
 pub record RecordTold (file name : List ℕ) (answer : List ℕ) (r : ℕ) : Type 0 where
-  pub numbers : answer ≡ recordAnswer (recordFor file (norm name))
-  pub returned : r ≡ refusedOf (recordAnswer (recordFor file (norm name)))
+  pub numbers : answer ≡ recordNumbers (recordFor file (norm name))
+  pub returned : r ≡ refusedOf (recordNumbers (recordFor file (norm name)))

@@ -9,7 +9,8 @@ use Rattle.label_spec.specs.Names.{norm}
 use Rattle.compound_spec.specs.Compound.{BlocksAnswer, refuse-blocks, one-block, all-blocks, findBlocks}
 use Rattle.compound_spec.specs.Answers.{storedBlocks, BlockAnswer, answer, no-block, readBlock, storedBlock, recordInBlock}
 use Rattle.host_numbers.specs.Numbers.{refusedOf, no-flags}
-use Rattle.host.specs.Answers.{fileAnswer, absent, recordAnswer}
+use Rattle.host_read.specs.Answers.{absent, recordNumbers}
+use Rattle.host.specs.Answers.{fileAnswer}
 
 -- the data blocks of a file: refused, place, line, column, whether it is compound, how many
 abbrev pub blocksAnswer : List ℕ → BlocksAnswer → List ℕ
@@ -43,5 +44,5 @@ pub record BlockTold (file block : List ℕ) (out out' : List ℤ) (numbers' : L
   pub leaves : out' ≡ storedBlock out (readBlock file (length out) (startOf block) (endOf block))
 
 pub record BlockRecordTold (file block name : List ℕ) (numbers' : List ℕ) (r : ℕ) : Type 0 where
-  pub numbers : numbers' ≡ recordAnswer (recordInBlock file (fromOf block) (endOf block) (norm name))
-  pub returned : r ≡ refusedOf (recordAnswer (recordInBlock file (fromOf block) (endOf block) (norm name)))
+  pub numbers : numbers' ≡ recordNumbers (recordInBlock file (fromOf block) (endOf block) (norm name))
+  pub returned : r ≡ refusedOf (recordNumbers (recordInBlock file (fromOf block) (endOf block) (norm name)))

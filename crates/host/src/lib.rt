@@ -4,14 +4,9 @@ ghost use Rattle.table_spec.specs.declared.Style.the-variants.{Difdup};
 ghost use Rattle.host_text.specs.Answers.{TextTold, FormTold, FileTextTold, TextLengthTold, FileLengthTold};
 ghost use Rattle.host_profile.specs.Answers.{ProfileTold};
 ghost use Rattle.host_night.specs.Told.{StepTold};
-ghost use Rattle.host.specs.Answers.{TableTells, TableTold, FileTold, RecordTold};
+ghost use Rattle.host.specs.Answers.{TableTold, FileTold, RecordTold};
 ghost use Rattle.host_detab.specs.Answers.{TableConverted, FileConverted};
 ghost use Rattle.host.specs.Blocks.{BlocksTold, BlockTold, BlockRecordTold};
-use compound_spec::BlockRead;
-use compound_spec::BlocksFound;
-use file_spec::FileRead;
-use host_numbers::bits_of;
-use host_numbers::flag_of;
 use host_profile::tell_profile;
 use host_text::Form;
 use host_text::form_of;
@@ -19,28 +14,7 @@ use host_text::scales_of;
 use host_text::tell_file;
 use host_text::tell_no_form;
 use host_text::tell_text;
-use label_spec::Record;
 use table_spec::Style;
-use terms::TableRead;
-
-// What is answered for a record that is absent, -1 for C (LASTARUNC_ABSENT in the header): no refusal has this number.
-const ABSENT: u64 = 18446744073709551615;
-
-// Tells what a reader of tables answered: refused, place, line, column, points.
-fn tell_table(read: TableRead, answer: &mut [u64; 5]) -> u64
-    ensures { λ r. ⌜ TableTells read (now (answer .exit)) r ⌝ }
-{
-    match read {
-        TableRead::Accepted(n) => {
-            *answer = [0, 0, 0, 0, n as u64];
-            0
-        }
-        TableRead::Refused(r) => {
-            *answer = [r.number, r.place as u64, r.line as u64, r.column as u64, 0];
-            r.number
-        }
-    }
-}
 
 // Reads a table: refused, place, line, column, points.
 #[no_mangle]
@@ -55,7 +29,7 @@ pub extern "C" fn lastarunc_read_table(
     ensures { λ r. ⌜ TableTold first last points (now (body .entry)) (now (out .entry)) (now (out .exit)) (now (answer .exit)) r ⌝ }
 {
     let read = table_read::read_table(first, last, points, body, out);
-    tell_table(read, answer)
+    host_read::tell_table(read, answer)
 }
 
 // The same by the plain engine (02, T-14).
@@ -71,7 +45,7 @@ pub extern "C" fn lastarunc_read_plain(
     ensures { λ r. ⌜ TableTold first last points (now (body .entry)) (now (out .entry)) (now (out .exit)) (now (answer .exit)) r ⌝ }
 {
     let read = plain_read::read_plain(first, last, points, body, out);
-    tell_table(read, answer)
+    host_read::tell_table(read, answer)
 }
 
 // Writes a table in a form: refused, length, and three zeros where a file has what is exact.
@@ -150,34 +124,8 @@ pub extern "C" fn lastarunc_text_length(
 pub extern "C" fn lastarunc_read_file(file: &[u8], out: &mut [i32], answer: &mut [u64; 10]) -> u64
     ensures { λ r. ⌜ FileTold (now (file .entry)) (now (out .entry)) (now (out .exit)) (now (answer .exit)) r ⌝ }
 {
-    match file::read_file(file, out) {
-        FileRead::Accepted(t) => {
-            let n = t.points;
-            let f = bits_of(t.first);
-            let l = bits_of(t.last);
-            let exact = t.exact;
-            let ef = flag_of(exact.first);
-            let el = flag_of(exact.last);
-            let ey = flag_of(exact.firsty);
-            *answer = [0, 0, 0, 0, n as u64, f, l, ef, el, ey];
-            0
-        }
-        FileRead::Refused(r) => {
-            *answer = [
-                r.number,
-                r.place as u64,
-                r.line as u64,
-                r.column as u64,
-                0,
-                0,
-                0,
-                0,
-                0,
-                0,
-            ];
-            r.number
-        }
-    }
+    let read = file::read_file(file, out);
+    host_read::tell_file(read, answer)
 }
 
 // Writes a file (02, T-04): refused, length, and whether F, L and FIRSTY's quotient are exact.
@@ -216,27 +164,8 @@ pub extern "C" fn lastarunc_file_length(
 pub extern "C" fn lastarunc_find_record(file: &[u8], name: &[u8], answer: &mut [u64; 6]) -> u64
     ensures { λ r. ⌜ RecordTold (now (file .entry)) (now (name .entry)) (now (answer .exit)) r ⌝ }
 {
-    match label::find(file, name) {
-        Record::Text { from: a, to: b } => {
-            *answer = [0, 0, 0, 0, a as u64, b as u64];
-            0
-        }
-        Record::Absent => {
-            *answer = [ABSENT, 0, 0, 0, 0, 0];
-            ABSENT
-        }
-        Record::Refused(r) => {
-            *answer = [
-                r.number,
-                r.place as u64,
-                r.line as u64,
-                r.column as u64,
-                0,
-                0,
-            ];
-            r.number
-        }
-    }
+    let found = label::find(file, name);
+    host_read::tell_record(found, answer)
 }
 
 // Finds the data blocks of a file (02, T-07): refused, place, line, column, compound, blocks.
@@ -248,27 +177,8 @@ pub extern "C" fn lastarunc_find_blocks(
 ) -> u64
     ensures { λ r. ⌜ BlocksTold (now (file .entry)) (now (blocks .entry)) (now (blocks .exit)) (now (answer .exit)) r ⌝ }
 {
-    match compound_find::find_blocks(file, blocks) {
-        BlocksFound::Refused(r) => {
-            *answer = [
-                r.number,
-                r.place as u64,
-                r.line as u64,
-                r.column as u64,
-                0,
-                0,
-            ];
-            r.number
-        }
-        BlocksFound::One => {
-            *answer = [0, 0, 0, 0, 0, 1];
-            0
-        }
-        BlocksFound::Compound(n) => {
-            *answer = [0, 0, 0, 0, 1, n as u64];
-            0
-        }
-    }
+    let found = compound_find::find_blocks(file, blocks);
+    host_read::tell_blocks(found, answer)
 }
 
 // Reads a data block (02, T-07), whose numbers are from, to, start, end: as a file is read. A negative number is one beyond every file here.
@@ -283,38 +193,8 @@ pub extern "C" fn lastarunc_read_block(
 {
     let start = block[2] as usize;
     let end = block[3] as usize;
-    match compound_read::read_block(file, start, end, out) {
-        BlockRead::Accepted(t) => {
-            let n = t.points;
-            let from = bits_of(t.first);
-            let to = bits_of(t.last);
-            let exact = t.exact;
-            let first = flag_of(exact.first);
-            let last = flag_of(exact.last);
-            let firsty = flag_of(exact.firsty);
-            *answer = [0, 0, 0, 0, n as u64, from, to, first, last, firsty];
-            0
-        }
-        BlockRead::Refused(r) => {
-            *answer = [
-                r.number,
-                r.place as u64,
-                r.line as u64,
-                r.column as u64,
-                0,
-                0,
-                0,
-                0,
-                0,
-                0,
-            ];
-            r.number
-        }
-        BlockRead::NoBlock => {
-            *answer = [ABSENT, 0, 0, 0, 0, 0, 0, 0, 0, 0];
-            ABSENT
-        }
-    }
+    let read = compound_read::read_block(file, start, end, out);
+    host_read::tell_block(read, answer)
 }
 
 // Finds the text of a record of a data block (02, T-07): refused, place, line, column, from, to.
@@ -329,27 +209,8 @@ pub extern "C" fn lastarunc_find_in_block(
 {
     let from = block[0] as usize;
     let end = block[3] as usize;
-    match compound_read::find_in_block(file, from, end, name) {
-        Record::Text { from: a, to } => {
-            *answer = [0, 0, 0, 0, a as u64, to as u64];
-            0
-        }
-        Record::Absent => {
-            *answer = [ABSENT, 0, 0, 0, 0, 0];
-            ABSENT
-        }
-        Record::Refused(r) => {
-            *answer = [
-                r.number,
-                r.place as u64,
-                r.line as u64,
-                r.column as u64,
-                0,
-                0,
-            ];
-            r.number
-        }
-    }
+    let found = compound_read::find_in_block(file, from, end, name);
+    host_read::tell_record(found, answer)
 }
 
 // Reads a profile (02, T-09), with the site's page beside the file: refused, place, line, column, points, first, last, whether F, L and FIRSTY's quotient are exact, and whether the refusal is on

@@ -1,4 +1,5 @@
 -- The numbers of an answer as C has them. Assumes nothing.
+use mathlib.Core.Path.{_≡_}
 use mathlib.Core.Bool.{Bool}
 use mathlib.Core.List.{List, [], _∷_}
 use Prim.Native.Nat.{ℕ, _-_}
@@ -25,3 +26,8 @@ no-flags = 0 ∷ 0 ∷ 0 ∷ []
 abbrev pub bits : ℤ → ℕ
 bits (pos n) = n
 bits (negsuc n) = 18446744073709551615 - n
+
+-- these numbers are told: they stand in the answer, and the first of them is returned
+pub record Told (ns : List ℕ) (answer : List ℕ) (r : ℕ) : Type 0 where
+  pub numbers : answer ≡ ns
+  pub returned : r ≡ refusedOf ns

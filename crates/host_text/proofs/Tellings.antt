@@ -14,8 +14,8 @@ use Rattle.file_write_spec.specs.declared.FileLength.{FileLength}
 use Rattle.file_write_spec.specs.declared.FileWritten.{FileWritten}
 use Rattle.file_write.specs.Answers as file-writing
 use Rattle.host_text.specs.declared.Form.{Form}
-use Rattle.host_numbers.specs.Numbers.{refusedOf, flag, flags, no-flags}
-use Rattle.host_text.specs.Answers.{textAnswer, OutcomeTold, LengthTold, no-form, FormOf, writtenNumbers, fileNumbers, Told}
+use Rattle.host_numbers.specs.Numbers.{refusedOf, flag, flags, no-flags, Told}
+use Rattle.host_text.specs.Answers.{textAnswer, OutcomeTold, LengthTold, no-form, FormOf, writtenNumbers, fileNumbers}
 
 -- ---- what the functions of this crate tell
 

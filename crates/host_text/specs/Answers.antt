@@ -93,8 +93,3 @@ writtenNumbers (texts.Refused f) = f .number ∷ 0 ∷ no-flags
 abbrev pub fileNumbers : FileWritten → List ℕ
 fileNumbers (FileWritten.Length m) = 0 ∷ m .length ∷ flags (m .exact)
 fileNumbers (FileWritten.Refused f) = f .number ∷ 0 ∷ no-flags
-
--- they are told
-pub record Told (ns : List ℕ) (answer : List ℕ) (r : ℕ) : Type 0 where
-  pub numbers : answer ≡ ns
-  pub returned : r ≡ refusedOf ns

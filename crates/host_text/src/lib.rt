@@ -1,7 +1,7 @@
 // What a C host is told of a text, written or measured (02, T-01, T-02, T-04, T-10): the five numbers of its answer. The functions that C calls are those of `host`.
 ghost use mathlib.Core.Path.{_≡_};
-ghost use Rattle.host_text.specs.Answers.{no-form, scalesOf, FormOf, writtenNumbers, fileNumbers, Told};
-ghost use Rattle.host_numbers.specs.Numbers.{no-flags};
+ghost use Rattle.host_text.specs.Answers.{no-form, scalesOf, FormOf, writtenNumbers, fileNumbers};
+ghost use Rattle.host_numbers.specs.Numbers.{no-flags, Told};
 ghost use mathlib.Core.List.{_∷_};
 use file_write_spec::FileWritten;
 use file_write_spec::GivenDecimal;

@@ -1,8 +1,5 @@
 -- `host::lastarunc_read_file` meets its contract: the answer has the numbers of what `read_file` says.
-use mir.Facts.{toZ-ofZ}
-use mir.Syntax.{w64}
-use borrow.Author.Needs.{sfits-of}
-use Rattle.host.proofs.Tellings.{told-file, told-file-refused}
+use Rattle.host.proofs.Tellings.{told-file}
 use borrow.Author.Needs.{needs}
 use Rattle.host.proofs.lastarunc_read_file.Statement.{statement}
 use Rattle.host.proofs.lastarunc_read_file.Tie as tie
@@ -10,57 +7,15 @@ use Rattle.host.proofs.lastarunc_read_file.Tie as tie
 read-file-requires : tie.Need-read-file-requires
 read-file-requires c κs = search needs
 
-enum-known-t : tie.Need-enum-known-t
-enum-known-t c = search needs
-
-bits-of-requires : tie.Need-bits-of-requires
-bits-of-requires c κs = search needs
-
-bits-of-requires-2 : tie.Need-bits-of-requires-2
-bits-of-requires-2 c κs = search needs
-
-flag-of-requires : tie.Need-flag-of-requires
-flag-of-requires c κs = search needs
-
-flag-of-requires-2 : tie.Need-flag-of-requires-2
-flag-of-requires-2 c κs = search needs
-
-flag-of-requires-3 : tie.Need-flag-of-requires-3
-flag-of-requires-3 c κs = search needs
-
-enum-known-r : tie.Need-enum-known-r
-enum-known-r c = search needs
+tell-file-requires : tie.Need-tell-file-requires
+tell-file-requires c κs = search needs
 
 same-length : tie.Need-same-length
 same-length c = search needs
 
 returns : tie.Need-returns
-returns c =
-    let third = c .before in let second = third .before in let flagged = second .before in let last = flagged .before .before in let first = last .before .before in
-    let k = first .before .struct-told .given in let j = last .before .struct-told2 .given in let known = first .before .before .before in
-    told-file (rw (known .t .given .1) at (known .before .before .before .read-file .ensures))
-    (rw (toZ-ofZ (sfits-of {w = w64} (k .1 .0 .1))) at (first .bits-of .ensures)) (rw (toZ-ofZ (sfits-of {w = w64} (j .1 .1 .0 .1))) at (last .bits-of2 .ensures))
-    (flagged .flag-of .ensures) (second .flag-of2 .ensures) (third .flag-of3 .ensures)
-
-same-length-2 : tie.Need-same-length-2
-same-length-2 c = search needs
-
-returns-2 : tie.Need-returns-2
-returns-2 c = told-file-refused (rw (c .before .before .r .given .1) at (c .before .before .before .before .before .read-file .ensures))
+returns c = told-file (c .before .before .before .read-file .ensures) (c .tell-file .ensures)
 
 pub lastarunc-read-file-spec : {M : Type 1} → statement M
 lastarunc-read-file-spec =
-    tie.close
-    (tie.spec
-    read-file-requires
-    enum-known-t
-    bits-of-requires
-    bits-of-requires-2
-    flag-of-requires
-    flag-of-requires-2
-    flag-of-requires-3
-    enum-known-r
-    same-length
-    returns
-    same-length-2
-    returns-2)
+    tie.close (tie.spec read-file-requires tell-file-requires same-length returns)
