@@ -30,7 +30,7 @@ fn body_at(file: &[u8], x: Needed) -> FoundBody
     }
 }
 
-// Where the body of a file's table stands, as `file::check_file` finds it; the numbers of the file are not looked at.
+// Where the body of a file's table stands, as `file_check::check_file` finds it; the numbers of the file are not looked at.
 pub fn find_body(file: &[u8]) -> FoundBody
     ensures { λ r. ⌜ (r ≡ foundBody (now (file .entry))) × foundWithin (length (now (file .entry))) r ⌝ }
 {

@@ -1,5 +1,5 @@
 -- `file::read_part` meets its contract: what was checked is settled.
-use Rattle.file.proofs.StageLaws.{stage-settled}
+use Rattle.file.proofs.SettleLaws.{stage-settled}
 use borrow.Author.Needs.{needs}
 use Rattle.file.proofs.read_part.Statement.{statement}
 use Rattle.file.proofs.read_part.Tie as tie

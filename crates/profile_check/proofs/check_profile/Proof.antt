@@ -2,7 +2,7 @@
 use mathlib.Core.Path.{sym, _∙_}
 use native.Mathlib.Omega.{arith}
 use borrow.Author.Needs.{needs}
-use Rattle.file.proofs.StageLaws.{labelled-short}
+use Rattle.file_check.proofs.StageLaws.{labelled-short}
 use Rattle.profile_check.proofs.CheckTurns.{check-labels, check-fault, check-records}
 use Rattle.profile_check.proofs.check_profile.Statement.{statement}
 use Rattle.profile_check.proofs.check_profile.Tie as tie

@@ -1,12 +1,12 @@
--- `file::check_file` meets its contract: the labels, then what stands between them.
+-- `file_check::check_file` meets its contract: the labels, then what stands between them.
 use mathlib.Core.List.{List}
 use mathlib.Core.Path.{refl, sym, _∙_}
 use Prim.Native.Nat.{ℕ}
 use native.Mathlib.Omega.{arith}
 use borrow.Author.Needs.{needs}
-use Rattle.file.proofs.StageLaws.{stage-refused, stage-same, labels-refused, labels-placed, labels-body, labelled-short}
-use Rattle.file.proofs.check_file.Statement.{statement}
-use Rattle.file.proofs.check_file.Tie as tie
+use Rattle.file_check.proofs.StageLaws.{stage-refused, stage-same, labels-refused, labels-placed, labels-body, labelled-short}
+use Rattle.file_check.proofs.check_file.Statement.{statement}
+use Rattle.file_check.proofs.check_file.Tie as tie
 
 -- where the labels are read
 abbrev start : tie.After-labels → tie.Start

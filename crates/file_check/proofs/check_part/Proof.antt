@@ -1,11 +1,11 @@
--- `file::check_part` meets its contract: 25, then what the records say.
+-- `file_check::check_part` meets its contract: 25, then what the records say.
 use mathlib.Core.List.{List}
 use mathlib.Core.Path.{sym, _∙_}
 use Prim.Native.Nat.{ℕ}
 use borrow.Author.Needs.{needs}
-use Rattle.file.proofs.StageLaws.{stage-refused, stage-same, records-lacking, records-all, records-body}
-use Rattle.file.proofs.check_part.Statement.{statement}
-use Rattle.file.proofs.check_part.Tie as tie
+use Rattle.file_check.proofs.StageLaws.{stage-refused, stage-same, records-lacking, records-all, records-body}
+use Rattle.file_check.proofs.check_part.Statement.{statement}
+use Rattle.file_check.proofs.check_part.Tie as tie
 
 -- where the records are gathered
 abbrev start : tie.After-gather → tie.Start
