@@ -12,7 +12,6 @@ use compound_spec::Block;
 use compound_spec::Own;
 use compound_spec::Surveyed;
 use compound_words::note;
-use label::open_title;
 use label_lines::next_label;
 use label_lines::next_mark;
 use label_names::is_end;
@@ -20,6 +19,7 @@ use label_names::is_title;
 use label_spec::Found;
 use label_spec::Label;
 use label_spec::Opened;
+use label_walk::open_title;
 use terms::Fault;
 
 // The most bytes of a file.

@@ -189,7 +189,7 @@ pub fn check_part(file: &[u8], room: usize, start: usize, end: usize) -> Tabled
 pub fn check_file(file: &[u8], room: usize) -> Tabled
     ensures { λ r. ⌜ StageChecks (now (file .entry)) room (bodyOf (now (file .entry))) (readFile (now (file .entry)) room) r ⌝ }
 {
-    match label::labels(file) {
+    match label_walk::labels(file) {
         Labelled::Refused(r) => Tabled::Refused(r),
         Labelled::Places { title: _, eq, end } => {
             let start = eq + 1;

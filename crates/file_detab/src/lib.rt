@@ -34,7 +34,7 @@ fn body_at(file: &[u8], x: Needed) -> FoundBody
 pub fn find_body(file: &[u8]) -> FoundBody
     ensures { λ r. ⌜ (r ≡ foundBody (now (file .entry))) × foundWithin (length (now (file .entry))) r ⌝ }
 {
-    match label::labels(file) {
+    match label_walk::labels(file) {
         Labelled::Refused(_) => FoundBody::Absent,
         Labelled::Places { title: _, eq, end } => {
             let start = eq + 1;

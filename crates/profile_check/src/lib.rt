@@ -51,7 +51,7 @@ pub fn check_profile(file: &[u8], page: &[u8], room: usize, places: &mut [u64]) 
     requires { ⌜ length (now places) ≡ 45 ⌝ }
     ensures { λ r. ⌜ Checks (now (file .entry)) (now (page .entry)) room (now (places .exit)) r ⌝ }
 {
-    match label::labels(file) {
+    match label_walk::labels(file) {
         Labelled::Refused(fault) => Checked::Refused { page: false, fault },
         Labelled::Places { title: _, eq, end } => {
             let start = eq + 1;
