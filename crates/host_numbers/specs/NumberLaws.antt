@@ -1,5 +1,5 @@
 -- Numbers that are told. Assumes nothing.
-use mathlib.Core.Path.{_≡_, refl, sym, ap, _∙_}
+use mathlib.Core.Path.{_≡_, sym, ap, _∙_}
 use mathlib.Core.List.{List}
 use Prim.Native.Nat.{ℕ}
 use Rattle.host_numbers.specs.Numbers.{refusedOf, Told}

@@ -14,7 +14,7 @@ use Rattle.table_lines.specs.Ends.{Blanked, Ended}
 use Rattle.table_lines.specs.declared.Ending.the-variants as ending
 use Rattle.table_numbers.specs.Numbers.{Token}
 use Rattle.table_ordinates.proofs.Moves.{copies-length}
-use Rattle.table_values.proofs.Turns.{stored-then}
+use Rattle.table_value.proofs.Turns.{stored-then}
 use Rattle.plain_spec.specs.Rows.{Row, done, values}
 use Rattle.plain_spec.specs.Plain.{ordinates, inDif}
 use Rattle.plain_law.specs.Within.{beyond}

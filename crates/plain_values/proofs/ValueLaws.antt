@@ -11,8 +11,8 @@ use Rattle.table_spec.specs.Values.{own, gap, by, times, Form, Own, Gap, By, Du
 use Rattle.table_spec.specs.Reading.{refuses, says, again}
 use Rattle.table_ordinates.specs.Reach.{shiftedTo}
 use Rattle.table_ordinates.proofs.Moves.{shift-some, shift-none, own-reach, own-small, reaches, same-last, steps-last}
-use Rattle.table_values.specs.States.{own as codes-own, gap as codes-gap, going}
-use Rattle.table_values.proofs.Meanings.{dup-same, Repeats, dup-out, dup-steps}
+use Rattle.table_value.specs.States.{own as codes-own, gap as codes-gap, going}
+use Rattle.table_value.proofs.Meanings.{dup-same, Repeats, dup-out, dup-steps}
 use Rattle.plain_values.specs.Means.{Means, After, Anywhere, missing-one, same-again}
 use Rattle.plain_values.specs.declared.Form.the-variants as form
 use Rattle.plain_values.specs.declared.Meant.the-variants as meant

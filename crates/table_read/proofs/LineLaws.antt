@@ -12,8 +12,9 @@ use Rattle.table_spec.specs.Reading.{fresh, inner, bare, difBefore, checked, ju
 use Rattle.table_lines.specs.Seen.{seen, here}
 use Rattle.table_lines.specs.Heads.{Topped, Headed}
 use Rattle.table_lines.specs.declared.HeadRead.the-variants.{NoHead}
-use Rattle.table_values.specs.LineValues.{judged, line-says, line-judge}
-use Rattle.table_values.specs.States.{Holds, opening, checking, lastAt, Lined}
+use Rattle.table_value.specs.LineValues.{judged, line-says, line-judge}
+use Rattle.table_values.specs.Lines.{lastAt, Lined}
+use Rattle.table_value.specs.States.{Holds, opening, checking}
 use Rattle.table_values.specs.declared.Row.{Row}
 use Rattle.table_values.specs.declared.LineRead.{LineRead}
 use Rattle.table_values.specs.declared.LineRead.the-variants as linewise

@@ -15,7 +15,7 @@ use Rattle.table_spec.specs.Frame.{Rules, entry-for}
 use Rattle.table_spec.specs.Values.{Spot, after, Own}
 use Rattle.table_spec.specs.Reading.{over, fault, fresh, Answer, refuse, accept, push, finish, judge, readLines}
 use Rattle.table_lines.specs.Seen.{seen}
-use Rattle.table_values.proofs.Turns.{stored-then}
+use Rattle.table_value.proofs.Turns.{stored-then}
 use Rattle.table_spec.specs.ReadingLaws.{no-accept, push-none, push-push}
 use Rattle.table_read.specs.Rows.{Between, Rests, LineSays, finished, passedOf, PassSays}
 use Rattle.table_values.specs.declared.Row.{Row}

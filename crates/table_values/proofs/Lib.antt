@@ -1,4 +1,3 @@
 pub mod Turns
-pub mod Meanings
 pub mod Walks
 pub mod Runs

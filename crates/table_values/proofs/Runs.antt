@@ -22,8 +22,9 @@ use Rattle.table_spec.specs.Values.{by, room}
 use Rattle.table_numbers.specs.Numbers.{leadOf, Token, NumberAt}
 use Rattle.table_numbers.proofs.NumberLaws.{further-nine, packed-token, dif-at, below-ten}
 use Rattle.table_ordinates.specs.Reach.{shiftedTo}
-use Rattle.table_values.specs.States.{beginsDifference, difFormOf, formed, Went}
-use Rattle.table_values.specs.declared.Cur.{Cur}
+use Rattle.table_values.specs.Lines.{beginsDifference, difFormOf, formed}
+use Rattle.table_value.specs.States.{Went}
+use Rattle.table_value.specs.declared.Cur.{Cur}
 use Rattle.table_values.proofs.Walks.{went-on}
 
 -- ---- the bytes

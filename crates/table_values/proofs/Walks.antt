@@ -7,24 +7,21 @@ use lib.Dec.{leb}
 use lib.IntN.{ℤ}
 use lib.ListN.{set}
 use Rattle.table_spec.specs.Frame.{entry-for}
-use Rattle.table_spec.specs.Values.{Value, by, By, Spot}
+use Rattle.table_spec.specs.Values.{by, By, Spot}
 use Rattle.table_lines.specs.Ends.{Blanked}
 use Rattle.table_numbers.specs.Numbers.{Token}
 use Rattle.table_ordinates.specs.Reach.{shiftedTo}
-use Rattle.table_values.specs.States.{dif, Holds, opening, checking, going, placed, Sits, Went, Stepped, rowAfter, Lined}
-use Rattle.table_values.specs.declared.Cur.{Cur}
-use Rattle.table_values.specs.declared.Step.the-variants as step
+use Rattle.table_values.specs.Lines.{placed, rowAfter, Lined}
+use Rattle.table_value.specs.States.{dif, Holds, opening, checking, going, Sits, Went, Stepped}
+use Rattle.table_value.specs.declared.Cur.{Cur}
+use Rattle.table_value.specs.declared.Step.the-variants as step
 use Rattle.table_values.specs.declared.LineRead.the-variants as linewise
 use Rattle.table_ordinates.proofs.Moves.{shift-some}
-use Rattle.table_values.proofs.Turns.{value-adds, gone-same, blank-clear, clear-then, gone-gone, gone-done, gone-broken}
-use Rattle.table_values.proofs.Meanings.{dif-adds}
+use Rattle.table_values.proofs.Turns.{gone-same, blank-clear, clear-then, gone-gone, gone-done, gone-broken}
+use Rattle.table_value.proofs.Turns.{value-adds, sits-next}
+use Rattle.table_value.proofs.Meanings.{dif-adds}
 
 -- ---- states
-
--- the state after a value
-pub sits-next : {N : ℕ} {s : List ℕ} {i j : ℕ} {x : Value} → Token s i x j → (k q want d form : ℕ) → q < 4294967296 → d < 10000000000 → k ≤ N
-    → Sits N s (record { at = j; k = k; q = q; want = want; step = d; form = form })
-sits-next t k q want d form a b l = let z = t .low in record { some = omega arith; high = t .high; small = a; size = b; few = l }
 
 -- an ordinate is asked for only before a line's first value
 pub no-want : {q want d form p : ℕ} {w : Spot} → Holds q want d form p w → 0 < q → want ≡ 0

@@ -1,3 +1,2 @@
-pub mod LineValues
-pub mod States
+pub mod Lines
 pub mod Unique

@@ -7,7 +7,8 @@ use lib.IntN.{ℤ}
 use Rattle.terms.specs.Logic.{zero-one}
 use Rattle.table_spec.specs.Values.{Spot}
 use Rattle.table_lines.specs.Ends.{endAt}
-use Rattle.table_values.specs.States.{Holds, opening, checking, LineEnds, LineDone, LineBroken, Lined}
+use Rattle.table_values.specs.Lines.{LineEnds, LineDone, LineBroken, Lined}
+use Rattle.table_value.specs.States.{Holds, opening, checking}
 use Rattle.table_values.specs.declared.Row.{Row}
 use Rattle.table_values.specs.declared.LineRead.{LineRead}
 use Rattle.table_values.specs.declared.LineRead.the-variants as linewise

@@ -12,7 +12,8 @@ use borrow.Author.Tests.{eq-eqb, ne-eqb, not-false}
 use Rattle.alphabet_spec.specs.Entries.{entryAt}
 use Rattle.alphabet.specs.Standing.{standing, digit-seen-not}
 use Rattle.table_ordinates.proofs.Moves.{shift-some}
-use Rattle.table_values.specs.States.{beginsDifference, formed, Went}
+use Rattle.table_values.specs.Lines.{beginsDifference, formed}
+use Rattle.table_value.specs.States.{Went}
 use Rattle.table_values.proofs.Walks.{went-none}
 use Rattle.table_values.proofs.Runs.{leadDigit, mostAfter, begun, begun-in, begun-small, begun-token, went-further}
 use Rattle.table_values.proofs.differences.Statement.{statement}

@@ -4,7 +4,7 @@ use native.Mathlib.Omega.{arith}
 use Prim.Native.Nat.{_-_}
 use lib.ListN.{length}
 use borrow.Author.Needs.{needs}
-use Rattle.table_values.specs.States.{Went}
+use Rattle.table_value.specs.States.{Went}
 use Rattle.table_values.proofs.Walks.{went-none, went-went, went-past, first-state, went-line, went-refused}
 use Rattle.table_values.proofs.values.Statement.{statement}
 use Rattle.table_values.proofs.values.Tie as tie

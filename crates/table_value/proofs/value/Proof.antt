@@ -1,10 +1,10 @@
--- `table_values::value` meets its contract: the value at the place, whose number is v.
+-- `table_value::value` meets its contract: the value at the place, whose number is v.
 use Prim.Native.Nat.{_-_, _<_, _≤_}
 use native.Mathlib.Omega.{arith}
 use Rattle.table_numbers.proofs.NumberLaws.{below-ten, dup-at, dif-at, own-at-all}
 use borrow.Author.Needs.{needs}
-use Rattle.table_values.proofs.value.Statement.{statement}
-use Rattle.table_values.proofs.value.Tie as tie
+use Rattle.table_value.proofs.value.Statement.{statement}
+use Rattle.table_value.proofs.value.Tie as tie
 
 dup-value-requires : tie.Need-dup-value-requires
 dup-value-requires c κs =

@@ -1,17 +1,17 @@
--- `table_values::own_value` meets its contract: an ordinate of its own; on a check line's start it is compared, and adds no point.
+-- `table_value::own_value` meets its contract: an ordinate of its own; on a check line's start it is compared, and adds no point.
 use mathlib.Core.Path.{refl, sym, _∙_}
 use mathlib.Core.List.{[]}
 use Prim.Native.Nat.{_-_}
 use native.Mathlib.Omega.{arith}
 use Rattle.table_spec.specs.Values.{Own}
-use Rattle.table_values.specs.States.{going, own as codes-own}
-use Rattle.table_values.proofs.Turns.{value-not, value-full, value-adds, value-stepped}
+use Rattle.table_value.specs.States.{going, own as codes-own}
+use Rattle.table_value.proofs.Turns.{value-not, value-full, value-adds, value-stepped}
 use Rattle.table_ordinates.proofs.Moves.{own-reach, own-small}
-use Rattle.table_values.proofs.Meanings.{own-large, own-free, own-unequal, own-equal}
-use Rattle.table_values.proofs.Walks.{sits-next}
+use Rattle.table_value.proofs.Meanings.{own-large, own-free, own-unequal, own-equal}
+use Rattle.table_value.proofs.Turns.{sits-next}
 use borrow.Author.Needs.{needs}
-use Rattle.table_values.proofs.own_value.Statement.{statement}
-use Rattle.table_values.proofs.own_value.Tie as tie
+use Rattle.table_value.proofs.own_value.Statement.{statement}
+use Rattle.table_value.proofs.own_value.Tie as tie
 
 returns : tie.Need-returns
 returns c = let p = c .before .before .pre in (refl, λ y w h. value-not _ _ (p .1) _ y w 9 (own-large _ _ h (c .if1 .taken)))

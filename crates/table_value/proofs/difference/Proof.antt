@@ -1,17 +1,17 @@
--- `table_values::difference` meets its contract: a difference.
+-- `table_value::difference` meets its contract: a difference.
 use mathlib.Core.Path.{refl, sym, _∙_}
 use mathlib.Core.List.{[], _∷_}
 use Prim.Native.Nat.{_-_}
 use native.Mathlib.Omega.{arith}
 use lib.Dec.{leb}
-use Rattle.table_values.specs.States.{going, dif}
-use Rattle.table_values.proofs.Turns.{value-not, value-full, value-adds, value-stepped}
+use Rattle.table_value.specs.States.{going, dif}
+use Rattle.table_value.proofs.Turns.{value-not, value-full, value-adds, value-stepped}
 use Rattle.table_ordinates.proofs.Moves.{shift-some}
-use Rattle.table_values.proofs.Meanings.{dif-none, dif-out, dif-adds}
-use Rattle.table_values.proofs.Walks.{sits-next}
+use Rattle.table_value.proofs.Meanings.{dif-none, dif-out, dif-adds}
+use Rattle.table_value.proofs.Turns.{sits-next}
 use borrow.Author.Needs.{needs}
-use Rattle.table_values.proofs.difference.Statement.{statement}
-use Rattle.table_values.proofs.difference.Tie as tie
+use Rattle.table_value.proofs.difference.Statement.{statement}
+use Rattle.table_value.proofs.difference.Tie as tie
 
 returns : tie.Need-returns
 returns c = let p = c .before .before .pre in (refl, λ y w h. value-not _ _ (p .4) _ y w 8 (dif-none _ _ h (c .if1 .taken)))

@@ -1,16 +1,16 @@
--- `table_values::missing` meets its contract: a missing ordinate.
+-- `table_value::missing` meets its contract: a missing ordinate.
 use mathlib.Core.Path.{refl}
 use mathlib.Core.List.{[], _∷_}
 use Prim.Native.Nat.{_-_}
 use native.Mathlib.Omega.{arith}
 use Rattle.table_spec.specs.Values.{Gap}
-use Rattle.table_values.specs.States.{going, gap as codes-gap}
-use Rattle.table_values.proofs.Turns.{value-not, value-full, value-adds, value-stepped}
+use Rattle.table_value.specs.States.{going, gap as codes-gap}
+use Rattle.table_value.proofs.Turns.{value-not, value-full, value-adds, value-stepped}
 use Rattle.table_numbers.proofs.NumberLaws.{gap-token}
-use Rattle.table_values.proofs.Meanings.{gap-asked, gap-free}
+use Rattle.table_value.proofs.Meanings.{gap-asked, gap-free}
 use borrow.Author.Needs.{needs}
-use Rattle.table_values.proofs.missing.Statement.{statement}
-use Rattle.table_values.proofs.missing.Tie as tie
+use Rattle.table_value.proofs.missing.Statement.{statement}
+use Rattle.table_value.proofs.missing.Tie as tie
 
 add-next : tie.Need-add-next
 add-next c = search needs

@@ -1,14 +1,14 @@
--- `table_values::dup_value` meets its contract: a DUP with the count v (01, "c is at least 2").
+-- `table_value::dup_value` meets its contract: a DUP with the count v (01, "c is at least 2").
 use mathlib.Core.Path.{_≡_, refl, subst}
 use Prim.Native.Nat.{ℕ, _+_, _-_}
 use native.Mathlib.Omega.{arith}
 use Rattle.table_spec.specs.Values.{times}
 use Rattle.table_numbers.specs.Numbers.{Token}
-use Rattle.table_values.proofs.Turns.{value-not}
-use Rattle.table_values.proofs.Meanings.{dup-nowhere, dup-few}
+use Rattle.table_value.proofs.Turns.{value-not}
+use Rattle.table_value.proofs.Meanings.{dup-nowhere, dup-few}
 use borrow.Author.Needs.{needs}
-use Rattle.table_values.proofs.dup_value.Statement.{statement}
-use Rattle.table_values.proofs.dup_value.Tie as tie
+use Rattle.table_value.proofs.dup_value.Statement.{statement}
+use Rattle.table_value.proofs.dup_value.Tie as tie
 
 returns : tie.Need-returns
 returns c = let p = c .before .before .pre in (refl, λ y w h. value-not _ _ (p .3) _ y w 8 (dup-nowhere _ h (c .if1 .taken)))

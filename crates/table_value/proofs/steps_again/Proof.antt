@@ -1,17 +1,17 @@
--- `table_values::steps_again` meets its contract: a DUP of a difference.
+-- `table_value::steps_again` meets its contract: a DUP of a difference.
 use mathlib.Core.Path.{refl, sym, _∙_}
 use Prim.Native.Nat.{_-_, _*_}
 use native.Mathlib.Omega.{arith}
 use lib.Dec.{leb}
 use Rattle.table_spec.specs.Values.{By}
-use Rattle.table_values.specs.States.{going, dup-dif}
-use Rattle.table_values.proofs.Turns.{value-not, value-full, value-adds, value-stepped}
+use Rattle.table_value.specs.States.{going, dup-dif}
+use Rattle.table_value.proofs.Turns.{value-not, value-full, value-adds, value-stepped}
 use Rattle.table_ordinates.proofs.Moves.{copies-length, steps-last, shift-some, reaches, far-small}
-use Rattle.table_values.proofs.Meanings.{repeats, dup-out, dup-steps}
-use Rattle.table_values.proofs.Walks.{sits-next}
+use Rattle.table_value.proofs.Meanings.{repeats, dup-out, dup-steps}
+use Rattle.table_value.proofs.Turns.{sits-next}
 use borrow.Author.Needs.{needs}
-use Rattle.table_values.proofs.steps_again.Statement.{statement}
-use Rattle.table_values.proofs.steps_again.Tie as tie
+use Rattle.table_value.proofs.steps_again.Statement.{statement}
+use Rattle.table_value.proofs.steps_again.Tie as tie
 
 mul-far : tie.Need-mul-far
 mul-far c = let d = c .before .pre .0 in let a = c .before .args in let z = far-small (a .c .step) (a .n) (d .sits .size) (d .small) in omega arith

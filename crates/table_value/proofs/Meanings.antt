@@ -10,7 +10,7 @@ use Rattle.terms.specs.Logic.{pick, by-case}
 use Rattle.table_spec.specs.Values.{own, gap, by, times, Own, Gap, By, Dup, Spot, after, ordinate, moved, copies}
 use Rattle.table_spec.specs.Reading.{adds, refuses, says, again, inRange, allIn}
 use Rattle.table_ordinates.specs.Reach.{shiftedTo}
-use Rattle.table_values.specs.States.{own as codes-own, gap as codes-gap, dif, dup-not, dup-dif, Holds, opening, checking, going}
+use Rattle.table_value.specs.States.{own as codes-own, gap as codes-gap, dif, dup-not, dup-dif, Holds, opening, checking, going}
 use Rattle.table_ordinates.proofs.Moves.{Shifts, shift-none, steps-in, own-copies, gap-copies}
 
 -- ---- a missing ordinate

@@ -1,17 +1,17 @@
--- `table_values::same_again` meets its contract: a DUP of a value of its own, or of a missing one.
+-- `table_value::same_again` meets its contract: a DUP of a value of its own, or of a missing one.
 use mathlib.Core.Bool.{false}
 use mathlib.Core.Path.{refl}
 use Prim.Native.Nat.{_-_}
 use native.Mathlib.Omega.{arith}
 use Rattle.table_spec.specs.Values.{By}
-use Rattle.table_values.specs.States.{going, dup-not}
-use Rattle.table_values.proofs.Turns.{value-full, value-adds, value-stepped}
+use Rattle.table_value.specs.States.{going, dup-not}
+use Rattle.table_value.proofs.Turns.{value-full, value-adds, value-stepped}
 use Rattle.table_ordinates.proofs.Moves.{copies-length, same-last}
-use Rattle.table_values.proofs.Meanings.{dup-same}
-use Rattle.table_values.proofs.Walks.{sits-next}
+use Rattle.table_value.proofs.Meanings.{dup-same}
+use Rattle.table_value.proofs.Turns.{sits-next}
 use borrow.Author.Needs.{needs}
-use Rattle.table_values.proofs.same_again.Statement.{statement}
-use Rattle.table_values.proofs.same_again.Tie as tie
+use Rattle.table_value.proofs.same_again.Statement.{statement}
+use Rattle.table_value.proofs.same_again.Tie as tie
 
 add-end : tie.Need-add-end
 add-end c = search needs
