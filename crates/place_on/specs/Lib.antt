@@ -1,0 +1,2 @@
+pub mod HeadOnly
+pub mod Stuck
