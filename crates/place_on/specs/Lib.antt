@@ -1,2 +1,3 @@
 pub mod HeadOnly
 pub mod Stuck
+pub mod Alike
