@@ -11,7 +11,7 @@ use Rattle.terms.specs.Logic.{pick, by-case, no-way}
 use Rattle.alphabet_spec.specs.Digits.{within, Run, long, run, digits, some}
 use Rattle.alphabet_spec.specs.Bytes.{Byte, digit, lead, sign, quest, blank, point, lf, cr, dollar, other, kind}
 use Rattle.table_spec.specs.Values.{Value, own, room, valueOf}
-use Rattle.table_spec.specs.Reading.{Tokens, over, fault, head, value, line, HeadDigits, no-head, sized, comment, Ending, ends, none, ending, thousandths}
+use Rattle.table_spec.specs.Reading.{Tokens, fault, head, value, line, HeadDigits, no-head, sized, comment, Ending, ends, none, ending, thousandths}
 use Rattle.table_spec.specs.Reading.{Mode, fresh, inner, Rest, ended, headed, valued, opening, inside, step, tokens, bare}
 use Rattle.table_law.specs.Every.{every}
 use Rattle.table_law.specs.Places.{Placed, placed-from}

@@ -247,6 +247,11 @@ module _ (tabs : Bool) (p : ℕ) where
   line-then v g u k (then-blanks h) e f = blanks-then u v h e f
   line-then v (b ∷ g) u k (head-byte x h) e f = no-way (sym (subst (Apart tabs) e (line-apart v refl)) ∙ x)
 
+check-some : {tabs q : Bool} {p e : ℕ} {vs t s : List ℕ} {r : Form} → Line tabs q (first true) p vs r e t s → 0 < p
+check-some (blank b r) = check-some r
+check-some (value h (check (size-up l)) r) = omega arith
+check-some (value h (check (size-down l)) r) = omega arith
+
 module _ (R : Rules) (p : ℕ) where
   check-fits : {i k : ℕ} {ys g : List ℕ} → Opens (R .tabs) g → (u : List ℕ) → Body R i p true ys (g ++ u) → Short k (g ++ u) → length g + length (sqzText p) ≤ k
   check-fits (indented b o) u (indent c r) f =
@@ -258,6 +263,12 @@ module _ (R : Rules) (p : ℕ) where
   check-fits {k = k} (begun {b = b} {g = g} l o) u (row h c x v d r) f = head-then (R .tabs) p h (line-then (R .tabs) p v) b g u k o refl f
 
   -- THE NARROW STATE: where a check line is due, and its head and the blanks around it leave fewer bytes of the line than the SQZ text of the last ordinate has, no text goes on
-  -- from them. Nothing is asked of p: a missing ordinate is followed by no check line, and no text goes on from such a state at all
+  -- from them
   pub none-after-narrow : {i k : ℕ} {g : List ℕ} → HeadOnly (R .tabs) g → k < length g + length (sqzText p) → (u ys : List ℕ) → Body R i p true ys (g ++ u) → Short k (g ++ u) → ⊥
   none-after-narrow h l u ys r f = let z = check-fits (opens (R .tabs) h) u r f in omega arith
+
+  -- where the last ordinate is missing no check line can be right: such a state is never reached
+  pub none-after-missing : {i : ℕ} (t ys : List ℕ) → p ≡ 0 → Body R i p true ys t → ⊥
+  none-after-missing t ys e (indent {s = s} b r) = none-after-missing s ys e r
+  none-after-missing t ys e (passed {s = s} l r) = none-after-missing s ys e r
+  none-after-missing t ys e (row h c g v d r) = let z = check-some v in omega arith

@@ -27,7 +27,7 @@ use Rattle.table_law.specs.Complete.{complete}
 
 -- ---- answers that accept
 
-push-accept : (us : List ℕ) (x : Answer) (ys : List ℕ) → push us x ≡ accept ys → (zs : List ℕ) × (x ≡ accept zs) × (ys ≡ us ++ zs)
+pub push-accept : (us : List ℕ) (x : Answer) (ys : List ℕ) → push us x ≡ accept ys → (zs : List ℕ) × (x ≡ accept zs) × (ys ≡ us ++ zs)
 unfolding push
 push-accept us (refuse c a) ys e = no-accept e
 push-accept us (accept zs) ys e = (zs, refl, cc)
@@ -53,7 +53,7 @@ module _ (R : Rules) where
       (λ _ e. no-accept e) (λ _ e. (let z = ltb-false i (R .points) f in omega arith, refl, cc)))
       refl
 
-  checked-accept : (f : Bool → Answer) (a h u : ℕ) (b : Bool) (i : ℕ) (c : Bool) (ys : List ℕ) → checked R f a h u b i c ≡ accept ys
+  pub checked-accept : (f : Bool → Answer) (a h u : ℕ) (b : Bool) (i : ℕ) (c : Bool) (ys : List ℕ) → checked R f a h u b i c ≡ accept ys
       → (R .passing h u (index c i) ≡ true) × (b ≡ false) × (f c ≡ accept ys)
   unfolding checked
   checked-accept f a h u b i c ys =
