@@ -34,7 +34,7 @@ Single [] = Unit {0}
 Single (b ∷ []) = Unit {0}
 Single (b ∷ c ∷ t) = (eqb b 10 ≡ false) × Single (c ∷ t)
 
-single-tail : (b : ℕ) (s : List ℕ) → Single (b ∷ s) → Single s
+pub single-tail : (b : ℕ) (s : List ℕ) → Single (b ∷ s) → Single s
 single-tail b [] h = tt
 single-tail b (c ∷ t) h = h .1
 

@@ -39,7 +39,7 @@ ends Gap = gap-not
 ends (By m d) = dif-does
 ends (Dup b) = dup-as
 
-belongs : (c : Bool) (i : ℕ) → Belongs c i (index c i)
+pub belongs : (c : Bool) (i : ℕ) → Belongs c i (index c i)
 belongs true i = last-given
 belongs false i = next-point
 

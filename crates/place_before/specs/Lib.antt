@@ -1,0 +1,4 @@
+pub mod Completes
+pub mod Fronts
+pub mod OnLine
+pub mod Lines
