@@ -2,3 +2,4 @@ pub mod Completes
 pub mod Fronts
 pub mod OnLine
 pub mod Lines
+pub mod Before

@@ -49,7 +49,7 @@ last-more : (p : ℕ) (us vs : List ℕ) → lastOr (lastOr p us) vs ≡ lastOr 
 last-more p [] vs = refl
 last-more p (u ∷ us) vs = last-more u us vs
 
-dif-owed : (w : Spot) → difBefore w ≡ true → owed w ≡ true
+pub dif-owed : (w : Spot) → difBefore w ≡ true → owed w ≡ true
 dif-owed (first c) e = no-way e
 dif-owed (after r) e = e
 

@@ -25,18 +25,8 @@ use Rattle.table_law.specs.Sound.{ends as form-ends, belongs}
 use Rattle.table_law.specs.Linewise.{NoLf}
 use Rattle.table_law.specs.WholeLine.{Done, refused, went, add, takes, does}
 use Rattle.plain_law.specs.Single.{Single, single-tail}
+use Rattle.place_on.specs.HeadOnly.{Blanks, no-blank, one-blank, HeadOnly, after-blank, a-head}
 use Rattle.place_before.specs.Fronts.{Front, head-front, value-front, end-closes}
-
--- ---- a head alone on its line so far
-
-pub data Blanks (tabs : Bool) : List ℕ → Type 0 where
-  no-blank : Blanks tabs []
-  one-blank : {b : ℕ} {g : List ℕ} → Blank tabs b → Blanks tabs g → Blanks tabs (b ∷ g)
-
--- a head, with blanks before and after it
-pub data HeadOnly (tabs : Bool) : List ℕ → Type 0 where
-  after-blank : {b : ℕ} {g : List ℕ} → Blank tabs b → HeadOnly tabs g → HeadOnly tabs (b ∷ g)
-  a-head : {h x : ℕ} {g e : List ℕ} → Head h x g e → Blanks tabs e → HeadOnly tabs g
 
 -- ---- the numbers that a value can get, and what stands in its place (01, "Refusal numbers")
 
@@ -166,6 +156,10 @@ bytes-before (b ∷ k) r g n =
 no-cr-lf : (b : ℕ) (s : List ℕ) → NoLf s → both (eqb b 13) (starts 10 s) ≡ false
 no-cr-lf b [] h = by-case (λ x. both x false ≡ false) (eqb b 13) (λ _. refl) (λ _. refl)
 no-cr-lf b (c ∷ s) h = by-case (λ x. both x (eqb c 10) ≡ false) (eqb b 13) (λ _. h .0) (λ _. refl)
+
+pub no-lf-end : (k r : List ℕ) → NoLf (k ++ r) → NoLf r
+no-lf-end [] r h = h
+no-lf-end (b ∷ k) r h = no-lf-end k r (h .1)
 
 pub bytes-all : (t : List ℕ) → NoLf t → lineLength t ≡ length t
 unfolding lineLength

@@ -215,11 +215,15 @@ module _ (R : Rules) where
   sound (b ∷ s) zero a m = steps b s a (λ n x. sound s n (suc a) x) m (kind (R .tabs) b) (kind-back (R .tabs) b)
   sound (b ∷ s) (suc n) a m = sound s n (suc a) m
 
+  -- lines that are read as ordinates after i points, the last of them p, are a body from there
+  pub body-sound : {i p : ℕ} {ys t : List ℕ} (a : ℕ) (w : Spot) → i ≤ R .points → judge R (tokens (R .tabs) t 0 a fresh) i p w ≡ accept ys → Body R i p (difBefore w) ys t
+  body-sound {i} {p} {ys} {t} a w l e = sound t 0 a fresh i p w ys l e
+
   pub read-sound : (s ys : List ℕ) → read R s ≡ accept ys → Spells R ys s
   unfolding read readLines
   read-sound s ys e =
       let z = sooner-accept (longLine true 0 s) (readLines R s) ys e in
-      record { body = sound s 0 0 fresh 0 0 (after Own) ys (omega arith) (z .1); short = short-spelled 0 s (z .0) }
+      record { body = body-sound 0 (after Own) (omega arith) (z .1); short = short-spelled 0 s (z .0) }
 
   -- no table spells two lists
   pub spells-unique : (s ys zs : List ℕ) → Spells R ys s → Spells R zs s → ys ≡ zs
