@@ -65,12 +65,12 @@ pub record Narrow (R : Rules) (x : List ℕ) : Type 0 where
   pub given : List ℕ
   pub due : Gives R kept given true
   pub tight : longest-line < length lost + length (sqzText (lastOr 0 given))
-  pub stays : CanStay R kept
+  pub kept-stays : CanStay R kept
   pub none : NoneBegins R x
 
 -- of the bytes before the place of a refusal with the number c
 pub data Before (R : Rules) (c : ℕ) (x : List ℕ) : Type 0 where
-  all-stays : CanStay R x → Before R c x
+  it-stays : CanStay R x → Before R c x
   but-full : AfterHead c → Full R x → Before R c x
   but-narrow : AfterHead c → Narrow R x → Before R c x
 
@@ -127,7 +127,7 @@ module _ (R : Rules) (W : Writable R) (kept : List ℕ) (b : Behind R kept 0 0 0
       by-case (λ _. Before R c (kept ++ k)) (ltb (b .count) (R .points))
       (λ x. let g = completes R W (b .count + 1) 0 false (let y = ltb-true (b .count) (R .points) x in omega arith) (λ y. no-way y) in
       let r = f (0 ∷ []) (g .ordinates) (63 ∷ 10 ∷ g .text) (g .text) Gap 0 (λ q. value missing gap-first (done lf)) (g .body) in
-      all-stays (line-stays false e k (63 ∷ []) (g .text) (0 ∷ g .ordinates) (omega arith) r (g .short)))
+      it-stays (line-stays false e k (63 ∷ []) (g .text) (0 ∷ g .ordinates) (omega arith) r (g .short)))
       (λ x. let y : b .count ≡ R .points = omega (arith, ltb-false (b .count) (R .points) x, b .fits) in
       let r : Body R (b .count) (b .last) (difBefore (b .spot)) [] [] = rw (y, e) end in
       but-full m (record {
@@ -145,7 +145,7 @@ module _ (R : Rules) (W : Writable R) (kept : List ℕ) (b : Behind R kept 0 0 0
       let g = completes R W (b .count) (b .last) false (b .fits) (λ y. no-way y) in
       let i : b .count ≡ b .count + 0 = omega arith in
       let r = f [] (g .ordinates) (sqz ++ 10 ∷ g .text) (g .text) Own (b .last) (λ q. value (z .3 q (10 ∷ g .text)) (check (z .2)) (done lf)) (subst (λ j. Body R j (b .last) false (g .ordinates) (g .text)) i (g .body)) in
-      all-stays (line-stays true e k sqz (g .text) (g .ordinates) (leb-true (length k + length sqz) longest-line x) r (g .short)))
+      it-stays (line-stays true e k sqz (g .text) (g .ordinates) (leb-true (length k + length sqz) longest-line x) r (g .short)))
       (λ x. let y = leb-false (length k + length sqz) longest-line x in
       but-narrow m (record {
         kept = kept;
@@ -154,7 +154,7 @@ module _ (R : Rules) (W : Writable R) (kept : List ℕ) (b : Behind R kept 0 0 0
         given = b .given;
         due = gives R kept b true e;
         tight = rw (← b .last-is) y;
-        stays = lines-stay;
+        kept-stays = lines-stay;
         none = λ t ys s. let z = comes-back R kept b ys (k ++ t) (rw (append-assoc kept k t) at s) in none-after-narrow R (b .last) h y t (z .0) (subst (λ c. Body R (b .count) (b .last) c (z .0) (k ++ t)) e (z .2)) (z .3);
       }))
 
@@ -178,7 +178,7 @@ module _ (R : Rules) (W : Writable R) (kept : List ℕ) (b : Behind R kept 0 0 0
   on-line-stays g n q (closes us j l due k r x st y o f) =
       let m = room k r x g n st q in
       let w = completes R W j l due y o in
-      (k, r, x, m .0, all-stays (line-stays (difBefore (b .spot)) refl k [] (w .text) (us ++ w .ordinates) (omega (arith, m .1)) (f (w .ordinates) (w .text) (w .body)) (w .short)))
+      (k, r, x, m .0, it-stays (line-stays (difBefore (b .spot)) refl k [] (w .text) (us ++ w .ordinates) (omega (arith, m .1)) (f (w .ordinates) (w .text) (w .body)) (w .short)))
   on-line-stays {c = c} g n q (head-only k r x st y h f) =
       let m = room k r x g n st q in
       (k, r, x, m .0, head-stays c k (difBefore (b .spot)) refl f h (m .2 y .0) (m .2 y .1))
@@ -188,7 +188,7 @@ pub before-place : (R : Rules) → Writable R → (s : List ℕ) (c z : ℕ) →
 before-place R W s c z e = stays (find R (cut s) 0 0 0 (after Own) c z (omega arith) (λ f. no-way f) (sym (read-is R s) ∙ e))
   where
     stays : Where R s c z 0 0 0 (after Own) → Before R c (take z s)
-    stays (at-start kept rest f b y) = rw (f, take-at kept rest z (omega (arith, y, b .place-is))) (all-stays (lines-stay R W kept b))
+    stays (at-start kept rest f b y) = rw (f, take-at kept rest z (omega (arith, y, b .place-is))) (it-stays (lines-stay R W kept b))
     stays (on-a-line kept t rest f b g n q) =
         let x = on-line-stays R W kept b g n q (line-fate R t (b .place) (b .count) (b .last) (b .spot) g (b .fits) (λ v. b .owes (dif-owed (b .spot) v))) in
         let k = x .0 in
@@ -199,10 +199,10 @@ before-place R W s c z e = stays (find R (cut s) 0 0 0 (after Own) c z (omega ar
         rw (y, take-at (kept ++ k) (r ++ rest) z l) (x .4)
 
 -- with any other number than 3, 5, 8, 9, 10 and 11, so with 4, 6, 7, 12, 13 and 16, all before the place can stay
-pub no-exception : (R : Rules) → Writable R → (s : List ℕ) (c z : ℕ) → read R s ≡ refuse c z → (AfterHead c → ⊥) → CanStay R (take z s)
-no-exception R W s c z e n = only (before-place R W s c z e)
+pub all-stays : (R : Rules) → Writable R → (s : List ℕ) (c z : ℕ) → read R s ≡ refuse c z → (AfterHead c → ⊥) → CanStay R (take z s)
+all-stays R W s c z e n = only (before-place R W s c z e)
   where
     only : Before R c (take z s) → CanStay R (take z s)
-    only (all-stays x) = x
+    only (it-stays x) = x
     only (but-full m x) = absurd (n m)
     only (but-narrow m x) = absurd (n m)

@@ -3,3 +3,4 @@ pub mod Fronts
 pub mod OnLine
 pub mod Lines
 pub mod Before
+pub mod Stays
