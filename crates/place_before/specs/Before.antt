@@ -198,11 +198,29 @@ before-place R W s c z e = stays (find R (cut s) 0 0 0 (after Own) c z (omega ar
         let l : length (kept ++ k) ≡ z = omega (arith, x .3, b .place-is, m, length-append k r, length-append kept k) in
         rw (y, take-at (kept ++ k) (r ++ rest) z l) (x .4)
 
--- with any other number than 3, 5, 8, 9, 10 and 11, so with 4, 6, 7, 12, 13 and 16, all before the place can stay
-pub all-stays : (R : Rules) → Writable R → (s : List ℕ) (c z : ℕ) → read R s ≡ refuse c z → (AfterHead c → ⊥) → CanStay R (take z s)
+-- the numbers that stand before a head, at one, or at a body's end or a line's start (01, "Refusal numbers"; 02, T-06)
+pub data Elsewhere : ℕ → Type 0 where
+  is-4 : Elsewhere 4
+  is-6 : Elsewhere 6
+  is-7 : Elsewhere 7
+  is-12 : Elsewhere 12
+  is-13 : Elsewhere 13
+  is-16 : Elsewhere 16
+
+-- no value gets them
+not-after-head : {c : ℕ} → Elsewhere c → AfterHead c → ⊥
+not-after-head is-4 = elim [ ]
+not-after-head is-6 = elim [ ]
+not-after-head is-7 = elim [ ]
+not-after-head is-12 = elim [ ]
+not-after-head is-13 = elim [ ]
+not-after-head is-16 = elim [ ]
+
+-- with them there is no exception
+pub all-stays : (R : Rules) → Writable R → (s : List ℕ) (c z : ℕ) → read R s ≡ refuse c z → Elsewhere c → CanStay R (take z s)
 all-stays R W s c z e n = only (before-place R W s c z e)
   where
     only : Before R c (take z s) → CanStay R (take z s)
     only (it-stays x) = x
-    only (but-full m x) = absurd (n m)
-    only (but-narrow m x) = absurd (n m)
+    only (but-full m x) = absurd (not-after-head n m)
+    only (but-narrow m x) = absurd (not-after-head n m)

@@ -19,8 +19,7 @@ use Rattle.table_write_law.specs.Lengths.{head-most}
 use Rattle.table_write_law.specs.ReadBack.{legal-takes}
 use Rattle.table_read.specs.Answers.{told, TableSays}
 use Rattle.place_before.specs.Completes.{Writable}
-use Rattle.place_before.specs.OnLine.{AfterHead}
-use Rattle.place_before.specs.Before.{CanStay, Before, before-place, all-stays}
+use Rattle.place_before.specs.Before.{CanStay, Before, before-place, Elsewhere, all-stays}
 
 module _ (f l : ℤ) (n : ℕ) where
   -- the rules that F, L and N make
@@ -64,5 +63,5 @@ module _ (f l : ℤ) (n : ℕ) (body : List ℕ) (out out' : List ℤ) (r : Refu
   before-can-stay = let z = refused-body in before-place (Ruled f l n) (legal-writable f l n (z .0)) body (r .number) (r .place) (z .1)
 
   -- with 4, 6, 7, 12, 13 and 16 there is no exception
-  pub all-can-stay : (AfterHead (r .number) → ⊥) → CanStay (Ruled f l n) (take (r .place) body)
+  pub all-can-stay : Elsewhere (r .number) → CanStay (Ruled f l n) (take (r .place) body)
   all-can-stay = let z = refused-body in all-stays (Ruled f l n) (legal-writable f l n (z .0)) body (r .number) (r .place) (z .1)
