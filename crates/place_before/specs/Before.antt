@@ -83,7 +83,7 @@ module _ (R : Rules) (kept : List ℕ) (b : Behind R kept 0 0 0 (after Own)) whe
       let e : reading R u (b .place) (b .count) (b .last) (b .spot) ≡ accept zs = rw (spelled-short s (b .place)) (body-read R r (b .place) (b .spot) refl) in
       read-sound R (kept ++ u) (b .given ++ zs) (read-is R (kept ++ u) ∙ b .law u ∙ ap (push (b .given)) e)
 
-  comes-back : (ys u : List ℕ) → Spells R ys (kept ++ u) → (zs : List ℕ) × (ys ≡ b .given ++ zs) × Body R (b .count) (b .last) (difBefore (b .spot)) zs u × Short longest-line u
+  pub comes-back : (ys u : List ℕ) → Spells R ys (kept ++ u) → (zs : List ℕ) × (ys ≡ b .given ++ zs) × Body R (b .count) (b .last) (difBefore (b .spot)) zs u × Short longest-line u
   comes-back ys u h =
       let x = reading R u (b .place) (b .count) (b .last) (b .spot) in
       let z = push-accept (b .given) x ys (sym (b .law u) ∙ sym (read-is R (kept ++ u)) ∙ complete R ys (kept ++ u) h) in

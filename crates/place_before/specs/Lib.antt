@@ -4,3 +4,4 @@ pub mod OnLine
 pub mod Lines
 pub mod Before
 pub mod Stays
+pub mod Samples
