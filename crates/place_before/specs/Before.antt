@@ -1,33 +1,52 @@
--- ALL BEFORE THE PLACE CAN STAY (01, "Refusal numbers"): a text that is refused at z has z bytes with which some table begins, two exceptions apart, which are exact. Assumes nothing.
--- `Spells` has no limit on a body's length: the table that goes on from there may be longer than a body can be.
-use mathlib.Core.Path.{_≡_, refl, sym, ap, _∙_, subst}
-use mathlib.Core.Bool.{Bool, true, false}
-use mathlib.Core.List.{List, [], _∷_, _++_, append-assoc, append-nil}
-use Prim.Native.Nat.{ℕ, suc, _+_, _≤_, _<_}
-use native.Mathlib.Omega.{arith}
-use lib.Dec.{ltb, leb}
-use lib.ListN.{length, length-append, take}
-use lib.Seq.{take-at}
-use borrow.Author.Tests.{ltb-true, ltb-false, leb-true, leb-false}
-use Rattle.terms.specs.Logic.{by-case, no-way}
+-- What is promised of the bytes before the place of a refusal (01, "Refusal numbers"): some table begins with them, or they are one of two exceptions. It defines, and proves nothing. Assumes nothing.
+-- `Spells` has no limit on a body's length: the table that begins with them may be longer than a body can be.
+use mathlib.Core.Path.{_≡_}
+use mathlib.Core.Bool.{true}
+use mathlib.Core.List.{List, [], _∷_, _++_}
+use Prim.Native.Nat.{ℕ, _+_, _≤_, _<_}
+use lib.ListN.{length}
 use Rattle.table_spec.specs.Frame.{Rules, longest-line}
-use Rattle.table_spec.specs.Values.{Form, Own, Gap, Spot, after, lastOr}
+use Rattle.table_spec.specs.Values.{lastOr}
 use Rattle.table_spec.specs.Groups.{sqzText}
-use Rattle.table_spec.specs.Reading.{Answer, refuse, accept, push, difBefore, fresh, tokens, judge, longLine, sooner, read, lineLength}
-use Rattle.table_law.specs.Spelling.{missing, Ordinate, check, gap-first, lf, done, value, Body, end, Short, over as short-over, Spells}
-use Rattle.table_law.specs.LineLengths.{spelled-short, short-spelled, sooner-accept}
-use Rattle.table_law.specs.Complete.{body-read, complete}
-use Rattle.table_law.specs.Sound.{push-accept, body-sound, read-sound}
-use Rattle.table_law.specs.WholeLine.{Done, refused, went, does, reading, read-is}
-use Rattle.plain_law.specs.Single.{Single}
-use Rattle.plain_law.specs.Lines.{cut}
+use Rattle.table_law.specs.Spelling.{Body, Short, Spells}
+use Rattle.table_write_law.specs.Tokens.{Passing}
 use Rattle.place_on.specs.HeadOnly.{HeadOnly}
-use Rattle.place_on.specs.Stuck.{none-after-full, none-after-narrow}
-use Rattle.place_before.specs.Completes.{Writable, as-sqz, short-line, completes}
-use Rattle.place_before.specs.OnLine.{AfterHead, bytes-before, bytes-all, no-lf-end, FaultIn, Onward, Stops, at-fault, at-end, Fate, closes, head-only, line-fate}
-use Rattle.place_before.specs.Lines.{WholeLines, Behind, Stopped, faulty, over-there, Where, at-start, on-a-line, dif-owed, find}
 
--- ---- what is said of the bytes x before a place
+-- ---- of which rules
+
+-- a head's text that passes for the index j, before any text. It leaves 10 of a line's 80 bytes, as many as the longest ordinate needs as SQZ
+pub record HeadFor (R : Rules) (j : ℕ) : Type 0 where
+  pub place : ℕ
+  pub text : List ℕ
+  pub fits : length text ≤ 70
+  pub passing : (s : List ℕ) → Passing R j place (text ++ s) s
+
+-- 01, "The frame of a table": at least one point, and each of them has a head
+pub record Writable (R : Rules) : Type 0 where
+  pub some-point : 1 ≤ R .points
+  pub head-for : (j : ℕ) → j < R .points → HeadFor R j
+
+-- ---- of which refusals
+
+-- the numbers that a value can get, and what stands in its place
+pub data AfterHead : ℕ → Type 0 where
+  is-3 : AfterHead 3
+  is-5 : AfterHead 5
+  is-8 : AfterHead 8
+  is-9 : AfterHead 9
+  is-10 : AfterHead 10
+  is-11 : AfterHead 11
+
+-- the others from 3 on: given before a head, at one, at a body's end or at a line's start
+pub data Elsewhere : ℕ → Type 0 where
+  is-4 : Elsewhere 4
+  is-6 : Elsewhere 6
+  is-7 : Elsewhere 7
+  is-12 : Elsewhere 12
+  is-13 : Elsewhere 13
+  is-16 : Elsewhere 16
+
+-- ---- of the bytes x
 
 -- some table begins with them
 abbrev pub CanStay : Rules → List ℕ → Type 0
@@ -37,190 +56,52 @@ CanStay R x = (t : List ℕ) × (ys : List ℕ) × Spells R ys (x ++ t)
 abbrev pub NoneBegins : Rules → List ℕ → Type 0
 NoneBegins R x = (t ys : List ℕ) → Spells R ys (x ++ t) → ⊥
 
--- lines give these points; true: a check line is due after them. So a text spells a list behind them exactly if it is a body from there, of short lines
-pub record Gives (R : Rules) (kept given : List ℕ) (due : Bool) : Type 0 where
-  pub onward : (zs u : List ℕ) → Body R (length given) (lastOr 0 given) due zs u → Short longest-line u → Spells R (given ++ zs) (kept ++ u)
-  pub back : (ys u : List ℕ) → Spells R ys (kept ++ u) → (zs : List ℕ) × (ys ≡ given ++ zs) × Body R (length given) (lastOr 0 given) due zs u × Short longest-line u
+-- whole lines: no byte, or the last one is an LF
+pub data WholeLines : List ℕ → Type 0 where
+  no-lines : WholeLines []
+  last-lf : (w : List ℕ) → WholeLines (w ++ 10 ∷ [])
 
--- the bytes are whole lines, and then blanks, a head, blanks
+-- they are whole lines and then blanks, a head, blanks: nothing but the head of a line stands before the place
 pub record HeadLost (R : Rules) (x kept lost : List ℕ) : Type 0 where
   pub bytes : x ≡ kept ++ lost
   pub lines : WholeLines kept
   pub head : HeadOnly (R .tabs) lost
 
--- THE FIRST EXCEPTION. The lines before the head are a whole table, so the head is one too many; it is blamed at its first value
+-- lines give these points, and a check line is due after them
+pub record CheckDue (R : Rules) (kept given : List ℕ) : Type 0 where
+  -- what goes on from these points, the last of them to be checked, in short lines, makes a table behind the lines
+  pub onward : (zs u : List ℕ) → Body R (length given) (lastOr 0 given) true zs u → Short longest-line u → Spells R (given ++ zs) (kept ++ u)
+  -- and nothing else does
+  pub back : (ys u : List ℕ) → Spells R ys (kept ++ u) → (zs : List ℕ) × (ys ≡ given ++ zs) × Body R (length given) (lastOr 0 given) true zs u × Short longest-line u
+
+-- THE FIRST EXCEPTION, the table was full: a head after N points is blamed at its first value
 pub record Full (R : Rules) (x : List ℕ) : Type 0 where
   pub kept : List ℕ
   pub lost : List ℕ
   pub parts : HeadLost R x kept lost
+  -- the lines before the head are a whole table
   pub ordinates : List ℕ
   pub table : Spells R ordinates kept
+  -- with the head there is none
   pub none : NoneBegins R x
 
--- THE SECOND EXCEPTION. A check line is due, and after its head the last ordinate does not fit into 80 bytes, not even as SQZ; the lines before it can stay
+-- THE SECOND EXCEPTION, the line is too narrow: after the head of a check line there is too little room for the ordinate (02, T-06)
 pub record Narrow (R : Rules) (x : List ℕ) : Type 0 where
   pub kept : List ℕ
   pub lost : List ℕ
   pub parts : HeadLost R x kept lost
+  -- the points of the lines before the head; a check is due on the last of them
   pub given : List ℕ
-  pub due : Gives R kept given true
+  pub due : CheckDue R kept given
+  -- the head, the blanks and that ordinate as SQZ, which is its shortest spelling, have more than 80 bytes
   pub tight : longest-line < length lost + length (sqzText (lastOr 0 given))
+  -- the lines before the head can stay
   pub kept-stays : CanStay R kept
+  -- with the head they cannot
   pub none : NoneBegins R x
 
--- of the bytes before the place of a refusal with the number c
+-- THE PROMISE, for the bytes before the place of a refusal with the number c
 pub data Before (R : Rules) (c : ℕ) (x : List ℕ) : Type 0 where
-  it-stays : CanStay R x → Before R c x
+  can-stay : CanStay R x → Before R c x
   but-full : AfterHead c → Full R x → Before R c x
   but-narrow : AfterHead c → Narrow R x → Before R c x
-
--- ---- lines, and what goes on from them
-
-module _ (R : Rules) (kept : List ℕ) (b : Behind R kept 0 0 0 (after Own)) where
-  goes-on : (zs u : List ℕ) → Body R (b .count) (b .last) (difBefore (b .spot)) zs u → Short longest-line u → Spells R (b .given ++ zs) (kept ++ u)
-  unfolding push sooner
-  goes-on zs u r s =
-      let e : reading R u (b .place) (b .count) (b .last) (b .spot) ≡ accept zs = rw (spelled-short s (b .place)) (body-read R r (b .place) (b .spot) refl) in
-      read-sound R (kept ++ u) (b .given ++ zs) (read-is R (kept ++ u) ∙ b .law u ∙ ap (push (b .given)) e)
-
-  pub comes-back : (ys u : List ℕ) → Spells R ys (kept ++ u) → (zs : List ℕ) × (ys ≡ b .given ++ zs) × Body R (b .count) (b .last) (difBefore (b .spot)) zs u × Short longest-line u
-  comes-back ys u h =
-      let x = reading R u (b .place) (b .count) (b .last) (b .spot) in
-      let z = push-accept (b .given) x ys (sym (b .law u) ∙ sym (read-is R (kept ++ u)) ∙ complete R ys (kept ++ u) h) in
-      let y = sooner-accept (longLine true (b .place) u) (judge R (tokens (R .tabs) u 0 (b .place) fresh) (b .count) (b .last) (b .spot)) (z .0) (z .1) in
-      (z .0, z .2, body-sound R (b .place) (b .spot) (b .fits) (y .1), short-spelled (b .place) u (y .0))
-
-  gives : (due : Bool) → difBefore (b .spot) ≡ due → Gives R kept (b .given) due
-  gives due e =
-      let n : b .count ≡ length (b .given) = omega (arith, b .count-is) in
-      let G : ℕ → ℕ → Bool → Type 0 = λ i p c.
-      ((zs u : List ℕ) → Body R i p c zs u → Short longest-line u → Spells R (b .given ++ zs) (kept ++ u))
-      × ((ys u : List ℕ) → Spells R ys (kept ++ u) → (zs : List ℕ) × (ys ≡ b .given ++ zs) × Body R i p c zs u × Short longest-line u) in
-      let z : G (length (b .given)) (lastOr 0 (b .given)) due = subst (λ c. G (length (b .given)) (lastOr 0 (b .given)) c) e (subst (λ p. G (length (b .given)) p (difBefore (b .spot))) (b .last-is)
-      (subst (λ i. G i (b .last) (difBefore (b .spot))) n (goes-on, comes-back))) in
-      record { onward = z .0; back = z .1 }
-
-full-none : (R : Rules) {i p : ℕ} {due : Bool} {k : List ℕ} → HeadOnly (R .tabs) k → (t zs : List ℕ) → i ≡ R .points → due ≡ false → Body R i p due zs (k ++ t) → ⊥
-full-none R h t zs y e r = none-after-full R h t zs (rw (y, e) at r)
-
-module _ (R : Rules) (W : Writable R) (kept : List ℕ) (b : Behind R kept 0 0 0 (after Own)) where
-  -- the last ordinate is not missing where a check line is due
-  last-there : difBefore (b .spot) ≡ true → Ordinate (b .last)
-  last-there e = b .owes (dif-owed (b .spot) e)
-
-  lines-stay : CanStay R kept
-  lines-stay =
-      let g = completes R W (b .count) (b .last) (difBefore (b .spot)) (b .fits) last-there in
-      (g .text, b .given ++ g .ordinates, goes-on R kept b (g .ordinates) (g .text) (g .body) (g .short))
-
-  -- the bytes k of a line stay, where it can be closed by w and LF
-  line-stays : (due : Bool) → difBefore (b .spot) ≡ due → (k w u ys : List ℕ) → length k + length w ≤ longest-line → Body R (b .count) (b .last) due ys (k ++ (w ++ 10 ∷ u))
-      → Short longest-line u → CanStay R (kept ++ k)
-  line-stays due e k w u ys n r s =
-      let short : Short longest-line (k ++ (w ++ 10 ∷ u)) = rw (append-assoc k w (10 ∷ u)) at (short-line (k ++ w) u longest-line (omega (arith, length-append k w, n)) s) in
-      (w ++ 10 ∷ u, b .given ++ ys, rw (append-assoc kept k (w ++ 10 ∷ u)) (goes-on R kept b ys (k ++ (w ++ 10 ∷ u)) (rw e r) short))
-
-  -- a head without a value: `?` closes its line, or the last ordinate where a check is due
-  head-stays : (c : ℕ) (k : List ℕ) (due : Bool) → difBefore (b .spot) ≡ due → Onward R (b .count) (b .last) due k → HeadOnly (R .tabs) k → AfterHead c → suc (length k) ≤ longest-line
-      → Before R c (kept ++ k)
-  head-stays c k false e f h m n =
-      by-case (λ _. Before R c (kept ++ k)) (ltb (b .count) (R .points))
-      (λ x. let g = completes R W (b .count + 1) 0 false (let y = ltb-true (b .count) (R .points) x in omega arith) (λ y. no-way y) in
-      let r = f (0 ∷ []) (g .ordinates) (63 ∷ 10 ∷ g .text) (g .text) Gap 0 (λ q. value missing gap-first (done lf)) (g .body) in
-      it-stays (line-stays false e k (63 ∷ []) (g .text) (0 ∷ g .ordinates) (omega arith) r (g .short)))
-      (λ x. let y : b .count ≡ R .points = omega (arith, ltb-false (b .count) (R .points) x, b .fits) in
-      let r : Body R (b .count) (b .last) (difBefore (b .spot)) [] [] = rw (y, e) end in
-      but-full m (record {
-        kept = kept;
-        lost = k;
-        parts = record { bytes = refl; lines = b .lines; head = h };
-        ordinates = b .given ++ [];
-        table = rw (append-nil kept) at (goes-on R kept b [] [] r short-over);
-        none = λ t ys s. let z = comes-back R kept b ys (k ++ t) (rw (append-assoc kept k t) at s) in full-none R h t (z .0) y e (z .2);
-      }))
-  head-stays c k true e f h m n =
-      let sqz = sqzText (b .last) in
-      by-case (λ _. Before R c (kept ++ k)) (leb (length k + length sqz) longest-line)
-      (λ x. let z = as-sqz (b .last) (last-there e) in
-      let g = completes R W (b .count) (b .last) false (b .fits) (λ y. no-way y) in
-      let i : b .count ≡ b .count + 0 = omega arith in
-      let r = f [] (g .ordinates) (sqz ++ 10 ∷ g .text) (g .text) Own (b .last) (λ q. value (z .3 q (10 ∷ g .text)) (check (z .2)) (done lf)) (subst (λ j. Body R j (b .last) false (g .ordinates) (g .text)) i (g .body)) in
-      it-stays (line-stays true e k sqz (g .text) (g .ordinates) (leb-true (length k + length sqz) longest-line x) r (g .short)))
-      (λ x. let y = leb-false (length k + length sqz) longest-line x in
-      but-narrow m (record {
-        kept = kept;
-        lost = k;
-        parts = record { bytes = refl; lines = b .lines; head = h };
-        given = b .given;
-        due = gives R kept b true e;
-        tight = rw (← b .last-is) y;
-        kept-stays = lines-stay;
-        none = λ t ys s. let z = comes-back R kept b ys (k ++ t) (rw (append-assoc kept k t) at s) in none-after-narrow R (b .last) h y t (z .0) (subst (λ c. Body R (b .count) (b .last) c (z .0) (k ++ t)) e (z .2)) (z .3);
-      }))
-
-  -- where a line stops, there is room for what closes it
-  room : {c z e : ℕ} {t : List ℕ} {d : Done} (k r : List ℕ) → t ≡ k ++ r → Single t → lineLength t ≤ longest-line → Stops R e d r → Stopped c z e t d
-      → (z + length r ≡ e) × (length k ≤ longest-line) × (FaultIn d → AfterHead c × (suc (length k) ≤ longest-line))
-  room k r x g n (at-fault h m) faulty =
-      let y = bytes-before k r (rw x at g) m in
-      let v : lineLength (k ++ r) ≤ longest-line = rw x at n in
-      (h, omega (arith, y, v), λ q. (q, omega (arith, y, v)))
-  room {t = t} k r x g n (at-end h) (over-there m e) =
-      let y = h (no-lf-end k r (rw x at m)) in
-      let v = bytes-all t m in
-      let q = ap length x in
-      let p = ap length y in
-      (omega (arith, e, p), omega (arith, v, q, n, length-append k r), λ f. absurd f)
-
-  -- what stands before the place on its line
-  on-line-stays : {c z e : ℕ} {t : List ℕ} {d : Done} → Single t → lineLength t ≤ longest-line → Stopped c z e t d → Fate R e (b .count) (b .last) (difBefore (b .spot)) t d
-      → (k : List ℕ) × (r : List ℕ) × (t ≡ k ++ r) × (z + length r ≡ e) × Before R c (kept ++ k)
-  on-line-stays g n q (closes us j l due k r x st y o f) =
-      let m = room k r x g n st q in
-      let w = completes R W j l due y o in
-      (k, r, x, m .0, it-stays (line-stays (difBefore (b .spot)) refl k [] (w .text) (us ++ w .ordinates) (omega (arith, m .1)) (f (w .ordinates) (w .text) (w .body)) (w .short)))
-  on-line-stays {c = c} g n q (head-only k r x st y h f) =
-      let m = room k r x g n st q in
-      (k, r, x, m .0, head-stays c k (difBefore (b .spot)) refl f h (m .2 y .0) (m .2 y .1))
-
--- THE THEOREM, of what a body says: for rules whose heads can be written, and every refusal
-pub before-place : (R : Rules) → Writable R → (s : List ℕ) (c z : ℕ) → read R s ≡ refuse c z → Before R c (take z s)
-before-place R W s c z e = stays (find R (cut s) 0 0 0 (after Own) c z (omega arith) (λ f. no-way f) (sym (read-is R s) ∙ e))
-  where
-    stays : Where R s c z 0 0 0 (after Own) → Before R c (take z s)
-    stays (at-start kept rest f b y) = rw (f, take-at kept rest z (omega (arith, y, b .place-is))) (it-stays (lines-stay R W kept b))
-    stays (on-a-line kept t rest f b g n q) =
-        let x = on-line-stays R W kept b g n q (line-fate R t (b .place) (b .count) (b .last) (b .spot) g (b .fits) (λ v. b .owes (dif-owed (b .spot) v))) in
-        let k = x .0 in
-        let r = x .1 in
-        let y : s ≡ (kept ++ k) ++ (r ++ rest) = f ∙ ap (λ (v : List ℕ). kept ++ (v ++ rest)) (x .2) ∙ ap (λ (v : List ℕ). kept ++ v) (append-assoc k r rest) ∙ sym (append-assoc kept k (r ++ rest)) in
-        let m = ap length (x .2) in
-        let l : length (kept ++ k) ≡ z = omega (arith, x .3, b .place-is, m, length-append k r, length-append kept k) in
-        rw (y, take-at (kept ++ k) (r ++ rest) z l) (x .4)
-
--- the numbers that stand before a head, at one, or at a body's end or a line's start (01, "Refusal numbers"; 02, T-06)
-pub data Elsewhere : ℕ → Type 0 where
-  is-4 : Elsewhere 4
-  is-6 : Elsewhere 6
-  is-7 : Elsewhere 7
-  is-12 : Elsewhere 12
-  is-13 : Elsewhere 13
-  is-16 : Elsewhere 16
-
--- no value gets them
-not-after-head : {c : ℕ} → Elsewhere c → AfterHead c → ⊥
-not-after-head is-4 = elim [ ]
-not-after-head is-6 = elim [ ]
-not-after-head is-7 = elim [ ]
-not-after-head is-12 = elim [ ]
-not-after-head is-13 = elim [ ]
-not-after-head is-16 = elim [ ]
-
--- with them there is no exception
-pub all-stays : (R : Rules) → Writable R → (s : List ℕ) (c z : ℕ) → read R s ≡ refuse c z → Elsewhere c → CanStay R (take z s)
-all-stays R W s c z e n = only (before-place R W s c z e)
-  where
-    only : Before R c (take z s) → CanStay R (take z s)
-    only (it-stays x) = x
-    only (but-full m x) = absurd (not-after-head n m)
-    only (but-narrow m x) = absurd (not-after-head n m)

@@ -1,5 +1,5 @@
 -- Every state between lines can be completed to a table: its check line if one is due, then a line with a missing ordinate for each point still to come (01, "Spelling of a body"). Assumes nothing.
-use mathlib.Core.Path.{_≡_, refl, sym, _∙_}
+use mathlib.Core.Path.{_≡_, refl, sym}
 use mathlib.Core.Bool.{Bool, true, false}
 use mathlib.Core.List.{List, [], _∷_, _++_, append-assoc}
 use Prim.Native.Nat.{ℕ, zero, suc, _+_, _-_, _≤_, _<_}
@@ -15,20 +15,9 @@ use Rattle.table_spec.specs.Groups.{sqzText}
 use Rattle.table_law.specs.Spelling.{Spelled, missing, Ordinate, Sized, check, gap-first, lf, done, value, own-not, gap-not, last-given, next-point, Body, end, row}
 use Rattle.table_law.specs.Spelling.{Short, over as short-over, lf as short-lf, byte}
 use Rattle.table_write_law.specs.Numbers.{Spellable, numeral-spelled}
-use Rattle.table_write_law.specs.Tokens.{Passing, by-sign}
+use Rattle.table_write_law.specs.Tokens.{by-sign}
 use Rattle.table_write_law.specs.Lengths.{sqz-most}
-
--- a head's text that passes for the index j. It leaves 10 of a line's 80 bytes, as many as an ordinate needs as SQZ
-pub record HeadFor (R : Rules) (j : ℕ) : Type 0 where
-  pub place : ℕ
-  pub text : List ℕ
-  pub fits : length text ≤ 70
-  pub passing : (s : List ℕ) → Passing R j place (text ++ s) s
-
--- 01, "The frame of a table": at least one point, and each of them has a head
-pub record Writable (R : Rules) : Type 0 where
-  pub some-point : 1 ≤ R .points
-  pub head-for : (j : ℕ) → j < R .points → HeadFor R j
+use Rattle.place_before.specs.Before.{Writable}
 
 -- the text t is the ordinate p, of some sign and size, before every text, after a blank or not
 abbrev pub TextOf : ℕ → List ℕ → Type 0

@@ -4,7 +4,6 @@ use mathlib.Core.Bool.{Bool, true, false}
 use mathlib.Core.List.{List, [], _∷_, _++_, append-assoc, append-nil}
 use Prim.Native.Nat.{ℕ, suc, _+_, _≤_}
 use native.Mathlib.Omega.{arith}
-use native.Mathlib.Nat.{add-zero}
 use lib.Dec.{ltb, leb}
 use lib.ListN.{length, length-append}
 use borrow.Author.Tests.{ltb-false, leb-true}
@@ -18,7 +17,8 @@ use Rattle.table_law.specs.Meaning.{Said, said}
 use Rattle.table_law.specs.Linewise.{NoLf}
 use Rattle.table_law.specs.WholeLine.{Done, refused, went, add, resume, takes, does, line-does, reading, line-then, last-line}
 use Rattle.plain_law.specs.Single.{Single}
-use Rattle.plain_law.specs.Lines.{Cut, no-line, end-line, whole-line, cut, single-whole, single-last}
+use Rattle.plain_law.specs.Lines.{Cut, no-line, end-line, whole-line, single-whole, single-last}
+use Rattle.place_before.specs.Before.{WholeLines, no-lines, last-lf}
 use Rattle.place_before.specs.OnLine.{owed, stands-owed}
 
 -- ---- refusals
@@ -85,11 +85,6 @@ module _ (R : Rules) where
   does-goes (line r) i p w l o = does-goes r i p w l o
 
 -- ---- whole lines
-
--- no byte, or the last one is an LF
-pub data WholeLines : List ℕ → Type 0 where
-  no-lines : WholeLines []
-  last-lf : (w : List ℕ) → WholeLines (w ++ 10 ∷ [])
 
 more-lines : (w : List ℕ) {s : List ℕ} → WholeLines s → WholeLines (w ++ 10 ∷ s)
 more-lines w no-lines = last-lf w

@@ -1,5 +1,5 @@
 -- Where a line stops, at its fault or at its end: what stands before that can be closed by an LF, if a value does; else it is blanks, or a head with blanks (01, "Refusal numbers"). Assumes nothing.
-use mathlib.Core.Path.{_≡_, refl, sym, ap, _∙_, subst}
+use mathlib.Core.Path.{_≡_, refl, sym, ap, _∙_}
 use mathlib.Core.Bool.{Bool, true, false}
 use mathlib.Core.List.{List, [], _∷_, _++_, append-assoc}
 use Prim.Native.Nat.{ℕ, zero, suc, _+_, _-_, _≤_}
@@ -26,17 +26,10 @@ use Rattle.table_law.specs.Linewise.{NoLf}
 use Rattle.table_law.specs.WholeLine.{Done, refused, went, add, takes, does}
 use Rattle.plain_law.specs.Single.{Single, single-tail}
 use Rattle.place_on.specs.HeadOnly.{Blanks, no-blank, one-blank, HeadOnly, after-blank, a-head}
+use Rattle.place_before.specs.Before.{AfterHead, is-3, is-5, is-8, is-9, is-10, is-11}
 use Rattle.place_before.specs.Fronts.{Front, head-front, value-front, end-closes}
 
--- ---- the numbers that a value can get, and what stands in its place (01, "Refusal numbers")
-
-pub data AfterHead : ℕ → Type 0 where
-  is-3 : AfterHead 3
-  is-5 : AfterHead 5
-  is-8 : AfterHead 8
-  is-9 : AfterHead 9
-  is-10 : AfterHead 10
-  is-11 : AfterHead 11
+-- ---- the number of a value that is refused
 
 abbrev Numbered : Says → Type 0
 Numbered (adds us f) = Unit {0}

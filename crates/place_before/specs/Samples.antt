@@ -1,7 +1,7 @@
 -- Both exceptions to "all before the place can stay" do arise: small bodies, by computation, and that no table begins with their bytes before the place. Assumes nothing.
 -- Frame F = 0, L = 3000, N = 4; `/` stands for LF. What is read does not hang on the slice, so `read` is enough.
 use mathlib.Core.Path.{_≡_, refl}
-use mathlib.Core.Bool.{Bool, false, true}
+use mathlib.Core.Bool.{false}
 use mathlib.Core.List.{List, [], _∷_, _++_, map}
 use Prim.Native.Nat.{ℕ, zero, suc, _+_, _*_, _<_}
 use native.Mathlib.Omega.{arith}
@@ -19,12 +19,13 @@ use Rattle.table_spec.specs.Groups.{sqzText}
 use Rattle.table_spec.specs.Reading.{Answer, refuse, accept, read, judge, tokens, comment, ending, scaled, pointed, thousandths, opening, inside, step, stop}
 use Rattle.table_spec.specs.Reading.{again, says, push, took, checked, finish, readLines, lineLength, longLine, sooner}
 use Rattle.table_spec.specs.Samples.{padded}
-use Rattle.table_law.specs.Spelling.{Head, ones, whole, unsigned, Spells}
+use Rattle.table_law.specs.Spelling.{Head, ones, whole, unsigned}
 use Rattle.table_law.specs.WholeLine.{does, reading, line-then}
-use Rattle.place_on.specs.HeadOnly.{Blanks, no-blank, one-blank, HeadOnly, a-head}
+use Rattle.place_on.specs.HeadOnly.{Blanks, no-blank, one-blank, a-head}
 use Rattle.place_on.specs.Stuck.{none-after-full, none-after-narrow}
-use Rattle.place_before.specs.Lines.{last-lf, Behind}
-use Rattle.place_before.specs.Before.{NoneBegins, comes-back}
+use Rattle.place_before.specs.Before.{last-lf, NoneBegins}
+use Rattle.place_before.specs.Lines.{Behind}
+use Rattle.place_before.specs.Stays.{comes-back}
 
 abbrev four : Rules
 four = rules 10000000000 10000003000 4
