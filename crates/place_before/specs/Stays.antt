@@ -105,7 +105,7 @@ module _ (R : Rules) (W : Writable R) (kept : List ℕ) (b : Behind R kept 0 0 0
         parts = record { bytes = refl; lines = b .lines; head = h };
         given = b .given;
         due = check-due R kept b e;
-        tight = rw (← b .last-is) y;
+        tight = rw (← b .last-is) (omega (arith, y));
         kept-stays = lines-stay;
         none = λ t ys s. let z = comes-back R kept b ys (k ++ t) (rw (append-assoc kept k t) at s) in none-after-narrow R (b .last) h y t (z .0) (subst (λ c. Body R (b .count) (b .last) c (z .0) (k ++ t)) e (z .2)) (z .3);
       }))
