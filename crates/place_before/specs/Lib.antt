@@ -1,7 +1,9 @@
 pub mod Before
 pub mod Completes
 pub mod Fronts
-pub mod OnLine
+pub mod ValueLaws
+pub mod OneLine
+pub mod LineStops
 pub mod Lines
 pub mod Stays
 pub mod Legal

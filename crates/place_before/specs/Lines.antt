@@ -7,7 +7,7 @@ use native.Mathlib.Omega.{arith}
 use lib.Dec.{ltb, leb}
 use lib.ListN.{length, length-append}
 use borrow.Author.Tests.{ltb-false, leb-true}
-use Rattle.terms.specs.Logic.{pick, by-case, no-way}
+use Rattle.terms.specs.Logic.{pick, by-case}
 use Rattle.table_spec.specs.Frame.{Rules, longest-line}
 use Rattle.table_spec.specs.Values.{Value, Form, Spot, first, after, isDif, lastOr, index}
 use Rattle.table_spec.specs.Reading.{Tokens, over, fault, head, value, line, fresh, tokens, Says, adds, refuses, says, Answer, refuse, accept, push, bare, difBefore, finish, lineLength}
@@ -19,7 +19,7 @@ use Rattle.table_law.specs.WholeLine.{Done, refused, went, add, resume, takes, 
 use Rattle.plain_law.specs.Single.{Single}
 use Rattle.plain_law.specs.Lines.{Cut, no-line, end-line, whole-line, single-whole, single-last}
 use Rattle.place_before.specs.Before.{WholeLines, no-lines, last-lf}
-use Rattle.place_before.specs.OnLine.{owed, stands-owed}
+use Rattle.place_before.specs.ValueLaws.{owed, stands-owed, dif-owed}
 
 -- ---- refusals
 
@@ -48,10 +48,6 @@ finish-place R a i b c z =
 last-more : (p : ℕ) (us vs : List ℕ) → lastOr (lastOr p us) vs ≡ lastOr p (us ++ vs)
 last-more p [] vs = refl
 last-more p (u ∷ us) vs = last-more u us vs
-
-pub dif-owed : (w : Spot) → difBefore w ≡ true → owed w ≡ true
-dif-owed (first c) e = no-way e
-dif-owed (after r) e = e
 
 module _ (R : Rules) where
   -- from i points, the last of them p: how many there are then, and the last, which is not missing where a check is due

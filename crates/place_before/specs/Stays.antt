@@ -22,10 +22,12 @@ use Rattle.plain_law.specs.Single.{Single}
 use Rattle.plain_law.specs.Lines.{cut}
 use Rattle.place_on.specs.HeadOnly.{HeadOnly}
 use Rattle.place_on.specs.Stuck.{none-after-full, none-after-narrow}
-use Rattle.place_before.specs.Before.{Writable, AfterHead, Elsewhere, is-4, is-6, is-7, is-12, is-13, is-16, CanStay, CheckDue, Before, can-stay, but-full, but-narrow}
+use Rattle.place_before.specs.Before.{Writable, AfterHead, Elsewhere, is-4, is-6, is-7, is-12, is-13, is-16, CanStay, NoneBegins, CheckDue, Before, can-stay, but-full, but-narrow}
 use Rattle.place_before.specs.Completes.{as-sqz, short-line, completes}
-use Rattle.place_before.specs.OnLine.{bytes-before, bytes-all, no-lf-end, FaultIn, Onward, Stops, at-fault, at-end, Fate, closes, head-only, line-fate}
-use Rattle.place_before.specs.Lines.{Behind, Stopped, faulty, over-there, Where, at-start, on-a-line, dif-owed, find}
+use Rattle.place_before.specs.ValueLaws.{dif-owed}
+use Rattle.place_before.specs.OneLine.{bytes-before, bytes-all, no-lf-end}
+use Rattle.place_before.specs.LineStops.{FaultIn, Onward, Stops, at-fault, at-end, Fate, closes, head-only, line-fate}
+use Rattle.place_before.specs.Lines.{Behind, Stopped, faulty, over-there, Where, at-start, on-a-line, find}
 
 -- ---- lines, and what goes on from them
 
@@ -43,6 +45,10 @@ module _ (R : Rules) (kept : List ℕ) (b : Behind R kept 0 0 0 (after Own)) whe
       let y = sooner-accept (longLine true (b .place) u) (judge R (tokens (R .tabs) u 0 (b .place) fresh) (b .count) (b .last) (b .spot)) (z .0) (z .1) in
       (z .0, z .2, body-sound R (b .place) (b .spot) (b .fits) (y .1), short-spelled (b .place) u (y .0))
 
+  -- no table begins with them and the bytes k, if no text goes on from there
+  none-begins : (k : List ℕ) → ((t zs : List ℕ) → Body R (b .count) (b .last) (difBefore (b .spot)) zs (k ++ t) → Short longest-line (k ++ t) → ⊥) → NoneBegins R (kept ++ k)
+  none-begins k f t ys s = let z = comes-back ys (k ++ t) (rw (append-assoc kept k t) at s) in f t (z .0) (z .2) (z .3)
+
   -- the same by the points alone, where a check line is due
   check-due : difBefore (b .spot) ≡ true → CheckDue R kept (b .given)
   check-due e = due (b .count) (b .last) (difBefore (b .spot)) (omega (arith, b .count-is)) (b .last-is) e goes-on comes-back
@@ -51,9 +57,6 @@ module _ (R : Rules) (kept : List ℕ) (b : Behind R kept 0 0 0 (after Own)) whe
           → ((zs u : List ℕ) → Body R i p c zs u → Short longest-line u → Spells R (b .given ++ zs) (kept ++ u))
           → ((ys u : List ℕ) → Spells R ys (kept ++ u) → (zs : List ℕ) × (ys ≡ b .given ++ zs) × Body R i p c zs u × Short longest-line u) → CheckDue R kept (b .given)
       due i p c x y z f g = record { onward = rw (x, y, z) at f; back = rw (x, y, z) at g }
-
-full-none : (R : Rules) {i p : ℕ} {due : Bool} {k : List ℕ} → HeadOnly (R .tabs) k → (t zs : List ℕ) → i ≡ R .points → due ≡ false → Body R i p due zs (k ++ t) → ⊥
-full-none R h t zs y e r = none-after-full R h t zs (rw (y, e) at r)
 
 module _ (R : Rules) (W : Writable R) (kept : List ℕ) (b : Behind R kept 0 0 0 (after Own)) where
   -- the last ordinate is not missing where a check line is due
@@ -88,7 +91,7 @@ module _ (R : Rules) (W : Writable R) (kept : List ℕ) (b : Behind R kept 0 0 0
         parts = record { bytes = refl; lines = b .lines; head = h };
         ordinates = b .given ++ [];
         table = rw (append-nil kept) at (goes-on R kept b [] [] r short-over);
-        none = λ t ys s. let z = comes-back R kept b ys (k ++ t) (rw (append-assoc kept k t) at s) in full-none R h t (z .0) y e (z .2);
+        none = none-begins R kept b k (λ t zs r _. none-after-full R h t zs (rw (y, e) at r));
       }))
   head-stays c k true e f h m n =
       let sqz = sqzText (b .last) in
@@ -96,8 +99,9 @@ module _ (R : Rules) (W : Writable R) (kept : List ℕ) (b : Behind R kept 0 0 0
       (λ x. let z = as-sqz (b .last) (last-there e) in
       let g = completes R W (b .count) (b .last) false (b .fits) (λ y. no-way y) in
       let i : b .count ≡ b .count + 0 = omega arith in
-      let r = f [] (g .ordinates) (sqz ++ 10 ∷ g .text) (g .text) Own (b .last) (λ q. value (z .3 q (10 ∷ g .text)) (check (z .2)) (done lf)) (subst (λ j. Body R j (b .last) false (g .ordinates) (g .text)) i (g .body)) in
-      can-stay (line-stays true e k sqz (g .text) (g .ordinates) (leb-true (length k + length sqz) longest-line x) r (g .short)))
+      let r = subst (λ j. Body R j (b .last) false (g .ordinates) (g .text)) i (g .body) in
+      let v = f [] (g .ordinates) (sqz ++ 10 ∷ g .text) (g .text) Own (b .last) (λ q. value (z .3 q (10 ∷ g .text)) (check (z .2)) (done lf)) r in
+      can-stay (line-stays true e k sqz (g .text) (g .ordinates) (leb-true (length k + length sqz) longest-line x) v (g .short)))
       (λ x. let y = leb-false (length k + length sqz) longest-line x in
       but-narrow m (record {
         kept = kept;
@@ -107,7 +111,7 @@ module _ (R : Rules) (W : Writable R) (kept : List ℕ) (b : Behind R kept 0 0 0
         due = check-due R kept b e;
         tight = rw (← b .last-is) (omega (arith, y));
         kept-stays = lines-stay;
-        none = λ t ys s. let z = comes-back R kept b ys (k ++ t) (rw (append-assoc kept k t) at s) in none-after-narrow R (b .last) h y t (z .0) (subst (λ c. Body R (b .count) (b .last) c (z .0) (k ++ t)) e (z .2)) (z .3);
+        none = none-begins R kept b k (λ t zs r s. none-after-narrow R (b .last) h y t zs (rw e at r) s);
       }))
 
   -- where a line stops, there is room for what closes it

@@ -1,23 +1,23 @@
--- Where a line stops, at its fault or at its end: what stands before that can be closed by an LF, if a value does; else it is blanks, or a head with blanks (01, "Refusal numbers"). Assumes nothing.
+-- Where a line stops, at its fault or at its end: what stands before that can be closed by an LF, unless it is a head without a value (01, "Refusal numbers"). Assumes nothing.
 use mathlib.Core.Path.{_≡_, refl, sym, ap, _∙_}
 use mathlib.Core.Bool.{Bool, true, false}
 use mathlib.Core.List.{List, [], _∷_, _++_, append-assoc}
-use Prim.Native.Nat.{ℕ, zero, suc, _+_, _-_, _≤_}
+use Prim.Native.Nat.{ℕ, zero, suc, _+_, _≤_}
 use native.Mathlib.Omega.{arith}
-use lib.Dec.{ltb, leb, eqb}
+use lib.Dec.{leb}
 use lib.ListN.{length, length-append, drop}
-use borrow.Author.Tests.{leb-true, eqb-true}
-use Rattle.terms.specs.Logic.{pick, both, by-case, zero-one, no-way}
+use borrow.Author.Tests.{leb-true}
+use Rattle.terms.specs.Logic.{pick, by-case, zero-one, no-way}
 use Rattle.alphabet_spec.specs.Kinds.{Blank}
 use Rattle.alphabet_spec.specs.Digits.{Run, long, run, digits, some}
 use Rattle.alphabet_spec.specs.Bytes.{Byte, digit, lead, sign, quest, blank, point, lf, cr, dollar, other, kind}
 use Rattle.alphabet_spec.specs.KindLaws.{Back, kind-back}
 use Rattle.table_spec.specs.Frame.{Rules}
-use Rattle.table_spec.specs.Values.{Value, own, gap, by, times, Form, Own, Gap, By, Dup, isDif, Spot, first, after, ordinate, moved, copies, lastOr, room, valueOf, index, headed-at}
-use Rattle.table_spec.specs.Reading.{Tokens, over, fault, HeadDigits, no-head, sized, value, line, Ending, ends as ends-in, none as no-end, ending, thousandths, starts, Mode, fresh, inner, Rest, ended}
-use Rattle.table_spec.specs.Reading.{headed, valued, opening, inside, step, stop, tokens, Says, adds, refuses, inRange, allIn, again, says, bare, difBefore, lineLength}
-use Rattle.table_law.specs.Spelling.{Head, Spelled, missing, Ordinate, Steps, no-step, one-step, Stands, check, own-first, own-after, gap-first, gap-after, dif-after, dup-own, dup-gap, dup-dif}
-use Rattle.table_law.specs.Spelling.{Comment, cut, ends, any, LineEnd, over as end-over, lf as end-lf, cr-lf, comment as end-comment, Line, done, blank as with-blank, value as with-value, Body, indent, passed, row}
+use Rattle.table_spec.specs.Values.{Value, own, gap, Form, isDif, Spot, first, after, lastOr, room, valueOf, index, headed-at}
+use Rattle.table_spec.specs.Reading.{Tokens, over, fault, HeadDigits, no-head, sized, value, line, Ending, ends as ends-in, none as no-end, ending, thousandths, Mode, fresh, inner, Rest}
+use Rattle.table_spec.specs.Reading.{ended, headed, valued, opening, inside, step, stop, tokens, Says, adds, refuses, says, bare, difBefore, lineLength}
+use Rattle.table_law.specs.Spelling.{Head, Spelled, missing, Ordinate, Stands, LineEnd, over as end-over, lf as end-lf, cr-lf, Line, done, blank as with-blank, value as with-value}
+use Rattle.table_law.specs.Spelling.{Body, indent, passed, row}
 use Rattle.table_law.specs.Heads.{HeadIs, unsigned-is, signed-is as signed-head}
 use Rattle.table_law.specs.Tokens.{EndIs, ending-is, ValueIs, packed-is, plain-is, signed-is}
 use Rattle.table_law.specs.Meaning.{Said, said}
@@ -26,146 +26,15 @@ use Rattle.table_law.specs.Linewise.{NoLf}
 use Rattle.table_law.specs.WholeLine.{Done, refused, went, add, takes, does}
 use Rattle.plain_law.specs.Single.{Single, single-tail}
 use Rattle.place_on.specs.HeadOnly.{Blanks, no-blank, one-blank, HeadOnly, after-blank, a-head}
-use Rattle.place_before.specs.Before.{AfterHead, is-3, is-5, is-8, is-9, is-10, is-11}
+use Rattle.place_before.specs.Before.{AfterHead, is-3, is-5, is-11}
 use Rattle.place_before.specs.Fronts.{Front, head-front, value-front, end-closes}
-
--- ---- the number of a value that is refused
-
-abbrev Numbered : Says → Type 0
-Numbered (adds us f) = Unit {0}
-Numbered (refuses n) = AfterHead n
-
-either : (t : Bool) (x y : Says) → Numbered x → Numbered y → Numbered (pick t x y)
-either true x y h k = h
-either false x y h k = k
-
-again-numbered : (r : Form) (n p : ℕ) → Numbered (again r n p)
-unfolding again
-again-numbered Own n p = tt
-again-numbered Gap n p = tt
-again-numbered (By m d) n p = either (allIn (copies n (By m d) p)) _ (refuses 9) tt is-9
-again-numbered (Dup b) n p = is-8
-
-numbered : (w : Spot) (p : ℕ) (x : Value) → Numbered (says w p x)
-unfolding says
-numbered (first true) p (own m v) = either (leb v 2147483647) _ (refuses 9) (either (eqb (ordinate m v) p) (adds [] Own) (refuses 10) tt is-10) is-9
-numbered (first false) p (own m v) = either (leb v 2147483647) (adds (ordinate m v ∷ []) Own) (refuses 9) tt is-9
-numbered (after r) p (own m v) = either (leb v 2147483647) (adds (ordinate m v ∷ []) Own) (refuses 9) tt is-9
-numbered (first true) p gap = is-10
-numbered (first false) p gap = tt
-numbered (after r) p gap = tt
-numbered (first c) p (by m d) = is-8
-numbered (after r) p (by m d) = either (eqb p 0) (refuses 8) _ is-8 (either (inRange (moved m d p)) (adds (moved m d p ∷ []) (By m d)) (refuses 9) tt is-9)
-numbered (first c) p (times n) = is-8
-numbered (after r) p (times n) = either (ltb n 2) (refuses 8) _ is-8 (again-numbered r (n - 1) p)
-
--- ---- the last ordinate is not missing where a check is due, or was
-
-abbrev pub owed : Spot → Bool
-owed (first c) = c
-owed (after r) = isDif r
-
-steps-end : {m : Bool} {d n p e : ℕ} {us : List ℕ} → Steps m d n p us e → Ordinate p → Ordinate e
-steps-end no-step o = o
-steps-end (one-step s h r) o = steps-end r h
-
-pub stands-owed : {w : Spot} {p e : ℕ} {x : Value} {us : List ℕ} {f : Form} → Stands w p x us f e → (owed w ≡ true → Ordinate p) → isDif f ≡ true → Ordinate e
-stands-owed (check h) o e = no-way e
-stands-owed (own-first h) o e = no-way e
-stands-owed (own-after h) o e = no-way e
-stands-owed gap-first o e = no-way e
-stands-owed gap-after o e = no-way e
-stands-owed (dif-after l s h) o e = h
-stands-owed (dup-own h) o e = no-way e
-stands-owed (dup-gap h) o e = no-way e
-stands-owed (dup-dif h r) o e = steps-end r (o refl)
-
--- ---- the end of a text of one line
-
-none-left : (b : ℕ) (s : List ℕ) → Single (b ∷ s) → eqb b 10 ≡ true → s ≡ []
-none-left b [] g e = refl
-none-left b (c ∷ t) g e = no-way (sym (g .0) ∙ e)
-
-comment-last : {t s : List ℕ} → Comment t s → Single t → s ≡ []
-comment-last cut g = refl
-comment-last (ends {s = s}) g = none-left 10 s g refl
-comment-last (any {b = b} {t = t} h r) g = comment-last r (single-tail b t g)
-
-end-last : {t s : List ℕ} → LineEnd t s → Single t → s ≡ []
-end-last end-over g = refl
-end-last (end-lf {s = s}) g = none-left 10 s g refl
-end-last (cr-lf {s = s}) g = none-left 10 s (g .1) refl
-end-last (end-comment {t = t} r) g = comment-last r (single-tail 36 t (g .1))
-
-no-cons : {A : Type 0} {b : ℕ} {s : List ℕ} → b ∷ s ≡ [] → A
-no-cons e = let n = ap length e in absurd (omega (arith, n))
-
-nothing-left : (tabs : Bool) (s : List ℕ) (n a : ℕ) → drop n s ≡ [] → (c : ℕ) × (tokens tabs s n a fresh ≡ over c)
-unfolding tokens stop
-nothing-left tabs [] n a e = (a, refl)
-nothing-left tabs (b ∷ s) zero a e = no-cons e
-nothing-left tabs (b ∷ s) (suc n) a e = nothing-left tabs s n (suc a) e
-
--- a byte is one of its line, or is its end
-data Begins : ℕ → List ℕ → Type 0 where
-  lf-only : Begins 10 []
-  cr-lf-only : Begins 13 (10 ∷ [])
-  counts : {b : ℕ} {s : List ℕ} → lineLength (b ∷ s) ≡ suc (lineLength s) → Begins b s
-
-cr-begins : (b : ℕ) (s : List ℕ) → Single (b ∷ s) → eqb b 10 ≡ false → b ≡ 13 → Begins b s
-unfolding lineLength
-cr-begins b [] g n e = counts {b = b} {s = []} (rw (n, e) refl)
-cr-begins b (c ∷ s) g n e =
-    by-case (λ t. eqb c 10 ≡ t → Begins b (c ∷ s)) (eqb c 10)
-    (λ _ f. rw (e, eqb-true c 10 f, none-left c s (g .1) f) cr-lf-only) (λ _ f. counts {b = b} {s = c ∷ s} (rw (n, e, f) refl)) refl
-
-begins : (b : ℕ) (s : List ℕ) → Single (b ∷ s) → Begins b s
-unfolding lineLength
-begins b s g =
-    by-case (λ t. eqb b 10 ≡ t → Begins b s) (eqb b 10) (λ _ e. rw (eqb-true b 10 e, none-left b s g e) lf-only)
-    (λ _ n. by-case (λ t. eqb b 13 ≡ t → Begins b s) (eqb b 13) (λ _ e. cr-begins b s g n (eqb-true b 13 e)) (λ _ e. counts {b = b} {s = s} (rw (n, e) refl)) refl) refl
-
--- bytes before one of the line are bytes of the line
-empty-before : (k r : List ℕ) → [] ≡ k ++ r → 1 ≤ lineLength r → ⊥
-unfolding lineLength
-empty-before [] r e n = let z : 1 ≤ lineLength [] = rw (sym e) at n in omega arith
-empty-before (c ∷ k) r e n = no-cons (sym e)
-
-counted : {b : ℕ} {s : List ℕ} → Begins b s → (k r : List ℕ) → s ≡ k ++ r → 1 ≤ lineLength r → lineLength (b ∷ s) ≡ suc (lineLength s)
-unfolding lineLength
-counted lf-only k r e n = absurd (empty-before k r e n)
-counted cr-lf-only [] r e n = let z : 1 ≤ lineLength (10 ∷ []) = rw (sym e) at n in absurd (omega arith)
-counted cr-lf-only (c ∷ k) r e n = let z : [] ≡ k ++ r = cc in absurd (empty-before k r z n)
-counted (counts h) k r e n = h
-
-pub bytes-before : (k r : List ℕ) → Single (k ++ r) → 1 ≤ lineLength r → lineLength (k ++ r) ≡ length k + lineLength r
-bytes-before [] r g n = omega arith
-bytes-before (b ∷ k) r g n =
-    let z = bytes-before k r (single-tail b (k ++ r) g) n in
-    let y = counted (begins b (k ++ r) g) k r refl n in
-    omega (arith, z, y)
-
--- all bytes of a text without LF are
-no-cr-lf : (b : ℕ) (s : List ℕ) → NoLf s → both (eqb b 13) (starts 10 s) ≡ false
-no-cr-lf b [] h = by-case (λ x. both x false ≡ false) (eqb b 13) (λ _. refl) (λ _. refl)
-no-cr-lf b (c ∷ s) h = by-case (λ x. both x (eqb c 10) ≡ false) (eqb b 13) (λ _. h .0) (λ _. refl)
-
-pub no-lf-end : (k r : List ℕ) → NoLf (k ++ r) → NoLf r
-no-lf-end [] r h = h
-no-lf-end (b ∷ k) r h = no-lf-end k r (h .1)
-
-pub bytes-all : (t : List ℕ) → NoLf t → lineLength t ≡ length t
-unfolding lineLength
-bytes-all [] h = refl
-bytes-all (b ∷ t) h = rw (h .0, no-cr-lf b t (h .1)) (ap suc (bytes-all t (h .1)))
+use Rattle.place_before.specs.ValueLaws.{Numbered, numbered, owed, stands-owed}
+use Rattle.place_before.specs.OneLine.{end-last, nothing-left, Begins, lf-only, cr-lf-only, counts, begins}
 
 -- ---- where a line stops
 
 no-first : {A : Type 0} {r : Form} {c : Bool} → after r ≡ first c → A
 no-first e = zero-one cc
-
-same-first : {b c : Bool} → first b ≡ first c → b ≡ c
-same-first e = cc
 
 -- at a fault, or at its end
 abbrev pub FaultIn : Done → Type 0
