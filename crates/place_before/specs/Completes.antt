@@ -58,6 +58,7 @@ module _ (R : Rules) (W : Writable R) where
         short = rw e at (short-line (h .text ++ 63 ∷ []) (z .text) longest-line (omega (arith, h .fits, length-append (h .text) (63 ∷ []))) (z .short));
       }
 
+  -- n points still to come, each of them missing
   fill : (n i p : ℕ) → i + n ≡ R .points → Goes R i p false
   fill zero i p e =
       let f : i ≡ R .points = omega arith in

@@ -24,6 +24,7 @@ more-front b f z = record { bytes = b ∷ z .bytes; text = ap (λ (x : List ℕ)
 as-front : {P Q : List ℕ → List ℕ → Type 0} {t s : List ℕ} → ((w u : List ℕ) → P w u → Q w u) → Front P t s → Front Q t s
 as-front f z = record { bytes = z .bytes; text = z .text; again = λ u. f (z .bytes ++ u) u (z .again u) }
 
+-- digits, a head without its sign, a head, a value
 digits-front : {n v w : ℕ} {t s : List ℕ} → SpelledDigits n v w t s → Front (SpelledDigits n v w) t s
 digits-front none = record { bytes = []; text = refl; again = λ u. none }
 digits-front (more {d = d} l r) = more-front (48 + d) (λ w u x. more l x) (digits-front r)
@@ -63,6 +64,7 @@ pub record Closes (P : List ℕ → List ℕ → Type 0) (t : List ℕ) : Type 0
   pub all : NoLf rest → rest ≡ []
   pub again : (u : List ℕ) → P (bytes ++ 10 ∷ u) u
 
+-- the rest of a comment, and a line's end
 comment-closes : {t s : List ℕ} → Comment t s → Closes Comment t
 comment-closes cut = record { bytes = []; rest = []; text = refl; all = λ n. refl; again = λ u. ends }
 comment-closes (ends {s = s}) = record { bytes = []; rest = 10 ∷ s; text = refl; all = λ n. no-way (sym (n .0)); again = λ u. ends }

@@ -18,8 +18,16 @@ use Rattle.table_write_law.specs.Written.{written-head-passes}
 use Rattle.table_write_law.specs.Lengths.{head-most}
 use Rattle.table_write_law.specs.ReadBack.{legal-takes}
 use Rattle.table_read.specs.Answers.{told, TableSays}
-use Rattle.place_before.specs.Before.{Writable, Elsewhere, CanStay, Before}
+use Rattle.place_before.specs.Before.{Writable, Elsewhere, is-4, is-6, is-7, is-12, is-13, is-16, CanStay, Before}
 use Rattle.place_before.specs.Stays.{before-place, all-stays}
+
+from-3-on : {c : ℕ} → Elsewhere c → 3 ≤ c
+from-3-on is-4 = omega arith
+from-3-on is-6 = omega arith
+from-3-on is-7 = omega arith
+from-3-on is-12 = omega arith
+from-3-on is-13 = omega arith
+from-3-on is-16 = omega arith
 
 module _ (f l : ℤ) (n : ℕ) where
   -- the rules that F, L and N make
@@ -41,27 +49,29 @@ module _ (f l : ℤ) (n : ℕ) where
         };
       }
 
-module _ (f l : ℤ) (n : ℕ) (body : List ℕ) (out out' : List ℤ) (r : Refusal) (says : TableSays f l n body out out' (Refused r)) (from-3 : 3 ≤ r .number) where
+  -- what was answered is what reading the table says
   abbrev Refusing : TableRead → Type 0
   Refusing (Accepted k) = ⊥
   Refusing (Refused x) = Unit {0}
 
-  refuses-so : (a : Answer) → readTable f l n body (length out) ≡ a → Refused r ≡ told n body a → readTable f l n body (length out) ≡ refuse (r .number) (r .place)
-  refuses-so (refuse c b) e h = let g : r ≡ refusalIn body c b = cc in rw g e
-  refuses-so (accept ys) e h = absurd (subst Refusing h tt)
+  refuses-so : (body : List ℕ) (room : ℕ) (r : Refusal) (a : Answer) → readTable f l n body room ≡ a → Refused r ≡ told n body a → readTable f l n body room ≡ refuse (r .number) (r .place)
+  refuses-so body room r (refuse c b) e h = let g : r ≡ refusalIn body c b = cc in rw g e
+  refuses-so body room r (accept ys) e h = absurd (subst Refusing h tt)
 
-  -- 1 and 2 aside, it was the body that was refused
-  refused-body : (frame-legal f l n ≡ true) × (read (Ruled f l n) body ≡ refuse (r .number) (r .place))
-  refused-body =
-      let e = refuses-so (readTable f l n body (length out)) refl (says .answers) in
+  -- 1 and 2 aside, the frame is legal, and it is the body that is refused
+  refused-body : (body : List ℕ) (out out' : List ℤ) (r : Refusal) → TableSays f l n body out out' (Refused r) → 3 ≤ r .number
+      → Writable Ruled × (read Ruled body ≡ refuse (r .number) (r .place))
+  refused-body body out out' r says from-3 =
+      let e = refuses-so body (length out) r (readTable f l n body (length out)) refl (says .answers) in
       let a = refused-allowed f l n body (length out) (r .number) (r .place) (λ z. omega arith) (λ z. omega arith) e in
-      (a .frame, sym (allowed-read f l n body (length out) a) ∙ e)
+      (legal-writable (a .frame), sym (allowed-read f l n body (length out) a) ∙ e)
 
-  -- THE THEOREM. A body is refused with a number from 3 on. Then some table of this frame begins with all its bytes before the place; or they are one of the two exceptions, with
-  -- which no table begins
-  pub before-can-stay : Before (Ruled f l n) (r .number) (take (r .place) body)
-  before-can-stay = let z = refused-body in before-place (Ruled f l n) (legal-writable f l n (z .0)) body (r .number) (r .place) (z .1)
+  -- THE THEOREM. A body is refused with a number from 3 on. Then some table under the same frame begins with all its bytes before the place; or they are one of the two exceptions,
+  -- and no table begins with them
+  pub before-can-stay : (body : List ℕ) (out out' : List ℤ) (r : Refusal) → TableSays f l n body out out' (Refused r) → 3 ≤ r .number
+      → Before Ruled (r .number) (take (r .place) body)
+  before-can-stay body out out' r says from-3 = let z = refused-body body out out' r says from-3 in before-place Ruled (z .0) body (r .number) (r .place) (z .1)
 
   -- with 4, 6, 7, 12, 13 and 16 there is no exception
-  pub all-can-stay : Elsewhere (r .number) → CanStay (Ruled f l n) (take (r .place) body)
-  all-can-stay = let z = refused-body in all-stays (Ruled f l n) (legal-writable f l n (z .0)) body (r .number) (r .place) (z .1)
+  pub all-can-stay : (body : List ℕ) (out out' : List ℤ) (r : Refusal) → TableSays f l n body out out' (Refused r) → Elsewhere (r .number) → CanStay Ruled (take (r .place) body)
+  all-can-stay body out out' r says m = let z = refused-body body out out' r says (from-3-on m) in all-stays Ruled (z .0) body (r .number) (r .place) (z .1) m

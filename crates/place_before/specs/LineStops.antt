@@ -33,10 +33,11 @@ use Rattle.place_before.specs.OneLine.{end-last, nothing-left, Begins, l
 
 -- ---- where a line stops
 
+-- a spot after a value is none before it
 no-first : {A : Type 0} {r : Form} {c : Bool} → after r ≡ first c → A
 no-first e = zero-one cc
 
--- at a fault, or at its end
+-- a line that stops at a fault of a value, or of what stands in its place
 abbrev pub FaultIn : Done → Type 0
 FaultIn (refused c z) = AfterHead c
 FaultIn (went vs j l u) = ⊥
@@ -52,23 +53,25 @@ module _ (R : Rules) (e : ℕ) where
     at-fault : {c z : ℕ} {rest : List ℕ} → z + length rest ≡ e → 1 ≤ lineLength rest → Stops (refused c z) rest
     at-end : {j l : ℕ} {u : Spot} {vs rest : List ℕ} → (NoLf rest → rest ≡ []) → Stops (went vs j l u) rest
 
+  -- points that were given before it change nothing
   stops-add : (us : List ℕ) {d : Done} {rest : List ℕ} → Stops d rest → Stops (add us d) rest
   stops-add us (at-fault h k) = at-fault h k
   stops-add us (at-end h) = at-end h
 
-  -- after a head: a value stands before the place, and an LF may end the line there; or none does
+  -- after a head, at the spot w after i points, the last of them p: a value stands before the place, and an LF may end the line there; or only blanks do
   data LineFate (q : Bool) (w : Spot) (i p : ℕ) (t : List ℕ) (d : Done) : Type 0 where
     line-closes : (us : List ℕ) (r : Form) (l : ℕ) (kept rest : List ℕ) → t ≡ kept ++ rest → Stops d rest → i + length us ≤ R .points → (isDif r ≡ true → Ordinate l)
         → ((u : List ℕ) → Line (R .tabs) q w p us r l (kept ++ 10 ∷ u) u) → LineFate q w i p t d
     line-bare : (c : Bool) → w ≡ first c → (kept rest : List ℕ) → t ≡ kept ++ rest → Stops d rest → FaultIn d → Blanks (R .tabs) kept → LineFate q w i p t d
 
-  -- from a line's start
+  -- from a line's start, after i points, the last of them p; true: it is a check line. An LF may end the line at the place, and the next lines go on from a state; or a head
+  -- stands before it, and no value
   pub data Fate (i p : ℕ) (c : Bool) (t : List ℕ) (d : Done) : Type 0 where
     closes : (us : List ℕ) (j l : ℕ) (b : Bool) (kept rest : List ℕ) → t ≡ kept ++ rest → Stops d rest → j ≤ R .points → (b ≡ true → Ordinate l)
         → ((ys u : List ℕ) → Body R j l b ys u → Body R i p c (us ++ ys) (kept ++ 10 ∷ u)) → Fate i p c t d
     head-only : (kept rest : List ℕ) → t ≡ kept ++ rest → Stops d rest → FaultIn d → HeadOnly (R .tabs) kept → Onward R i p c kept → Fate i p c t d
 
-  -- ---- at the place itself
+  -- ---- at the place itself: before a head, and after one
 
   fate-here : (i p : ℕ) (c : Bool) (t : List ℕ) (k a : ℕ) → i ≤ R .points → (c ≡ true → Ordinate p) → a + length t ≡ e → 1 ≤ lineLength t → Fate i p c t (refused k a)
   fate-here i p c t k a l o h n = closes [] i p c [] t refl (at-fault h n) l o (λ ys u b. passed end-lf b)
@@ -84,6 +87,7 @@ module _ (R : Rules) (e : ℕ) where
   joined : {t r : List ℕ} (d k s : List ℕ) → t ≡ d ++ r → r ≡ k ++ s → t ≡ (d ++ k) ++ s
   joined d k s g f = g ∙ ap (λ (x : List ℕ). d ++ x) f ∙ sym (append-assoc d k s)
 
+  -- a value, a blank after a head, a blank before one
   value-then : {q : Bool} {w : Spot} {i p : ℕ} {x : Value} {us t r : List ℕ} {f : Form} {d : Done} (z : Front (Spelled q x) t r) → Stands w p x us f (lastOr p us)
       → LineFate false (after f) (i + length us) (lastOr p us) r d → LineFate q w i p t (add us d)
   value-then z h (line-bare c g kept rest a b k n) = no-first g
@@ -106,6 +110,7 @@ module _ (R : Rules) (e : ℕ) where
   blanks-line no-blank v q = v q
   blanks-line (one-blank h n) v q = with-blank h (blanks-line n v true)
 
+  -- a head that passes
   head-then : {i p h x : ℕ} {c : Bool} {t r : List ℕ} {d : Done} (z : Front (Head h x) t r) → R .passing h x (index c i) ≡ true → LineFate false (first c) i p r d → Fate i p c t d
   head-then {i = i} {c = c} z g (line-bare b f kept rest a n k m) =
       head-only (z .bytes ++ kept) rest (joined (z .bytes) kept rest (z .text) a) n k (a-head (z .again kept) m)
@@ -116,14 +121,17 @@ module _ (R : Rules) (e : ℕ) where
 
   -- ---- the tokens of a line
 
+  -- after a head a value follows
   abbrev Open : Spot → Tokens → Type 0
   Open (first c) x = bare x ≡ false
   Open (after r) x = Unit {0}
 
+  -- the tokens x of a text t, in a mode
   abbrev From : Mode → Tokens → List ℕ → Type 0
   From fresh x t = (i p : ℕ) (w : Spot) → i ≤ R .points → (difBefore w ≡ true → Ordinate p) → Fate i p (difBefore w) t (does R x i p w)
   From (inner q) x t = (i p : ℕ) (w : Spot) → i ≤ R .points → (owed w ≡ true → Ordinate p) → Open w x → LineFate q w i p t (does R x i p w)
 
+  -- a line's end, before a head and after one
   fresh-over : {t s : List ℕ} (c : ℕ) → LineEnd t s → From fresh (over c) t
   unfolding does
   fresh-over c h i p w l o = let z = end-closes h in closes [] i p (difBefore w) (z .bytes) (z .rest) (z .text) (at-end (z .all)) l o (λ ys u b. passed (z .again u) b)
@@ -133,6 +141,7 @@ module _ (R : Rules) (e : ℕ) where
   inner-over q c h i p (first b) l o n = no-way (sym n)
   inner-over q c h i p (after r) l o n = let z = end-closes h in line-closes [] r p (z .bytes) (z .rest) (z .text) (at-end (z .all)) (omega arith) o (λ u. done (z .again u))
 
+  -- a fault
   no-fresh : (k a : ℕ) (t : List ℕ) → a + length t ≡ e → 1 ≤ lineLength t → From fresh (fault k a) t
   unfolding does
   no-fresh k a t h n i p w l o = fate-here i p (difBefore w) t k a l o h n
@@ -141,6 +150,7 @@ module _ (R : Rules) (e : ℕ) where
   unfolding does
   no-inner q k a t h n m i p w l o b = line-here q w i p t k a l o h n m
 
+  -- a value: refused, or taken, and then the rest of the line
   after-value : (q : Bool) (a : ℕ) (x : Value) (t u : List ℕ) (r : Tokens) → Spelled q x t u → a + length t ≡ e → 1 ≤ lineLength t → From (inner false) r u → From (inner q) (value a x r) t
   unfolding does
   after-value q a x t u r g h n k i p w l o b = go (says w p x) (said w p x) (numbered w p x)
@@ -214,6 +224,7 @@ module _ (R : Rules) (e : ℕ) where
     steps fresh c h = opens c h
     steps (inner q) c h = insides q c h
 
+  -- the end of the text, a byte of it, all of it
   at-stop : {t s : List ℕ} (a : ℕ) (m : Mode) → LineEnd t s → From m (stop a m) t
   unfolding stop
   at-stop a fresh h = fresh-over a h

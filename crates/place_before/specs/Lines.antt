@@ -21,7 +21,7 @@ use Rattle.plain_law.specs.Lines.{Cut, no-line, end-line, whole-line, single-wh
 use Rattle.place_before.specs.Before.{WholeLines, no-lines, last-lf}
 use Rattle.place_before.specs.ValueLaws.{owed, stands-owed, dif-owed}
 
--- ---- refusals
+-- ---- refusals: number and place, behind the points that were given, and at the end
 
 no-refuse : {A : Type 0} {c a : ℕ} {ys : List ℕ} → accept ys ≡ refuse c a → A
 no-refuse e = no-accept (sym e)
@@ -45,43 +45,46 @@ finish-place R a i b c z =
 
 -- ---- the state after a line
 
+-- the last of points and further points
 last-more : (p : ℕ) (us vs : List ℕ) → lastOr (lastOr p us) vs ≡ lastOr p (us ++ vs)
 last-more p [] vs = refl
 last-more p (u ∷ us) vs = last-more u us vs
 
 module _ (R : Rules) where
   -- from i points, the last of them p: how many there are then, and the last, which is not missing where a check is due
-  abbrev Goes : ℕ → ℕ → Done → Type 0
-  Goes i p (refused c z) = Unit {0}
-  Goes i p (went vs j l u) = (j ≡ i + length vs) × (l ≡ lastOr p vs) × (j ≤ R .points) × (owed u ≡ true → Ordinate l)
+  abbrev Leaves : ℕ → ℕ → Done → Type 0
+  Leaves i p (refused c z) = Unit {0}
+  Leaves i p (went vs j l u) = (j ≡ i + length vs) × (l ≡ lastOr p vs) × (j ≤ R .points) × (owed u ≡ true → Ordinate l)
 
-  goes-pick : (i p : ℕ) (t : Bool) (x y : Done) → Goes i p x → Goes i p y → Goes i p (pick t x y)
-  goes-pick i p true x y h k = h
-  goes-pick i p false x y h k = k
+  -- whichever of the two it does; after some points; after a value; after any tokens
+  leaves-pick : (i p : ℕ) (t : Bool) (x y : Done) → Leaves i p x → Leaves i p y → Leaves i p (pick t x y)
+  leaves-pick i p true x y h k = h
+  leaves-pick i p false x y h k = k
 
-  goes-add : (i p : ℕ) (us : List ℕ) (d : Done) → Goes (i + length us) (lastOr p us) d → Goes i p (add us d)
-  goes-add i p us (refused c z) h = tt
-  goes-add i p us (went vs j l u) h = (omega (arith, h .0, length-append us vs), h .1 ∙ last-more p us vs, h .2, h .3)
+  leaves-add : (i p : ℕ) (us : List ℕ) (d : Done) → Leaves (i + length us) (lastOr p us) d → Leaves i p (add us d)
+  leaves-add i p us (refused c z) h = tt
+  leaves-add i p us (went vs j l u) h = (omega (arith, h .0, length-append us vs), h .1 ∙ last-more p us vs, h .2, h .3)
 
-  takes-goes : (a i p : ℕ) (w : Spot) (x : Value) (f : ℕ → ℕ → Form → Done) → (owed w ≡ true → Ordinate p)
-      → ((j y : ℕ) (r : Form) → j ≤ R .points → (isDif r ≡ true → Ordinate y) → Goes j y (f j y r)) → (y : Says) → Said w p x y → Goes i p (takes R f a i p y)
-  takes-goes a i p w x f o h (refuses c) s = tt
-  takes-goes a i p w x f o h (adds us r) s =
-      by-case (λ t. leb (i + length us) (R .points) ≡ t → Goes i p (pick t (add us (f (i + length us) (lastOr p us) r)) (refused 11 a))) (leb (i + length us) (R .points))
-      (λ _ k. goes-add i p us (f (i + length us) (lastOr p us) r) (h (i + length us) (lastOr p us) r (leb-true (i + length us) (R .points) k) (stands-owed s o))) (λ _ k. tt) refl
+  takes-leaves : (a i p : ℕ) (w : Spot) (x : Value) (f : ℕ → ℕ → Form → Done) → (owed w ≡ true → Ordinate p)
+      → ((j y : ℕ) (r : Form) → j ≤ R .points → (isDif r ≡ true → Ordinate y) → Leaves j y (f j y r)) → (y : Says) → Said w p x y → Leaves i p (takes R f a i p y)
+  takes-leaves a i p w x f o h (refuses c) s = tt
+  takes-leaves a i p w x f o h (adds us r) s =
+      by-case (λ t. leb (i + length us) (R .points) ≡ t → Leaves i p (pick t (add us (f (i + length us) (lastOr p us) r)) (refused 11 a))) (leb (i + length us) (R .points))
+      (λ _ k. leaves-add i p us (f (i + length us) (lastOr p us) r) (h (i + length us) (lastOr p us) r (leb-true (i + length us) (R .points) k) (stands-owed s o))) (λ _ k. tt) refl
 
-  does-goes : (x : Tokens) (i p : ℕ) (w : Spot) → i ≤ R .points → (owed w ≡ true → Ordinate p) → Goes i p (does R x i p w)
+  does-leaves : (x : Tokens) (i p : ℕ) (w : Spot) → i ≤ R .points → (owed w ≡ true → Ordinate p) → Leaves i p (does R x i p w)
   unfolding does
-  does-goes (over a) i p w l o = (omega arith, refl, l, o)
-  does-goes (fault c a) i p w l o = tt
-  does-goes (head a h u r) i p w l o =
-      goes-pick i p (R .passing h u (index (difBefore w) i)) (pick (bare r) (refused 7 a) (does R r i p (first (difBefore w)))) (refused 6 a)
-      (goes-pick i p (bare r) (refused 7 a) (does R r i p (first (difBefore w))) tt (does-goes r i p (first (difBefore w)) l (λ e. o (dif-owed w e)))) tt
-  does-goes (value a x r) i p w l o = takes-goes a i p w x (λ j y f. does R r j y (after f)) o (λ j y f k q. does-goes r j y (after f) k q) (says w p x) (said w p x)
-  does-goes (line r) i p w l o = does-goes r i p w l o
+  does-leaves (over a) i p w l o = (omega arith, refl, l, o)
+  does-leaves (fault c a) i p w l o = tt
+  does-leaves (head a h u r) i p w l o =
+      leaves-pick i p (R .passing h u (index (difBefore w) i)) (pick (bare r) (refused 7 a) (does R r i p (first (difBefore w)))) (refused 6 a)
+      (leaves-pick i p (bare r) (refused 7 a) (does R r i p (first (difBefore w))) tt (does-leaves r i p (first (difBefore w)) l (λ e. o (dif-owed w e)))) tt
+  does-leaves (value a x r) i p w l o = takes-leaves a i p w x (λ j y f. does R r j y (after f)) o (λ j y f k q. does-leaves r j y (after f) k q) (says w p x) (said w p x)
+  does-leaves (line r) i p w l o = does-leaves r i p w l o
 
 -- ---- whole lines
 
+-- a line more before them
 more-lines : (w : List ℕ) {s : List ℕ} → WholeLines s → WholeLines (w ++ 10 ∷ s)
 more-lines w no-lines = last-lf w
 more-lines w (last-lf v) = rw (← append-assoc w (10 ∷ v) (10 ∷ [])) (last-lf (w ++ 10 ∷ v))
@@ -113,6 +116,7 @@ pub data Where (R : Rules) (s : List ℕ) (c z a i p : ℕ) (v : Spot) : Type 0 
       → Stopped c z (b .place + length t) t (does R (tokens (R .tabs) t 0 (b .place) fresh) (b .count) (b .last) (b .spot)) → Where R s c z a i p v
 
 module _ (R : Rules) where
+  -- no line
   none-behind : (a i p : ℕ) (v : Spot) → i ≤ R .points → (owed v ≡ true → Ordinate p) → Behind R [] a i p v
   none-behind a i p v l o =
       record {
@@ -130,9 +134,9 @@ module _ (R : Rules) where
         law = λ u. push-none (reading R u a i p v);
       }
 
-  module _ (w s : List ℕ) (a i p : ℕ) (v : Spot) (h : NoLf w) (l : i ≤ R .points) (o : owed v ≡ true → Ordinate p) where
-    -- a line more before them
-    more-behind : (vs : List ℕ) (j k : ℕ) (x : Spot) → line-does R (w ++ 10 ∷ []) a i p v ≡ went vs j k x → Goes R i p (went vs j k x)
+  module _ (w s : List ℕ) (a i p : ℕ) (v : Spot) (h : NoLf w) where
+    -- a line more, which went
+    more-behind : (vs : List ℕ) (j k : ℕ) (x : Spot) → line-does R (w ++ 10 ∷ []) a i p v ≡ went vs j k x → Leaves R i p (went vs j k x)
         → {kept : List ℕ} → Behind R kept (a + suc (length w)) j k x → Behind R (w ++ 10 ∷ kept) a i p v
     more-behind vs j k x e g {kept} b =
         record {
@@ -151,7 +155,8 @@ module _ (R : Rules) where
               ∙ ap (push vs) (b .law u) ∙ push-push vs (b .given) (reading R u (b .place) (b .count) (b .last) (b .spot)));
         }
 
-    more-before : (vs : List ℕ) (j k : ℕ) (x : Spot) (c z : ℕ) → line-does R (w ++ 10 ∷ []) a i p v ≡ went vs j k x → Goes R i p (went vs j k x)
+    -- the place is the same with that line before the text
+    more-before : (vs : List ℕ) (j k : ℕ) (x : Spot) (c z : ℕ) → line-does R (w ++ 10 ∷ []) a i p v ≡ went vs j k x → Leaves R i p (went vs j k x)
         → Where R s c z (a + suc (length w)) j k x → Where R (w ++ 10 ∷ s) c z a i p v
     unfolding more-behind
     more-before vs j k x c z e g (at-start kept rest f b y) =
@@ -169,7 +174,7 @@ module _ (R : Rules) where
       → (lineLength t ≤ longest-line → (x : Done) → pick q (refused 16 a) d ≡ x → d ≡ x → resume x k ≡ refuse c z → A) → resume (pick q (refused 16 a) d) k ≡ refuse c z → A)
       (ltb longest-line (lineLength t)) (λ _ h _ e. f (sym (place-of e))) (λ _ h y e. y (ltb-false longest-line (lineLength t) h) d refl refl e) refl g
 
-  -- the line t stands at the text's start
+  -- the place is on the text's first line, or that line's start
   here : (t rest : List ℕ) (a i p : ℕ) (v : Spot) (c z : ℕ) (d : Done) → i ≤ R .points → (owed v ≡ true → Ordinate p) → Single t → lineLength t ≤ longest-line
       → does R (tokens (R .tabs) t 0 a fresh) i p v ≡ d → Stopped c z (a + length t) t d → Where R (t ++ rest) c z a i p v
   unfolding none-behind
@@ -187,10 +192,10 @@ module _ (R : Rules) where
   by-line w s a i p v c z h l o ih n (refused x y) _ f g =
       rw (append-assoc w (10 ∷ []) s) at (here (w ++ 10 ∷ []) s a i p v c z (refused x y) l o (single-whole w h) n f (rw (number-of g, place-of g) faulty))
   by-line w s a i p v c z h l o ih n (went vs j k x) y f g =
-      let m : Goes R i p (went vs j k x) = rw f at (does-goes R (tokens (R .tabs) (w ++ 10 ∷ []) 0 a fresh) i p v l o) in
-      more-before w s a i p v h l o vs j k x c z y m (ih (a + suc (length w)) j k x c z (m .2) (m .3) (push-refuse vs (reading R s (a + suc (length w)) j k x) c z g))
+      let m : Leaves R i p (went vs j k x) = rw f at (does-leaves R (tokens (R .tabs) (w ++ 10 ∷ []) 0 a fresh) i p v l o) in
+      more-before w s a i p v h vs j k x c z y m (ih (a + suc (length w)) j k x c z (m .2) (m .3) (push-refuse vs (reading R s (a + suc (length w)) j k x) c z g))
 
-  -- a last line
+  -- a last line, and 12 and 13 behind it
   find-last : (t : List ℕ) → NoLf t → (a i p : ℕ) (v : Spot) (c z : ℕ) → i ≤ R .points → (owed v ≡ true → Ordinate p) → reading R t a i p v ≡ refuse c z → Where R t c z a i p v
   find-last t h a i p v c z l o e =
       by-length t a i p v c z (λ j q u. finish R (a + length t) j (difBefore u)) (Where R t c z a i p v) (at-once t a i p v c z l o) (λ n d _ f. stopped n d f) (sym (last-line R t a i p v h) ∙ e)
@@ -202,7 +207,7 @@ module _ (R : Rules) where
           let y = finish-place R (a + length t) j (difBefore x) c z (push-refuse vs (finish R (a + length t) j (difBefore x)) c z g) in
           rw (← append-nil t) (here t [] a i p v c z (went vs j k x) l o (single-last t h) n f (over-there h (sym y)))
 
-  -- THE LAW OF THE PLACE
+  -- THE LAW: the place of every refusal of a text, cut into its lines
   pub find : {s : List ℕ} → Cut s → (a i p : ℕ) (v : Spot) (c z : ℕ) → i ≤ R .points → (owed v ≡ true → Ordinate p) → reading R s a i p v ≡ refuse c z → Where R s c z a i p v
   find no-line = find-last [] tt
   find (end-line b w h) = find-last (b ∷ w) h

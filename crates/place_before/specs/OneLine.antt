@@ -15,6 +15,7 @@ use Rattle.plain_law.specs.Single.{Single, single-tail}
 
 -- ---- its end
 
+-- behind an LF, a comment, any end of a line
 none-left : (b : ℕ) (s : List ℕ) → Single (b ∷ s) → eqb b 10 ≡ true → s ≡ []
 none-left b [] g e = refl
 none-left b (c ∷ t) g e = no-way (sym (g .0) ∙ e)
@@ -30,6 +31,7 @@ end-last (end-lf {s = s}) g = none-left 10 s g refl
 end-last (cr-lf {s = s}) g = none-left 10 s (g .1) refl
 end-last (end-comment {t = t} r) g = comment-last r (single-tail 36 t (g .1))
 
+-- a byte is there
 no-cons : {A : Type 0} {b : ℕ} {s : List ℕ} → b ∷ s ≡ [] → A
 no-cons e = let n = ap length e in absurd (omega (arith, n))
 

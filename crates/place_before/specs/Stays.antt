@@ -32,6 +32,7 @@ use Rattle.place_before.specs.Lines.{Behind, Stopped, faulty, over-there
 -- ---- lines, and what goes on from them
 
 module _ (R : Rules) (kept : List ℕ) (b : Behind R kept 0 0 0 (after Own)) where
+  -- a body from the state after them, of short lines, makes a table; and every table that begins with them is such a one
   goes-on : (zs u : List ℕ) → Body R (b .count) (b .last) (difBefore (b .spot)) zs u → Short longest-line u → Spells R (b .given ++ zs) (kept ++ u)
   unfolding push sooner
   goes-on zs u r s =
@@ -63,6 +64,7 @@ module _ (R : Rules) (W : Writable R) (kept : List ℕ) (b : Behind R kept 0 0 0
   last-there : difBefore (b .spot) ≡ true → Ordinate (b .last)
   last-there e = b .owes (dif-owed (b .spot) e)
 
+  -- at a line's start all before it stays
   lines-stay : CanStay R kept
   lines-stay =
       let g = completes R W (b .count) (b .last) (difBefore (b .spot)) (b .fits) last-there in

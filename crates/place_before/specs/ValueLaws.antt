@@ -16,6 +16,7 @@ abbrev pub Numbered : Says → Type 0
 Numbered (adds us f) = Unit {0}
 Numbered (refuses n) = AfterHead n
 
+-- whichever of the two it says; a DUP; any value
 either : (t : Bool) (x y : Says) → Numbered x → Numbered y → Numbered (pick t x y)
 either true x y h k = h
 either false x y h k = k
@@ -47,6 +48,7 @@ abbrev pub owed : Spot → Bool
 owed (first c) = c
 owed (after r) = isDif r
 
+-- copies of a difference leave an ordinate that is not missing
 steps-end : {m : Bool} {d n p e : ℕ} {us : List ℕ} → Steps m d n p us e → Ordinate p → Ordinate e
 steps-end no-step o = o
 steps-end (one-step s h r) o = steps-end r h
