@@ -21,6 +21,7 @@ use Rattle.table_read.specs.Answers.{told, TableSays}
 use Rattle.place_before.specs.Before.{Writable, Elsewhere, is-4, is-6, is-7, is-12, is-13, is-16, CanStay, Before}
 use Rattle.place_before.specs.Stays.{before-place, all-stays}
 
+-- each of them is 3 or more
 from-3-on : {c : ℕ} → Elsewhere c → 3 ≤ c
 from-3-on is-4 = omega arith
 from-3-on is-6 = omega arith
