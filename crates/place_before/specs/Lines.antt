@@ -18,10 +18,11 @@ use Rattle.table_law.specs.Linewise.{NoLf}
 use Rattle.table_law.specs.WholeLine.{Done, refused, went, add, resume, takes, does, line-does, reading, line-then, last-line}
 use Rattle.plain_law.specs.Single.{Single}
 use Rattle.plain_law.specs.Lines.{Cut, no-line, end-line, whole-line, single-whole, single-last}
+use Rattle.place_on.specs.On.{push-refuse}
 use Rattle.place_before.specs.Before.{WholeLines, no-lines, last-lf}
 use Rattle.place_before.specs.ValueLaws.{owed, stands-owed, dif-owed}
 
--- ---- refusals: number and place, behind the points that were given, and at the end
+-- ---- refusals: number and place, and where 12 and 13 stand
 
 no-refuse : {A : Type 0} {c a : ℕ} {ys : List ℕ} → accept ys ≡ refuse c a → A
 no-refuse e = no-accept (sym e)
@@ -31,11 +32,6 @@ number-of e = cc
 
 place-of : {c z d a : ℕ} → refuse d a ≡ refuse c z → a ≡ z
 place-of e = cc
-
-push-refuse : (us : List ℕ) (x : Answer) (c z : ℕ) → push us x ≡ refuse c z → x ≡ refuse c z
-unfolding push
-push-refuse us (refuse d a) c z e = e
-push-refuse us (accept ys) c z e = no-refuse e
 
 finish-place : (R : Rules) (a i : ℕ) (b : Bool) (c z : ℕ) → finish R a i b ≡ refuse c z → a ≡ z
 unfolding finish

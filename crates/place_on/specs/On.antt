@@ -52,7 +52,7 @@ long-line-decides x y l = record { within-them = omega arith; token-ended = λ n
 
 -- ---- what the lines say
 
-push-refuse : (us : List ℕ) (x : Answer) (c z : ℕ) → push us x ≡ refuse c z → x ≡ refuse c z
+pub push-refuse : (us : List ℕ) (x : Answer) (c z : ℕ) → push us x ≡ refuse c z → x ≡ refuse c z
 unfolding push
 push-refuse us (refuse d a) c z e = e
 push-refuse us (accept ys) c z e = no-accept (sym e)
@@ -121,7 +121,7 @@ module _ (f l : ℤ) (n : ℕ) where
   Refusing (Refused r) = Unit {0}
 
   -- what was answered is what reading the table says
-  refuses-so : (body : List ℕ) (room : ℕ) (r : Refusal) (a : Answer) → readTable f l n body room ≡ a → Refused r ≡ told n body a → readTable f l n body room ≡ refuse (r .number) (r .place)
+  pub refuses-so : (body : List ℕ) (room : ℕ) (r : Refusal) (a : Answer) → readTable f l n body room ≡ a → Refused r ≡ told n body a → readTable f l n body room ≡ refuse (r .number) (r .place)
   refuses-so body room r (refuse c b) e h = let g : r ≡ refusalIn body c b = cc in rw g e
   refuses-so body room r (accept ys) e h = absurd (subst Refusing h tt)
 
