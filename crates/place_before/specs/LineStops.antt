@@ -6,7 +6,7 @@ use Prim.Native.Nat.{ℕ, zero, suc, _+_, _≤_}
 use native.Mathlib.Omega.{arith}
 use lib.Dec.{leb}
 use lib.ListN.{length, length-append, drop}
-use borrow.Author.Tests.{leb-true}
+use borrow.Author.Tests.{leb-true, eq-eqb}
 use Rattle.terms.specs.Logic.{pick, by-case, zero-one, no-way}
 use Rattle.alphabet_spec.specs.Kinds.{Blank}
 use Rattle.alphabet_spec.specs.Digits.{Run, long, run, digits, some}
@@ -24,12 +24,12 @@ use Rattle.table_law.specs.Meaning.{Said, said}
 use Rattle.table_law.specs.Sound.{ends as form-ends, belongs}
 use Rattle.table_law.specs.Linewise.{NoLf}
 use Rattle.table_law.specs.WholeLine.{Done, refused, went, add, takes, does}
-use Rattle.plain_law.specs.Single.{Single, single-tail}
+use Rattle.plain_law.specs.Single.{Single, single-tail, EndAll, lf-last, cr-all, dollar-all, all-passed}
 use Rattle.place_on.specs.HeadOnly.{Blanks, no-blank, one-blank, HeadOnly, after-blank, a-head}
 use Rattle.place_before.specs.Before.{AfterHead, is-3, is-5, is-11}
 use Rattle.place_before.specs.Fronts.{Front, head-front, value-front, end-closes}
 use Rattle.place_before.specs.ValueLaws.{Numbered, numbered, owed, stands-owed}
-use Rattle.place_before.specs.OneLine.{end-last, nothing-left, Begins, lf-only, cr-lf-only, counts, begins}
+use Rattle.place_before.specs.OneLine.{Begins, lf-only, cr-lf-only, counts, begins}
 
 -- ---- where a line stops
 
@@ -168,13 +168,18 @@ module _ (R : Rules) (e : ℕ) where
     abbrev K : Rest
     K n m = tokens (R .tabs) s n (suc a) m
 
-    fresh-end : (x : Ending) → EndIs b s x → From fresh (ended (λ n. K n fresh) a x) (b ∷ s)
-    fresh-end (ends-in k) h = let z = nothing-left (R .tabs) s k (suc a) (end-last h g) in rw (z .1) (fresh-over (z .0) h)
-    fresh-end no-end h = no-fresh 3 a (b ∷ s) he n
+    -- a line's end, behind which nothing stands; or none
+    fresh-end : (x : Ending) → EndIs b s x → EndAll s x → From fresh (ended (λ n. K n fresh) a x) (b ∷ s)
+    fresh-end (ends-in k) h y = rw (y, all-passed (R .tabs) s (suc a) e (omega arith)) (fresh-over e h)
+    fresh-end no-end h y = no-fresh 3 a (b ∷ s) he n
 
-    inner-end : (q : Bool) (x : Ending) → EndIs b s x → From (inner q) (ended (λ n. line (K n fresh)) a x) (b ∷ s)
-    inner-end q (ends-in k) h = let z = nothing-left (R .tabs) s k (suc a) (end-last h g) in rw (z .1) (inner-over q (z .0) h)
-    inner-end q no-end h = no-inner q 3 a (b ∷ s) he n is-3
+    inner-end : (q : Bool) (x : Ending) → EndIs b s x → EndAll s x → From (inner q) (ended (λ n. line (K n fresh)) a x) (b ∷ s)
+    inner-end q (ends-in k) h y = rw (y, all-passed (R .tabs) s (suc a) e (omega arith)) (inner-over q e h)
+    inner-end q no-end h y = no-inner q 3 a (b ∷ s) he n is-3
+
+    lf-all : b ≡ 10 → EndAll s (ending lf s)
+    unfolding ending
+    lf-all h = lf-last b s g (eq-eqb b 10 h)
 
     heads : (m : Bool) (x : HeadDigits) → HeadIs m b s x → From fresh (headed K a m x) (b ∷ s)
     unfolding does
@@ -196,9 +201,9 @@ module _ (R : Rules) (e : ℕ) where
     opens quest h = no-fresh 4 a (b ∷ s) he n
     opens blank h = λ i p w l o. indent-then h (ih 0 fresh i p w l o)
     opens point h = no-fresh 3 a (b ∷ s) he n
-    opens lf h = fresh-end (ending lf s) (ending-is (R .tabs) b s lf h)
-    opens cr h = fresh-end (ending cr s) (ending-is (R .tabs) b s cr h)
-    opens dollar h = fresh-end (ending dollar s) (ending-is (R .tabs) b s dollar h)
+    opens lf h = fresh-end (ending lf s) (ending-is (R .tabs) b s lf h) (lf-all h)
+    opens cr h = fresh-end (ending cr s) (ending-is (R .tabs) b s cr h) (cr-all s (single-tail b s g))
+    opens dollar h = fresh-end (ending dollar s) (ending-is (R .tabs) b s dollar h) (dollar-all s (single-tail b s g))
     opens other h = no-fresh 3 a (b ∷ s) he n
 
     values : (q : Bool) (f : ℕ → Value) (x : Run) → ValueIs q f b s x → From (inner q) (valued K a f x) (b ∷ s)
@@ -214,9 +219,9 @@ module _ (R : Rules) (e : ℕ) where
     insides q quest h = after-value q a gap (b ∷ s) s (K 0 (inner false)) (rw h missing) he n (ih 0 (inner false))
     insides q blank h = λ i p w l o y. blank-then h (ih 0 (inner true) i p w l o y)
     insides q point h = no-inner q 3 a (b ∷ s) he n is-3
-    insides q lf h = inner-end q (ending lf s) (ending-is (R .tabs) b s lf h)
-    insides q cr h = inner-end q (ending cr s) (ending-is (R .tabs) b s cr h)
-    insides q dollar h = inner-end q (ending dollar s) (ending-is (R .tabs) b s dollar h)
+    insides q lf h = inner-end q (ending lf s) (ending-is (R .tabs) b s lf h) (lf-all h)
+    insides q cr h = inner-end q (ending cr s) (ending-is (R .tabs) b s cr h) (cr-all s (single-tail b s g))
+    insides q dollar h = inner-end q (ending dollar s) (ending-is (R .tabs) b s dollar h) (dollar-all s (single-tail b s g))
     insides q other h = no-inner q 3 a (b ∷ s) he n is-3
 
     steps : (m : Mode) (c : Byte) → Back (R .tabs) b c → From m (step K a s m c) (b ∷ s)

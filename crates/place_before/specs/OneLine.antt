@@ -1,48 +1,25 @@
--- A text of one line: nothing stands behind its end, and which of its bytes count to the line's length (02, T-06). Assumes nothing.
+-- Which bytes of a text of one line count to the line's length (02, T-06). Assumes nothing.
 use mathlib.Core.Path.{_≡_, refl, sym, ap, _∙_}
-use mathlib.Core.Bool.{Bool, true, false}
+use mathlib.Core.Bool.{true, false}
 use mathlib.Core.List.{List, [], _∷_, _++_}
-use Prim.Native.Nat.{ℕ, zero, suc, _+_, _≤_}
+use Prim.Native.Nat.{ℕ, suc, _+_, _≤_}
 use native.Mathlib.Omega.{arith}
 use lib.Dec.{eqb}
-use lib.ListN.{length, drop}
+use lib.ListN.{length}
 use borrow.Author.Tests.{eqb-true}
 use Rattle.terms.specs.Logic.{both, by-case, no-way}
-use Rattle.table_spec.specs.Reading.{over, starts, fresh, stop, tokens, lineLength}
-use Rattle.table_law.specs.Spelling.{Comment, cut, ends, any, LineEnd, over as end-over, lf as end-lf, cr-lf, comment as end-comment}
+use Rattle.table_spec.specs.Reading.{starts, lineLength}
 use Rattle.table_law.specs.Linewise.{NoLf}
 use Rattle.plain_law.specs.Single.{Single, single-tail}
 
--- ---- its end
-
--- behind an LF, a comment, any end of a line
+-- nothing stands behind its LF
 none-left : (b : ℕ) (s : List ℕ) → Single (b ∷ s) → eqb b 10 ≡ true → s ≡ []
 none-left b [] g e = refl
 none-left b (c ∷ t) g e = no-way (sym (g .0) ∙ e)
 
-comment-last : {t s : List ℕ} → Comment t s → Single t → s ≡ []
-comment-last cut g = refl
-comment-last (ends {s = s}) g = none-left 10 s g refl
-comment-last (any {b = b} {t = t} h r) g = comment-last r (single-tail b t g)
-
-pub end-last : {t s : List ℕ} → LineEnd t s → Single t → s ≡ []
-end-last end-over g = refl
-end-last (end-lf {s = s}) g = none-left 10 s g refl
-end-last (cr-lf {s = s}) g = none-left 10 s (g .1) refl
-end-last (end-comment {t = t} r) g = comment-last r (single-tail 36 t (g .1))
-
 -- a byte is there
 no-cons : {A : Type 0} {b : ℕ} {s : List ℕ} → b ∷ s ≡ [] → A
 no-cons e = let n = ap length e in absurd (omega (arith, n))
-
--- so no token is left there
-pub nothing-left : (tabs : Bool) (s : List ℕ) (n a : ℕ) → drop n s ≡ [] → (c : ℕ) × (tokens tabs s n a fresh ≡ over c)
-unfolding tokens stop
-nothing-left tabs [] n a e = (a, refl)
-nothing-left tabs (b ∷ s) zero a e = no-cons e
-nothing-left tabs (b ∷ s) (suc n) a e = nothing-left tabs s n (suc a) e
-
--- ---- its bytes
 
 -- a byte is one of the line, or its end begins there
 pub data Begins : ℕ → List ℕ → Type 0 where
