@@ -111,10 +111,12 @@ pub data Where (R : Rules) (s : List ℕ) (c z a i p : ℕ) (v : Spot) : Type 0 
   on-a-line : (kept t rest : List ℕ) → s ≡ kept ++ (t ++ rest) → (b : Behind R kept a i p v) → Single t → lineLength t ≤ longest-line
       → Stopped c z (b .place + length t) t (does R (tokens (R .tabs) t 0 (b .place) fresh) (b .count) (b .last) (b .spot)) → Where R s c z a i p v
 
-module _ (R : Rules) where
+-- ---- a text that stands at the place a, after i points, the last of them p, and is refused with c at z
+
+module _ (R : Rules) (a i p : ℕ) (v : Spot) where
   -- no line
-  none-behind : (a i p : ℕ) (v : Spot) → i ≤ R .points → (owed v ≡ true → Ordinate p) → Behind R [] a i p v
-  none-behind a i p v l o =
+  none-behind : i ≤ R .points → (owed v ≡ true → Ordinate p) → Behind R [] a i p v
+  none-behind l o =
       record {
         given = [];
         place = a;
@@ -130,83 +132,89 @@ module _ (R : Rules) where
         law = λ u. push-none (reading R u a i p v);
       }
 
-  module _ (w s : List ℕ) (a i p : ℕ) (v : Spot) (h : NoLf w) where
-    -- a line more, which went
-    more-behind : (vs : List ℕ) (j k : ℕ) (x : Spot) → line-does R (w ++ 10 ∷ []) a i p v ≡ went vs j k x → Leaves R i p (went vs j k x)
-        → {kept : List ℕ} → Behind R kept (a + suc (length w)) j k x → Behind R (w ++ 10 ∷ kept) a i p v
-    more-behind vs j k x e g {kept} b =
-        record {
-          given = vs ++ b .given;
-          place = b .place;
-          count = b .count;
-          last = b .last;
-          spot = b .spot;
-          place-is = omega (arith, b .place-is, length-append w (10 ∷ kept));
-          count-is = omega (arith, b .count-is, g .0, length-append vs (b .given));
-          last-is = b .last-is ∙ ap (λ y. lastOr y (b .given)) (g .1) ∙ last-more p vs (b .given);
-          fits = b .fits;
-          owes = b .owes;
-          lines = more-lines w (b .lines);
-          law = λ u. rw (append-assoc w (10 ∷ kept) u) (line-then R w (kept ++ u) a i p v h ∙ ap (λ (d : Done). resume d (reading R (kept ++ u) (a + suc (length w)))) e
-              ∙ ap (push vs) (b .law u) ∙ push-push vs (b .given) (reading R u (b .place) (b .count) (b .last) (b .spot)));
-        }
+  -- a line more before them, which went
+  more-behind : (w vs : List ℕ) (j k : ℕ) (x : Spot) → NoLf w → line-does R (w ++ 10 ∷ []) a i p v ≡ went vs j k x → Leaves R i p (went vs j k x)
+      → {kept : List ℕ} → Behind R kept (a + suc (length w)) j k x → Behind R (w ++ 10 ∷ kept) a i p v
+  more-behind w vs j k x h e g {kept} b =
+      record {
+        given = vs ++ b .given;
+        place = b .place;
+        count = b .count;
+        last = b .last;
+        spot = b .spot;
+        place-is = omega (arith, b .place-is, length-append w (10 ∷ kept));
+        count-is = omega (arith, b .count-is, g .0, length-append vs (b .given));
+        last-is = b .last-is ∙ ap (λ y. lastOr y (b .given)) (g .1) ∙ last-more p vs (b .given);
+        fits = b .fits;
+        owes = b .owes;
+        lines = more-lines w (b .lines);
+        law = λ u. rw (append-assoc w (10 ∷ kept) u) (line-then R w (kept ++ u) a i p v h ∙ ap (λ (d : Done). resume d (reading R (kept ++ u) (a + suc (length w)))) e
+            ∙ ap (push vs) (b .law u) ∙ push-push vs (b .given) (reading R u (b .place) (b .count) (b .last) (b .spot)));
+      }
 
-    -- the place is the same with that line before the text
-    more-before : (vs : List ℕ) (j k : ℕ) (x : Spot) (c z : ℕ) → line-does R (w ++ 10 ∷ []) a i p v ≡ went vs j k x → Leaves R i p (went vs j k x)
+  module _ (c z : ℕ) where
+    -- the place is the same with such a line before the text
+    more-before : (w s vs : List ℕ) (j k : ℕ) (x : Spot) → NoLf w → line-does R (w ++ 10 ∷ []) a i p v ≡ went vs j k x → Leaves R i p (went vs j k x)
         → Where R s c z (a + suc (length w)) j k x → Where R (w ++ 10 ∷ s) c z a i p v
     unfolding more-behind
-    more-before vs j k x c z e g (at-start kept rest f b y) =
-        at-start (w ++ 10 ∷ kept) rest (ap (λ (x : List ℕ). w ++ 10 ∷ x) f ∙ sym (append-assoc w (10 ∷ kept) rest)) (more-behind vs j k x e g b) y
-    more-before vs j k x c z e g (on-a-line kept t rest f b y n q) =
-        on-a-line (w ++ 10 ∷ kept) t rest (ap (λ (x : List ℕ). w ++ 10 ∷ x) f ∙ sym (append-assoc w (10 ∷ kept) (t ++ rest))) (more-behind vs j k x e g b) y n q
+    more-before w s vs j k x h e g (at-start kept rest f b y) =
+        at-start (w ++ 10 ∷ kept) rest (ap (λ (x : List ℕ). w ++ 10 ∷ x) f ∙ sym (append-assoc w (10 ∷ kept) rest)) (more-behind w vs j k x h e g b) y
+    more-before w s vs j k x h e g (on-a-line kept t rest f b y n q) =
+        on-a-line (w ++ 10 ∷ kept) t rest (ap (λ (x : List ℕ). w ++ 10 ∷ x) f ∙ sym (append-assoc w (10 ∷ kept) (t ++ rest))) (more-behind w vs j k x h e g b) y n q
 
-  -- a line that is too long is refused at its start; else by what it does, or behind it
-  by-length : (t : List ℕ) (a i p : ℕ) (v : Spot) (c z : ℕ) (k : ℕ → ℕ → Spot → Answer) (A : Type 0) → (z ≡ a → A)
-      → (lineLength t ≤ longest-line → (d : Done) → line-does R t a i p v ≡ d → does R (tokens (R .tabs) t 0 a fresh) i p v ≡ d → resume d k ≡ refuse c z → A)
-      → resume (line-does R t a i p v) k ≡ refuse c z → A
-  by-length t a i p v c z k A f g =
-      let d = does R (tokens (R .tabs) t 0 a fresh) i p v in
-      by-case (λ q. ltb longest-line (lineLength t) ≡ q
-      → (lineLength t ≤ longest-line → (x : Done) → pick q (refused 16 a) d ≡ x → d ≡ x → resume x k ≡ refuse c z → A) → resume (pick q (refused 16 a) d) k ≡ refuse c z → A)
-      (ltb longest-line (lineLength t)) (λ _ h _ e. f (sym (place-of e))) (λ _ h y e. y (ltb-false longest-line (lineLength t) h) d refl refl e) refl g
+    -- what a line does that is not too long
+    abbrev line-did : List ℕ → Done
+    line-did t = does R (tokens (R .tabs) t 0 a fresh) i p v
 
-  -- the place is on the text's first line, or that line's start
-  here : (t rest : List ℕ) (a i p : ℕ) (v : Spot) (c z : ℕ) (d : Done) → i ≤ R .points → (owed v ≡ true → Ordinate p) → Single t → lineLength t ≤ longest-line
-      → does R (tokens (R .tabs) t 0 a fresh) i p v ≡ d → Stopped c z (a + length t) t d → Where R (t ++ rest) c z a i p v
-  unfolding none-behind
-  here t rest a i p v c z d l o g n e q = on-a-line [] t rest refl (none-behind a i p v l o) g n (rw e q)
+    -- a line that is too long is refused at its start; else by what it does, or behind it
+    by-length : (t : List ℕ) (k : ℕ → ℕ → Spot → Answer) (A : Type 0) → (z ≡ a → A)
+        → (lineLength t ≤ longest-line → (d : Done) → line-does R t a i p v ≡ d → line-did t ≡ d → resume d k ≡ refuse c z → A)
+        → resume (line-does R t a i p v) k ≡ refuse c z → A
+    by-length t k A f g =
+        by-case (λ q. ltb longest-line (lineLength t) ≡ q
+        → (lineLength t ≤ longest-line → (x : Done) → pick q (refused 16 a) (line-did t) ≡ x → line-did t ≡ x → resume x k ≡ refuse c z → A)
+        → resume (pick q (refused 16 a) (line-did t)) k ≡ refuse c z → A) (ltb longest-line (lineLength t))
+        (λ _ h _ e. f (sym (place-of e))) (λ _ h y e. y (ltb-false longest-line (lineLength t) h) (line-did t) refl refl e) refl g
 
-  at-once : (s : List ℕ) (a i p : ℕ) (v : Spot) (c z : ℕ) → i ≤ R .points → (owed v ≡ true → Ordinate p) → z ≡ a → Where R s c z a i p v
-  unfolding none-behind
-  at-once s a i p v c z l o e = at-start [] s refl (none-behind a i p v l o) e
+    module _ (l : i ≤ R .points) (o : owed v ≡ true → Ordinate p) where
+      -- the place is on the text's first line, or that line's start
+      here : (t rest : List ℕ) (d : Done) → Single t → lineLength t ≤ longest-line → line-did t ≡ d → Stopped c z (a + length t) t d → Where R (t ++ rest) c z a i p v
+      unfolding none-behind
+      here t rest d g n e q = on-a-line [] t rest refl (none-behind l o) g n (rw e q)
 
-  -- a line with its LF, and then s
-  by-line : (w s : List ℕ) (a i p : ℕ) (v : Spot) (c z : ℕ) → NoLf w → i ≤ R .points → (owed v ≡ true → Ordinate p)
-      → ((b j q : ℕ) (x : Spot) (c z : ℕ) → j ≤ R .points → (owed x ≡ true → Ordinate q) → reading R s b j q x ≡ refuse c z → Where R s c z b j q x)
-      → lineLength (w ++ 10 ∷ []) ≤ longest-line → (d : Done) → line-does R (w ++ 10 ∷ []) a i p v ≡ d → does R (tokens (R .tabs) (w ++ 10 ∷ []) 0 a fresh) i p v ≡ d
-      → resume d (reading R s (a + suc (length w))) ≡ refuse c z → Where R (w ++ 10 ∷ s) c z a i p v
-  by-line w s a i p v c z h l o ih n (refused x y) _ f g =
-      rw (append-assoc w (10 ∷ []) s) at (here (w ++ 10 ∷ []) s a i p v c z (refused x y) l o (single-whole w h) n f (rw (number-of g, place-of g) faulty))
-  by-line w s a i p v c z h l o ih n (went vs j k x) y f g =
-      let m : Leaves R i p (went vs j k x) = rw f at (does-leaves R (tokens (R .tabs) (w ++ 10 ∷ []) 0 a fresh) i p v l o) in
-      more-before w s a i p v h vs j k x c z y m (ih (a + suc (length w)) j k x c z (m .2) (m .3) (push-refuse vs (reading R s (a + suc (length w)) j k x) c z g))
+      at-once : (s : List ℕ) → z ≡ a → Where R s c z a i p v
+      unfolding none-behind
+      at-once s e = at-start [] s refl (none-behind l o) e
 
-  -- a last line, and 12 and 13 behind it
-  find-last : (t : List ℕ) → NoLf t → (a i p : ℕ) (v : Spot) (c z : ℕ) → i ≤ R .points → (owed v ≡ true → Ordinate p) → reading R t a i p v ≡ refuse c z → Where R t c z a i p v
-  find-last t h a i p v c z l o e =
-      by-length t a i p v c z (λ j q u. finish R (a + length t) j (difBefore u)) (Where R t c z a i p v) (at-once t a i p v c z l o) (λ n d _ f. stopped n d f) (sym (last-line R t a i p v h) ∙ e)
-    where
-      stopped : lineLength t ≤ longest-line → (d : Done) → does R (tokens (R .tabs) t 0 a fresh) i p v ≡ d → resume d (λ j q u. finish R (a + length t) j (difBefore u)) ≡ refuse c z
-          → Where R t c z a i p v
-      stopped n (refused x y) f g = rw (← append-nil t) (here t [] a i p v c z (refused x y) l o (single-last t h) n f (rw (number-of g, place-of g) faulty))
-      stopped n (went vs j k x) f g =
+      -- a line with its LF, and then s
+      by-line : (w s : List ℕ) → NoLf w
+          → ((j q : ℕ) (x : Spot) → j ≤ R .points → (owed x ≡ true → Ordinate q) → reading R s (a + suc (length w)) j q x ≡ refuse c z → Where R s c z (a + suc (length w)) j q x)
+          → lineLength (w ++ 10 ∷ []) ≤ longest-line → (d : Done) → line-does R (w ++ 10 ∷ []) a i p v ≡ d → line-did (w ++ 10 ∷ []) ≡ d
+          → resume d (reading R s (a + suc (length w))) ≡ refuse c z → Where R (w ++ 10 ∷ s) c z a i p v
+      by-line w s h ih n (refused x y) _ f g =
+          rw (append-assoc w (10 ∷ []) s) at (here (w ++ 10 ∷ []) s (refused x y) (single-whole w h) n f (rw (number-of g, place-of g) faulty))
+      by-line w s h ih n (went vs j k x) y f g =
+          let m : Leaves R i p (went vs j k x) = rw f at (does-leaves R (tokens (R .tabs) (w ++ 10 ∷ []) 0 a fresh) i p v l o) in
+          more-before w s vs j k x h y m (ih j k x (m .2) (m .3) (push-refuse vs (reading R s (a + suc (length w)) j k x) c z g))
+
+      -- a last line, and 12 and 13 behind it
+      by-last : (t : List ℕ) → NoLf t → lineLength t ≤ longest-line → (d : Done) → line-did t ≡ d → resume d (λ j q u. finish R (a + length t) j (difBefore u)) ≡ refuse c z
+          → Where R (t ++ []) c z a i p v
+      by-last t h n (refused x y) f g = here t [] (refused x y) (single-last t h) n f (rw (number-of g, place-of g) faulty)
+      by-last t h n (went vs j k x) f g =
           let y = finish-place R (a + length t) j (difBefore x) c z (push-refuse vs (finish R (a + length t) j (difBefore x)) c z g) in
-          rw (← append-nil t) (here t [] a i p v c z (went vs j k x) l o (single-last t h) n f (over-there h (sym y)))
+          here t [] (went vs j k x) (single-last t h) n f (over-there h (sym y))
 
-  -- THE LAW: the place of every refusal of a text, cut into its lines
-  pub find : {s : List ℕ} → Cut s → (a i p : ℕ) (v : Spot) (c z : ℕ) → i ≤ R .points → (owed v ≡ true → Ordinate p) → reading R s a i p v ≡ refuse c z → Where R s c z a i p v
-  find no-line = find-last [] tt
-  find (end-line b w h) = find-last (b ∷ w) h
-  find (whole-line w s h k) = λ a i p v c z l o e.
-      by-length (w ++ 10 ∷ []) a i p v c z (reading R s (a + suc (length w))) (Where R (w ++ 10 ∷ s) c z a i p v) (at-once (w ++ 10 ∷ s) a i p v c z l o)
-      (λ n d y f. by-line w s a i p v c z h l o (find k) n d y f) (sym (line-then R w s a i p v h) ∙ e)
+      find-last : (t : List ℕ) → NoLf t → reading R t a i p v ≡ refuse c z → Where R t c z a i p v
+      find-last t h e =
+          by-length t (λ j q u. finish R (a + length t) j (difBefore u)) (Where R t c z a i p v) (at-once t) (λ n d _ f g. rw (append-nil t) at (by-last t h n d f g))
+          (sym (last-line R t a i p v h) ∙ e)
+
+-- THE LAW: the place of every refusal of a text, cut into its lines
+pub find : (R : Rules) {s : List ℕ} → Cut s → (a i p : ℕ) (v : Spot) (c z : ℕ) → i ≤ R .points → (owed v ≡ true → Ordinate p) → reading R s a i p v ≡ refuse c z
+    → Where R s c z a i p v
+find R no-line a i p v c z l o e = find-last R a i p v c z l o [] tt e
+find R (end-line b w h) a i p v c z l o e = find-last R a i p v c z l o (b ∷ w) h e
+find R (whole-line w s h k) a i p v c z l o e =
+    by-length R a i p v c z (w ++ 10 ∷ []) (reading R s (a + suc (length w))) (Where R (w ++ 10 ∷ s) c z a i p v) (at-once R a i p v c z l o (w ++ 10 ∷ s))
+    (by-line R a i p v c z l o w s h (λ j q x m n f. find R k (a + suc (length w)) j q x c z m n f)) (sym (line-then R w s a i p v h) ∙ e)
