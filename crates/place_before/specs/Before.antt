@@ -1,7 +1,7 @@
 -- What is promised of the bytes before the place of a refusal (01, "Refusal numbers"): some table begins with them, or they are one of two exceptions. It defines, and proves nothing. Assumes nothing.
 -- `Spells` has no limit on a body's length: the table that begins with them may be longer than a body can be.
 use mathlib.Core.Path.{_≡_}
-use mathlib.Core.Bool.{true}
+use mathlib.Core.Bool.{Bool, true, false}
 use mathlib.Core.List.{List, [], _∷_, _++_}
 use Prim.Native.Nat.{ℕ, _+_, _≤_, _<_}
 use lib.ListN.{length}
@@ -28,16 +28,16 @@ pub record Writable (R : Rules) : Type 0 where
 
 -- ---- of which refusals
 
--- the numbers that a value can get, and what stands in its place
-pub data AfterHead : ℕ → Type 0 where
-  is-3 : AfterHead 3
-  is-5 : AfterHead 5
-  is-8 : AfterHead 8
-  is-9 : AfterHead 9
-  is-10 : AfterHead 10
-  is-11 : AfterHead 11
+-- the numbers that the first value of a line can get, and what stands in its place; true: of a check line
+pub data AfterHead : Bool → ℕ → Type 0 where
+  is-3 : {due : Bool} → AfterHead due 3
+  is-5 : {due : Bool} → AfterHead due 5
+  is-8 : {due : Bool} → AfterHead due 8
+  is-9 : {due : Bool} → AfterHead due 9
+  is-10 : AfterHead true 10
+  is-11 : AfterHead false 11
 
--- the others from 3 on: given before a head, at one, at a body's end or at a line's start
+-- the others from 3 on: they stand before a head, at one, at a body's end or at a line's start
 pub data Elsewhere : ℕ → Type 0 where
   is-4 : Elsewhere 4
   is-6 : Elsewhere 6
@@ -103,5 +103,5 @@ pub record Narrow (R : Rules) (x : List ℕ) : Type 0 where
 -- THE PROMISE, for the bytes before the place of a refusal with the number c
 pub data Before (R : Rules) (c : ℕ) (x : List ℕ) : Type 0 where
   can-stay : CanStay R x → Before R c x
-  but-full : AfterHead c → Full R x → Before R c x
-  but-narrow : AfterHead c → Narrow R x → Before R c x
+  but-full : AfterHead false c → Full R x → Before R c x
+  but-narrow : AfterHead true c → Narrow R x → Before R c x

@@ -1,12 +1,12 @@
 -- Where a line stops, at its fault or at its end: what stands before that can be closed by an LF, unless it is a head without a value (01, "Refusal numbers"). Assumes nothing.
-use mathlib.Core.Path.{_≡_, refl, sym, ap, _∙_}
+use mathlib.Core.Path.{_≡_, refl, sym, ap, _∙_, subst}
 use mathlib.Core.Bool.{Bool, true, false}
 use mathlib.Core.List.{List, [], _∷_, _++_, append-assoc}
 use Prim.Native.Nat.{ℕ, zero, suc, _+_, _≤_}
 use native.Mathlib.Omega.{arith}
 use lib.Dec.{leb}
 use lib.ListN.{length, length-append, drop}
-use borrow.Author.Tests.{leb-true, eq-eqb}
+use borrow.Author.Tests.{leb-true, leb-false, eq-eqb}
 use Rattle.terms.specs.Logic.{pick, by-case, zero-one, no-way}
 use Rattle.alphabet_spec.specs.Kinds.{Blank}
 use Rattle.alphabet_spec.specs.Digits.{Run, long, run, digits, some}
@@ -26,9 +26,9 @@ use Rattle.table_law.specs.Linewise.{NoLf}
 use Rattle.table_law.specs.WholeLine.{Done, refused, went, add, takes, does}
 use Rattle.plain_law.specs.Single.{Single, single-tail, EndAll, lf-last, cr-all, dollar-all, all-passed}
 use Rattle.place_on.specs.HeadOnly.{Blanks, no-blank, one-blank, HeadOnly, after-blank, a-head}
-use Rattle.place_before.specs.Before.{AfterHead, is-3, is-5, is-11}
+use Rattle.place_before.specs.Before.{AfterHead}
 use Rattle.place_before.specs.Fronts.{Front, head-front, value-front, end-closes}
-use Rattle.place_before.specs.ValueLaws.{Numbered, numbered, owed, stands-owed}
+use Rattle.place_before.specs.ValueLaws.{NumberAt, Numbered, numbered, three, five, eleven, owed, stands-owed}
 use Rattle.place_before.specs.OneLine.{Begins, lf-only, cr-lf-only, counts, begins}
 
 -- ---- where a line stops
@@ -37,10 +37,13 @@ use Rattle.place_before.specs.OneLine.{Begins, lf-only, cr-lf-only, coun
 no-first : {A : Type 0} {r : Form} {c : Bool} → after r ≡ first c → A
 no-first e = zero-one cc
 
--- a line that stops at a fault of a value, or of what stands in its place
-abbrev pub FaultIn : Done → Type 0
-FaultIn (refused c z) = AfterHead c
-FaultIn (went vs j l u) = ⊥
+same-first : {b c : Bool} → first b ≡ first c → b ≡ c
+same-first e = cc
+
+-- a line that stops at a fault of its first value, or of what stands in its place; true: a check line
+abbrev pub FaultIn : Bool → Done → Type 0
+FaultIn due (refused c z) = AfterHead due c
+FaultIn due (went vs j l u) = ⊥
 
 -- a line's values at the place, and the lines after it, make a body
 abbrev pub Onward : Rules → ℕ → ℕ → Bool → List ℕ → Type 0
@@ -62,21 +65,21 @@ module _ (R : Rules) (e : ℕ) where
   data LineFate (q : Bool) (w : Spot) (i p : ℕ) (t : List ℕ) (d : Done) : Type 0 where
     line-closes : (us : List ℕ) (r : Form) (l : ℕ) (kept rest : List ℕ) → t ≡ kept ++ rest → Stops d rest → i + length us ≤ R .points → (isDif r ≡ true → Ordinate l)
         → ((u : List ℕ) → Line (R .tabs) q w p us r l (kept ++ 10 ∷ u) u) → LineFate q w i p t d
-    line-bare : (c : Bool) → w ≡ first c → (kept rest : List ℕ) → t ≡ kept ++ rest → Stops d rest → FaultIn d → Blanks (R .tabs) kept → LineFate q w i p t d
+    line-bare : (c : Bool) → w ≡ first c → (kept rest : List ℕ) → t ≡ kept ++ rest → Stops d rest → FaultIn c d → Blanks (R .tabs) kept → LineFate q w i p t d
 
   -- from a line's start, after i points, the last of them p; true: it is a check line. An LF may end the line at the place, and the next lines go on from a state; or a head
   -- stands before it, and no value
   pub data Fate (i p : ℕ) (c : Bool) (t : List ℕ) (d : Done) : Type 0 where
     closes : (us : List ℕ) (j l : ℕ) (b : Bool) (kept rest : List ℕ) → t ≡ kept ++ rest → Stops d rest → j ≤ R .points → (b ≡ true → Ordinate l)
         → ((ys u : List ℕ) → Body R j l b ys u → Body R i p c (us ++ ys) (kept ++ 10 ∷ u)) → Fate i p c t d
-    head-only : (kept rest : List ℕ) → t ≡ kept ++ rest → Stops d rest → FaultIn d → HeadOnly (R .tabs) kept → Onward R i p c kept → Fate i p c t d
+    head-only : (kept rest : List ℕ) → t ≡ kept ++ rest → Stops d rest → FaultIn c d → HeadOnly (R .tabs) kept → Onward R i p c kept → Fate i p c t d
 
   -- ---- at the place itself: before a head, and after one
 
   fate-here : (i p : ℕ) (c : Bool) (t : List ℕ) (k a : ℕ) → i ≤ R .points → (c ≡ true → Ordinate p) → a + length t ≡ e → 1 ≤ lineLength t → Fate i p c t (refused k a)
   fate-here i p c t k a l o h n = closes [] i p c [] t refl (at-fault h n) l o (λ ys u b. passed end-lf b)
 
-  line-here : (q : Bool) (w : Spot) (i p : ℕ) (t : List ℕ) (k a : ℕ) → i ≤ R .points → (owed w ≡ true → Ordinate p) → a + length t ≡ e → 1 ≤ lineLength t → AfterHead k
+  line-here : (q : Bool) (w : Spot) (i p : ℕ) (t : List ℕ) (k a : ℕ) → i ≤ R .points → (owed w ≡ true → Ordinate p) → a + length t ≡ e → 1 ≤ lineLength t → NumberAt w k
       → LineFate q w i p t (refused k a)
   line-here q (first c) i p t k a l o h n m = line-bare c refl [] t refl (at-fault h n) m no-blank
   line-here q (after r) i p t k a l o h n m = line-closes [] r p [] t refl (at-fault h n) (omega arith) o (λ u. done end-lf)
@@ -112,8 +115,8 @@ module _ (R : Rules) (e : ℕ) where
 
   -- a head that passes
   head-then : {i p h x : ℕ} {c : Bool} {t r : List ℕ} {d : Done} (z : Front (Head h x) t r) → R .passing h x (index c i) ≡ true → LineFate false (first c) i p r d → Fate i p c t d
-  head-then {i = i} {c = c} z g (line-bare b f kept rest a n k m) =
-      head-only (z .bytes ++ kept) rest (joined (z .bytes) kept rest (z .text) a) n k (a-head (z .again kept) m)
+  head-then {i = i} {c = c} {d = d} z g (line-bare b f kept rest a n k m) =
+      head-only (z .bytes ++ kept) rest (joined (z .bytes) kept rest (z .text) a) n (subst (λ y. FaultIn y d) (sym (same-first f)) k) (a-head (z .again kept) m)
       (λ vs ys u s r l v y. rw (append-assoc (z .bytes) kept u) (row (z .again (kept ++ u)) (belongs c i) g (blanks-line m v false) (form-ends r) y))
   head-then {i = i} {c = c} z g (line-closes us r l kept rest a n k o f) =
       closes us (i + length us) l (isDif r) (z .bytes ++ kept) rest (joined (z .bytes) kept rest (z .text) a) n k o
@@ -146,21 +149,21 @@ module _ (R : Rules) (e : ℕ) where
   unfolding does
   no-fresh k a t h n i p w l o = fate-here i p (difBefore w) t k a l o h n
 
-  no-inner : (q : Bool) (k a : ℕ) (t : List ℕ) → a + length t ≡ e → 1 ≤ lineLength t → AfterHead k → From (inner q) (fault k a) t
+  no-inner : (q : Bool) (k a : ℕ) (t : List ℕ) → a + length t ≡ e → 1 ≤ lineLength t → ((w : Spot) → NumberAt w k) → From (inner q) (fault k a) t
   unfolding does
-  no-inner q k a t h n m i p w l o b = line-here q w i p t k a l o h n m
+  no-inner q k a t h n m i p w l o b = line-here q w i p t k a l o h n (m w)
 
   -- a value: refused, or taken, and then the rest of the line
   after-value : (q : Bool) (a : ℕ) (x : Value) (t u : List ℕ) (r : Tokens) → Spelled q x t u → a + length t ≡ e → 1 ≤ lineLength t → From (inner false) r u → From (inner q) (value a x r) t
   unfolding does
   after-value q a x t u r g h n k i p w l o b = go (says w p x) (said w p x) (numbered w p x)
     where
-      go : (y : Says) → Said w p x y → Numbered y → LineFate q w i p t (takes R (λ j y f. does R r j y (after f)) a i p y)
+      go : (y : Says) → Said w p x y → Numbered w y → LineFate q w i p t (takes R (λ j y f. does R r j y (after f)) a i p y)
       go (refuses c) s m = line-here q w i p t c a l o h n m
       go (adds us f) s m =
           by-case (λ v. leb (i + length us) (R .points) ≡ v → LineFate q w i p t (pick v (add us (does R r (i + length us) (lastOr p us) (after f))) (refused 11 a))) (leb (i + length us) (R .points))
           (λ _ v. value-then (value-front g) s (k (i + length us) (lastOr p us) (after f) (leb-true (i + length us) (R .points) v) (stands-owed s o) tt))
-          (λ _ v. line-here q w i p t 11 a l o h n is-11) refl
+          (λ _ v. line-here q w i p t 11 a l o h n (eleven (R .points) i s l (leb-false (i + length us) (R .points) v))) refl
 
   -- one byte b of a line, and the text s after it
   module _ (b : ℕ) (s : List ℕ) (a : ℕ) (he : a + length (b ∷ s) ≡ e) (n : 1 ≤ lineLength (b ∷ s)) (g : Single (b ∷ s))
@@ -175,7 +178,7 @@ module _ (R : Rules) (e : ℕ) where
 
     inner-end : (q : Bool) (x : Ending) → EndIs b s x → EndAll s x → From (inner q) (ended (λ n. line (K n fresh)) a x) (b ∷ s)
     inner-end q (ends-in k) h y = rw (y, all-passed (R .tabs) s (suc a) e (omega arith)) (inner-over q e h)
-    inner-end q no-end h y = no-inner q 3 a (b ∷ s) he n is-3
+    inner-end q no-end h y = no-inner q 3 a (b ∷ s) he n three
 
     lf-all : b ≡ 10 → EndAll s (ending lf s)
     unfolding ending
@@ -207,22 +210,22 @@ module _ (R : Rules) (e : ℕ) where
     opens other h = no-fresh 3 a (b ∷ s) he n
 
     values : (q : Bool) (f : ℕ → Value) (x : Run) → ValueIs q f b s x → From (inner q) (valued K a f x) (b ∷ s)
-    values q f long h = no-inner q 5 a (b ∷ s) he n is-5
+    values q f long h = no-inner q 5 a (b ∷ s) he n five
     values q f (run v j) h = after-value q a (f v) (b ∷ s) (drop j s) (K j (inner false)) h he n (ih j (inner false))
 
     insides : (q : Bool) (c : Byte) → Back (R .tabs) b c → From (inner q) (inside K a s q c) (b ∷ s)
     unfolding inside
     insides true (digit d) h = values true (own false) (digits s 9 d 0) (plain-is d b s (h .0) (h .1))
-    insides false (digit d) h = no-inner false 5 a (b ∷ s) he n is-5
+    insides false (digit d) h = no-inner false 5 a (b ∷ s) he n five
     insides q (lead k d) h = values q (valueOf k) (digits s (room k d) d 0) (packed-is q k d b s h)
     insides q (sign m) h = values q (own m) (some (digits s 10 0 0)) (signed-is (R .tabs) q m b s h)
     insides q quest h = after-value q a gap (b ∷ s) s (K 0 (inner false)) (rw h missing) he n (ih 0 (inner false))
     insides q blank h = λ i p w l o y. blank-then h (ih 0 (inner true) i p w l o y)
-    insides q point h = no-inner q 3 a (b ∷ s) he n is-3
+    insides q point h = no-inner q 3 a (b ∷ s) he n three
     insides q lf h = inner-end q (ending lf s) (ending-is (R .tabs) b s lf h) (lf-all h)
     insides q cr h = inner-end q (ending cr s) (ending-is (R .tabs) b s cr h) (cr-all s (single-tail b s g))
     insides q dollar h = inner-end q (ending dollar s) (ending-is (R .tabs) b s dollar h) (dollar-all s (single-tail b s g))
-    insides q other h = no-inner q 3 a (b ∷ s) he n is-3
+    insides q other h = no-inner q 3 a (b ∷ s) he n three
 
     steps : (m : Mode) (c : Byte) → Back (R .tabs) b c → From m (step K a s m c) (b ∷ s)
     unfolding step

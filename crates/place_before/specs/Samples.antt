@@ -56,6 +56,10 @@ samples =
     -- 78 spaces and `A`: 10 at the 80th byte of the line, where `A1`, the 11 that is wanted, does not fit: with it the line is too long
     record { body = narrow-text 78 (65 ∷ []); answer = refuse 10 84 } ∷
     record { body = narrow-text 78 (65 ∷ 49 ∷ []); answer = refuse 16 5 } ∷
+    -- 3 for `!`, 5 for `+`, 8 for `J`
+    record { body = narrow-text 78 (33 ∷ []); answer = refuse 3 84 } ∷
+    record { body = narrow-text 78 (43 ∷ []); answer = refuse 5 84 } ∷
+    record { body = narrow-text 78 (74 ∷ []); answer = refuse 8 84 } ∷
     -- 77 spaces leave room for it: `A1/2?/3?` makes a table
     record { body = narrow-text 77 (65 ∷ []); answer = refuse 10 83 } ∷
     record { body = narrow-text 77 (65 ∷ 49 ∷ 10 ∷ 50 ∷ 63 ∷ 10 ∷ 51 ∷ 63 ∷ []); answer = accept (2147483658 ∷ 2147483659 ∷ 0 ∷ 0 ∷ []) } ∷

@@ -78,7 +78,7 @@ module _ (R : Rules) (W : Writable R) (kept : List ℕ) (b : Behind R kept 0 0 0
       (w ++ 10 ∷ u, b .given ++ ys, rw (append-assoc kept k (w ++ 10 ∷ u)) (goes-on R kept b ys (k ++ (w ++ 10 ∷ u)) (rw e r) short))
 
   -- a head without a value: `?` closes its line, or the last ordinate where a check is due
-  head-stays : (c : ℕ) (k : List ℕ) (due : Bool) → difBefore (b .spot) ≡ due → Onward R (b .count) (b .last) due k → HeadOnly (R .tabs) k → AfterHead c → suc (length k) ≤ longest-line
+  head-stays : (c : ℕ) (k : List ℕ) (due : Bool) → difBefore (b .spot) ≡ due → Onward R (b .count) (b .last) due k → HeadOnly (R .tabs) k → AfterHead due c → suc (length k) ≤ longest-line
       → Before R c (kept ++ k)
   head-stays c k false e f h m n =
       by-case (λ _. Before R c (kept ++ k)) (ltb (b .count) (R .points))
@@ -118,17 +118,17 @@ module _ (R : Rules) (W : Writable R) (kept : List ℕ) (b : Behind R kept 0 0 0
 
   -- where a line stops, there is room for what closes it
   room : {c z e : ℕ} {t : List ℕ} {d : Done} (k r : List ℕ) → t ≡ k ++ r → Single t → lineLength t ≤ longest-line → Stops R e d r → Stopped c z e t d
-      → (z + length r ≡ e) × (length k ≤ longest-line) × (FaultIn d → AfterHead c × (suc (length k) ≤ longest-line))
+      → (z + length r ≡ e) × (length k ≤ longest-line) × ((due : Bool) → FaultIn due d → AfterHead due c × (suc (length k) ≤ longest-line))
   room k r x g n (at-fault h m) faulty =
       let y = bytes-before k r (rw x at g) m in
       let v : lineLength (k ++ r) ≤ longest-line = rw x at n in
-      (h, omega (arith, y, v), λ q. (q, omega (arith, y, v)))
+      (h, omega (arith, y, v), λ _ q. (q, omega (arith, y, v)))
   room {t = t} k r x g n (at-end h) (over-there m e) =
       let y = h (no-lf-end k r (rw x at m)) in
       let v = bytes-all t m in
       let q = ap length x in
       let p = ap length y in
-      (omega (arith, e, p), omega (arith, v, q, n, length-append k r), λ f. absurd f)
+      (omega (arith, e, p), omega (arith, v, q, n, length-append k r), λ _ f. absurd f)
 
   -- what stands before the place on its line
   on-line-stays : {c z e : ℕ} {t : List ℕ} {d : Done} → Single t → lineLength t ≤ longest-line → Stopped c z e t d → Fate R e (b .count) (b .last) (difBefore (b .spot)) t d
@@ -139,7 +139,7 @@ module _ (R : Rules) (W : Writable R) (kept : List ℕ) (b : Behind R kept 0 0 0
       (k, r, x, m .0, can-stay (line-stays (difBefore (b .spot)) refl k [] (w .text) (us ++ w .ordinates) (omega (arith, m .1)) (f (w .ordinates) (w .text) (w .body)) (w .short)))
   on-line-stays {c = c} g n q (head-only k r x st y h f) =
       let m = room k r x g n st q in
-      (k, r, x, m .0, head-stays c k (difBefore (b .spot)) refl f h (m .2 y .0) (m .2 y .1))
+      (k, r, x, m .0, head-stays c k (difBefore (b .spot)) refl f h (m .2 (difBefore (b .spot)) y .0) (m .2 (difBefore (b .spot)) y .1))
 
 -- THE THEOREM, of what a body says: for rules whose heads can be written, and every refusal
 pub before-place : (R : Rules) → Writable R → (s : List ℕ) (c z : ℕ) → read R s ≡ refuse c z → Before R c (take z s)
@@ -157,7 +157,7 @@ before-place R W s c z e = stays (find R (cut s) 0 0 0 (after Own) c z (omega ar
         rw (y, take-at (kept ++ k) (r ++ rest) z l) (x .4)
 
 -- no value gets them
-not-after-head : {c : ℕ} → Elsewhere c → AfterHead c → ⊥
+not-after-head : {due : Bool} {c : ℕ} → Elsewhere c → AfterHead due c → ⊥
 not-after-head is-4 = elim [ ]
 not-after-head is-6 = elim [ ]
 not-after-head is-7 = elim [ ]

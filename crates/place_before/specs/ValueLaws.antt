@@ -1,45 +1,67 @@
--- Which number a value gets that is refused, and that the last ordinate is not missing where a check is due (01, "Meaning", "Checks" and "Refusal numbers"). Assumes nothing.
+-- Which number a line's first value gets that is refused, and that the last ordinate is not missing where a check is due (01, "Meaning", "Checks" and "Refusal numbers"). Assumes nothing.
 use mathlib.Core.Path.{_≡_, refl}
 use mathlib.Core.Bool.{Bool, true, false}
 use mathlib.Core.List.{List, [], _∷_}
-use Prim.Native.Nat.{ℕ, _-_}
-use lib.Dec.{ltb, leb, eqb}
+use Prim.Native.Nat.{ℕ, _+_, _≤_, _<_}
+use native.Mathlib.Omega.{arith}
+use lib.Dec.{leb, eqb}
+use lib.ListN.{length}
 use Rattle.terms.specs.Logic.{pick, no-way}
-use Rattle.table_spec.specs.Values.{Value, own, gap, by, times, Form, Own, Gap, By, Dup, isDif, Spot, first, after, ordinate, moved, copies}
-use Rattle.table_spec.specs.Reading.{Says, adds, refuses, inRange, allIn, again, says, difBefore}
+use Rattle.table_spec.specs.Values.{Value, own, gap, by, times, Form, Own, isDif, Spot, first, after, ordinate}
+use Rattle.table_spec.specs.Reading.{Says, adds, refuses, says, difBefore}
 use Rattle.table_law.specs.Spelling.{Ordinate, Steps, no-step, one-step, Stands, check, own-first, own-after, gap-first, gap-after, dif-after, dup-own, dup-gap, dup-dif}
-use Rattle.place_before.specs.Before.{AfterHead, is-8, is-9, is-10}
+use Rattle.place_before.specs.Before.{AfterHead, is-3, is-5, is-8, is-9, is-10, is-11}
 
--- ---- the number of a value that is refused
+-- ---- the number of a line's first value, where it is refused
 
-abbrev pub Numbered : Says → Type 0
-Numbered (adds us f) = Unit {0}
-Numbered (refuses n) = AfterHead n
+-- the number n at a spot; after a value any will do
+abbrev pub NumberAt : Spot → ℕ → Type 0
+NumberAt (first due) n = AfterHead due n
+NumberAt (after r) n = Unit {0}
 
--- whichever of the two it says; a DUP; any value
-either : (t : Bool) (x y : Says) → Numbered x → Numbered y → Numbered (pick t x y)
-either true x y h k = h
-either false x y h k = k
+abbrev pub Numbered : Spot → Says → Type 0
+Numbered w (adds us f) = Unit {0}
+Numbered w (refuses n) = NumberAt w n
 
-again-numbered : (r : Form) (n p : ℕ) → Numbered (again r n p)
-unfolding again
-again-numbered Own n p = tt
-again-numbered Gap n p = tt
-again-numbered (By m d) n p = either (allIn (copies n (By m d) p)) _ (refuses 9) tt is-9
-again-numbered (Dup b) n p = is-8
+-- whichever of the two it says; after a value; any value
+either : (w : Spot) (t : Bool) (x y : Says) → Numbered w x → Numbered w y → Numbered w (pick t x y)
+either w true x y h k = h
+either w false x y h k = k
 
-pub numbered : (w : Spot) (p : ℕ) (x : Value) → Numbered (says w p x)
+later : (r : Form) (y : Says) → Numbered (after r) y
+later r (adds us f) = tt
+later r (refuses n) = tt
+
+pub numbered : (w : Spot) (p : ℕ) (x : Value) → Numbered w (says w p x)
 unfolding says
-numbered (first true) p (own m v) = either (leb v 2147483647) _ (refuses 9) (either (eqb (ordinate m v) p) (adds [] Own) (refuses 10) tt is-10) is-9
-numbered (first false) p (own m v) = either (leb v 2147483647) (adds (ordinate m v ∷ []) Own) (refuses 9) tt is-9
-numbered (after r) p (own m v) = either (leb v 2147483647) (adds (ordinate m v ∷ []) Own) (refuses 9) tt is-9
+numbered (first true) p (own m v) =
+    either (first true) (leb v 2147483647) _ (refuses 9) (either (first true) (eqb (ordinate m v) p) (adds [] Own) (refuses 10) tt is-10) is-9
+numbered (first false) p (own m v) = either (first false) (leb v 2147483647) (adds (ordinate m v ∷ []) Own) (refuses 9) tt is-9
 numbered (first true) p gap = is-10
 numbered (first false) p gap = tt
-numbered (after r) p gap = tt
 numbered (first c) p (by m d) = is-8
-numbered (after r) p (by m d) = either (eqb p 0) (refuses 8) _ is-8 (either (inRange (moved m d p)) (adds (moved m d p ∷ []) (By m d)) (refuses 9) tt is-9)
 numbered (first c) p (times n) = is-8
-numbered (after r) p (times n) = either (ltb n 2) (refuses 8) _ is-8 (again-numbered r (n - 1) p)
+numbered (after r) p x = later r (says (after r) p x)
+
+-- 3, 5, and 11, which a check value does not get: it adds no point
+pub three : (w : Spot) → NumberAt w 3
+three (first c) = is-3
+three (after r) = tt
+
+pub five : (w : Spot) → NumberAt w 5
+five (first c) = is-5
+five (after r) = tt
+
+pub eleven : {w : Spot} {p e : ℕ} {x : Value} {us : List ℕ} {f : Form} (n i : ℕ) → Stands w p x us f e → i ≤ n → n < i + length us → NumberAt w 11
+eleven n i (check h) l k = absurd (omega arith)
+eleven n i (own-first h) l k = is-11
+eleven n i gap-first l k = is-11
+eleven n i (own-after h) l k = tt
+eleven n i gap-after l k = tt
+eleven n i (dif-after a s h) l k = tt
+eleven n i (dup-own h) l k = tt
+eleven n i (dup-gap h) l k = tt
+eleven n i (dup-dif h r) l k = tt
 
 -- ---- the last ordinate, where a check is due
 
