@@ -16,6 +16,7 @@ use Rattle.place_on.specs.HeadOnly.{HeadOnly}
 
 -- a head's text that passes for the index j, before any text. It leaves 10 of a line's 80 bytes, as many as the longest ordinate needs as SQZ
 pub record HeadFor (R : Rules) (j : ℕ) : Type 0 where
+  -- its abscissa
   pub place : ℕ
   pub text : List ℕ
   pub fits : length text ≤ 70
@@ -76,6 +77,7 @@ pub record CheckDue (R : Rules) (kept given : List ℕ) : Type 0 where
 
 -- THE FIRST EXCEPTION, the table was full: a head after N points is blamed at its first value
 pub record Full (R : Rules) (x : List ℕ) : Type 0 where
+  -- the lines before the head, and the head with its blanks
   pub kept : List ℕ
   pub lost : List ℕ
   pub parts : HeadLost R x kept lost
@@ -87,6 +89,7 @@ pub record Full (R : Rules) (x : List ℕ) : Type 0 where
 
 -- THE SECOND EXCEPTION, the line is too narrow: after the head of a check line there is too little room for the ordinate (02, T-06)
 pub record Narrow (R : Rules) (x : List ℕ) : Type 0 where
+  -- the lines before the head, and the head with its blanks
   pub kept : List ℕ
   pub lost : List ℕ
   pub parts : HeadLost R x kept lost

@@ -27,6 +27,7 @@ use Rattle.place_before.specs.Before.{last-lf, NoneBegins}
 use Rattle.place_before.specs.Lines.{Behind}
 use Rattle.place_before.specs.Stays.{comes-back}
 
+-- what this frame makes
 abbrev four : Rules
 four = rules 10000000000 10000003000 4
 
