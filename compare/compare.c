@@ -184,7 +184,9 @@ enum kind_of_case {
     DAMAGED,
     OLD_BODIES,
     OLD_FILES,
-    KINDS
+    REFUSED_BODIES,
+    COMPLETED,
+    KINDS = COMPLETED + 3
 };
 static const struct {
     const char *name, *minus_one;
@@ -207,6 +209,10 @@ static const struct {
     [DAMAGED] = {"bodies with every byte damaged", ""},
     [OLD_BODIES] = {"old bodies, converted", ""},
     [OLD_FILES] = {"old files, converted", ""},
+    [REFUSED_BODIES] = {"refused bodies", ""},
+    [COMPLETED] = {"completed from the place", ""},
+    [COMPLETED + 1] = {"completed from the line, N points given", ""},
+    [COMPLETED + 2] = {"completed from the line, no room for a check", ""},
 };
 
 static unsigned long passed, failed;
@@ -391,6 +397,56 @@ static void compare_body(void)
 #endif
     free(c.body);
     free(c.expected);
+}
+
+/* What is wrong with what a completion keeps of a refused body: all before the place, or all before its line. */
+static const char *kept_differs(const struct body_case *refused, const struct body_case *table, bool all, size_t kept)
+{
+    size_t place = (size_t)refused->right.place;
+    if (kept > place || place > refused->length || kept > table->length)
+        return "more is kept than stands before the place";
+    if (all && kept < place)
+        return "less is kept than stands before the place";
+    if (!all && (memchr(refused->body + kept, '\n', place - kept) || (kept && refused->body[kept - 1] != '\n')))
+        return "what is kept does not end where the line begins";
+    return memcmp(refused->body, table->body, kept) ? "what is kept is altered" : NULL;
+}
+
+/* A refused body, and a table that begins with what stands before the place. */
+static void compare_kept(void)
+{
+    struct body_case refused = {0}, table;
+    refused.first = take_i64();
+    refused.last = take_i64();
+    refused.points = take_u64();
+    refused.room = (uint32_t)refused.points;
+    table = refused;
+    refused.length = take_u32();
+    refused.body = take_bytes(refused.length);
+    refused.right = take_refusal();
+    uint32_t stays = take_u32();
+    size_t kept = take_u64();
+    table.length = take_u32();
+    table.body = take_bytes(table.length);
+    table.count = (int64_t)table.points;
+    table.expected = take_ordinates(table.points);
+
+    if (stays > 2) {
+        fprintf(stderr, "compare: no such thing stays: %" PRIu32 "\n", stays);
+        exit(2);
+    }
+    compare_reader(REFUSED_BODIES, read_table, &refused);
+    enum kind_of_case kind = COMPLETED + stays;
+    const char *difference = kept_differs(&refused, &table, stays == 0, kept);
+    if (!difference)
+        compare_reader(kind, read_table, &table);
+    else if (counted(kind, 0, difference)) {
+        show_bytes("body", refused.body, refused.length);
+        show_bytes("table", table.body, table.length);
+    }
+    free(refused.body);
+    free(table.body);
+    free(table.expected);
 }
 
 /* A digest with a number mixed in (FNV-1a, a number at a time). */
@@ -1385,6 +1441,9 @@ int main(void)
             break;
         case 'D':
             compare_damage();
+            break;
+        case 'A':
+            compare_kept();
             break;
 #ifndef COMPARE_C
         case 'F':

@@ -272,24 +272,40 @@ struct Reading {
 }
 
 impl Reading {
+    /// Nothing read yet.
+    fn of(frame: &Frame, blanks: Blanks) -> Reading {
+        Reading { frame: *frame, blanks, given: Vec::new(), line_before_ended_in_difference: false, heads: Vec::new() }
+    }
+
     /// Reads all lines of a body that keeps its limits.
     fn body(&mut self, body: &[u8]) -> Result<Vec<i32>, Refusal> {
-        for line in lines(body) {
-            if line.length > LONGEST_LINE {
-                return Err(refusal(16, line.start));
-            }
-            let tokens = tokens(&line, self.blanks);
-            if !tokens.is_empty() {
-                self.line(&tokens)?;
-            }
-        }
+        self.lines(&lines(body))?;
         if (self.given.len() as u64) < self.frame.points {
             return Err(refusal(12, body.len()));
         }
         if self.line_before_ended_in_difference {
             return Err(refusal(13, body.len()));
         }
-        Ok(self.given.iter().map(|y| y.map_or(MISSING, |y| y as i32)).collect())
+        Ok(self.list())
+    }
+
+    /// The points given so far.
+    fn list(&self) -> Vec<i32> {
+        self.given.iter().map(|y| y.map_or(MISSING, |y| y as i32)).collect()
+    }
+
+    /// Reads lines, the length of each first.
+    fn lines(&mut self, lines: &[Line]) -> Result<(), Refusal> {
+        for line in lines {
+            if line.length > LONGEST_LINE {
+                return Err(refusal(16, line.start));
+            }
+            let tokens = tokens(line, self.blanks);
+            if !tokens.is_empty() {
+                self.line(&tokens)?;
+            }
+        }
+        Ok(())
     }
 
     /// Reads one line that is not passed over.
@@ -394,10 +410,59 @@ pub fn judged_body(
     if (room as u64) < frame.points {
         return (Err(refusal(2, 0)), Vec::new());
     }
-    let mut reading =
-        Reading { frame: *frame, blanks, given: Vec::new(), line_before_ended_in_difference: false, heads: Vec::new() };
+    let mut reading = Reading::of(frame, blanks);
     let answer = reading.body(body);
     (answer, reading.heads)
+}
+
+/// What stands on the last line of a text that is cut off.
+#[derive(Clone, Copy, Debug, PartialEq, Eq)]
+pub enum Begun {
+    /// Blanks, a comment, or nothing.
+    Nothing,
+    /// A head, with blanks around it.
+    Head,
+    /// A head and values, the last of them in DIF form or not.
+    Values { in_difference: bool },
+}
+
+/// How far a table has come where its text is cut off.
+pub struct Standing {
+    /// The points given so far.
+    pub given: Vec<i32>,
+    /// Whether the last line is a check line.
+    pub check_due: bool,
+    /// Where the last line starts.
+    pub line_start: usize,
+    /// How many bytes it has.
+    pub line_length: usize,
+    /// What stands on it.
+    pub begun: Begun,
+}
+
+impl Reading {
+    /// Reads a text that is cut off between two tokens: its last line may go on, so a head without a value is no fault.
+    fn cut_off(&mut self, text: &[u8]) -> Result<Standing, Refusal> {
+        let mut lines = lines(text);
+        let last = lines.pop().expect("every text has a line");
+        self.lines(&lines)?;
+        let check_due = self.line_before_ended_in_difference;
+        let tokens = tokens(&last, self.blanks);
+        if !tokens.is_empty() {
+            self.line(&tokens).or_else(|fault| if fault.number == 7 { Ok(()) } else { Err(fault) })?;
+        }
+        let begun = match tokens.len() {
+            0 => Begun::Nothing,
+            1 => Begun::Head,
+            _ => Begun::Values { in_difference: self.line_before_ended_in_difference },
+        };
+        Ok(Standing { given: self.list(), check_due, line_start: last.start, line_length: last.length, begun })
+    }
+}
+
+/// How far a table has come at the end of a text that is cut off, or the fault that stands in it.
+pub fn standing(frame: &Frame, text: &[u8]) -> Result<Standing, Refusal> {
+    Reading::of(frame, Blanks::Spaces).cut_off(text)
 }
 
 /// A line as its length is judged, for counting: where it starts, its bytes, and how it ends.

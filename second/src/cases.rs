@@ -4,6 +4,7 @@ pub mod coarse;
 pub mod compound;
 pub mod damage;
 pub mod files;
+pub mod kept;
 pub mod old;
 pub mod profile;
 pub mod spell;
@@ -16,17 +17,18 @@ use crate::body::read_body;
 use crate::frame::{Frame, LONGEST, LONGEST_LINE};
 use crate::random::Random;
 use crate::stream::{
-    put_block_record_case, put_body_case, put_compound_case, put_damage_case, put_file_case, put_old_body_case, put_old_file_case, put_profile_case, put_record_case,
-    put_spool_case, put_write_case, put_written_file_case, BodyCase,
+    put_block_record_case, put_body_case, put_compound_case, put_damage_case, put_file_case, put_kept_case,
+    put_old_body_case, put_old_file_case, put_profile_case, put_record_case, put_spool_case, put_write_case,
+    put_written_file_case, BodyCase,
 };
 use crate::text::{write_body, TextForm, FORMS};
 use std::io::{self, Write};
 
 /// Writes as many cases of each kind as are asked for: bodies, tables to be written, files, files to be written,
-/// compound files, files with a page, spools, bodies to be damaged, old bodies and old files. A file case is often followed by a record case, that of a compound file by one of
-/// a block's record.
-pub fn write_cases(out: &mut impl Write, seed: u64, counts: [usize; 9]) -> io::Result<()> {
-    let [bodies, writes, files, written, compound, profiles, spools, damaged, old] = counts;
+/// compound files, files with a page, spools, bodies to be damaged, old bodies and old files, refused bodies to be
+/// completed. A file case is often followed by a record case, that of a compound file by one of a block's record.
+pub fn write_cases(out: &mut impl Write, seed: u64, counts: [usize; 10]) -> io::Result<()> {
+    let [bodies, writes, files, written, compound, profiles, spools, damaged, old, kept] = counts;
     let random = &mut Random::new(seed);
     for index in 0..bodies {
         put_body_case(out, &body_case(random, index, bodies))?;
@@ -63,6 +65,9 @@ pub fn write_cases(out: &mut impl Write, seed: u64, counts: [usize; 9]) -> io::R
     for _ in 0..old {
         put_old_body_case(out, &old::old_body_case(random))?;
         put_old_file_case(out, &old::old_file_case(random))?;
+    }
+    for _ in 0..kept {
+        put_kept_case(out, &kept::refused_body(random))?;
     }
     Ok(())
 }

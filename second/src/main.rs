@@ -10,6 +10,7 @@ mod file_text;
 mod file_tried;
 mod frame;
 mod heads;
+mod kept;
 mod lengths;
 mod line;
 mod night;
@@ -36,7 +37,7 @@ const PROGRAM_POINTS: u64 = 4_096;
 /// Prints how the program is used, and ends it.
 fn usage() -> ! {
     eprintln!("second cases --seed S --bodies A --writes B --files C --written-files D --compound E --profiles G");
-    eprintln!("             --spools H --damaged I --old J > stream");
+    eprintln!("             --spools H --damaged I --old J --kept M > stream");
     eprintln!("second stored --seed S --bodies A --writes B --files C --written-files D --cases PATH --answers PATH");
     eprintln!("second count < stream");
     eprintln!("second body F L N [--room R] < body");
@@ -88,7 +89,7 @@ fn cases_command(arguments: &[String]) -> io::Result<()> {
     let out = &mut BufWriter::new(io::stdout().lock());
     let number = |name| option(arguments, name, 0) as usize;
     let seed = option(arguments, "--seed", 1);
-    let counts = ["--bodies", "--writes", "--files", "--written-files", "--compound", "--profiles", "--spools", "--damaged", "--old"];
+    let counts = ["--bodies", "--writes", "--files", "--written-files", "--compound", "--profiles", "--spools", "--damaged", "--old", "--kept"];
     let counts = counts.map(number);
     cases::write_cases(out, seed, counts)?;
     out.flush()

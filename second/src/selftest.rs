@@ -5,6 +5,7 @@ mod compound;
 mod exact;
 mod forms;
 mod heads;
+mod kept;
 mod lengths;
 mod night;
 mod profile;
@@ -599,6 +600,7 @@ pub fn run() -> i32 {
     profile::check(report);
     night::check(report);
     tabs::check(report);
+    kept::check(report);
     let random = &mut Random::new(7);
     check_spellings(report, random);
     check_written(report, random);

@@ -8,6 +8,7 @@ use crate::file_text::{write_file, Given, Scales, WrittenFile};
 use crate::file_tried;
 use crate::frame::{Frame, Refusal};
 use crate::heads::{tried, TRIED};
+use crate::kept::completed;
 use crate::lengths;
 use crate::line::Told;
 use crate::night::{report, Totals};
@@ -363,6 +364,26 @@ pub fn put_damage_case(out: &mut impl Write, case: &BodyCase) -> io::Result<()> 
     [all.unequal + all.otherwise, all.same, all.other, found.digest].iter().try_for_each(|n| put_u64(out, *n))
 }
 
+/// Writes a case of a refused body: its refusal, and the table that begins with what stays of it. This reader reads that
+/// table as it should before it goes into the stream.
+pub fn put_kept_case(out: &mut impl Write, case: &BodyCase) -> io::Result<()> {
+    out.write_all(b"A")?;
+    put_frame(out, &case.frame)?;
+    put_bytes(out, &case.body)?;
+    let Frame { first, last, points } = case.frame;
+    let read = |text: &[u8]| read_body(first, last, points, text, points as usize);
+    let fault = read(&case.body).err().ok_or(broken("not refused"))?;
+    let made = completed(&case.frame, &case.body, fault).map_err(|_| broken("a fault before the place"))?;
+    if read(&made.text).ok().as_ref() != Some(&made.ordinates) {
+        return Err(broken("what stands before the place is not completed"));
+    }
+    put_told(out, fault.told(&case.body))?;
+    put_u32(out, made.stays as u32)?;
+    put_u64(out, made.kept as u64)?;
+    put_bytes(out, &made.text)?;
+    put_ordinates(out, &made.ordinates)
+}
+
 /// Writes a case of an old body: what the converter makes of it, and how it was read before.
 pub fn put_old_body_case(out: &mut impl Write, case: &BodyCase) -> io::Result<()> {
     out.write_all(b"T")?;
@@ -516,6 +537,7 @@ impl<R: Read> Stream<R> {
             b'P' => self.profile_case(),
             b'N' => Ok(named("N", self.spool_case()?)),
             b'D' => Ok(named("D", self.damage_case()?)),
+            b'A' => self.kept_case(),
             b'T' => Ok(named("T", self.old_body_case()?)),
             b'U' => Ok(named("U", self.old_file_case()?)),
             _ => Err(broken("no such kind of case")),
@@ -620,6 +642,19 @@ impl<R: Read> Stream<R> {
         let number = self.u32()?;
         self.u64()?;
         Ok((number, length))
+    }
+
+    /// The rest of a case of a refused body, which is told by what of it stays.
+    fn kept_case(&mut self) -> io::Result<(&'static str, u32, usize)> {
+        let points = self.frame()?.points as usize;
+        self.counted()?;
+        let number = self.told()?;
+        let names = ["A all before the place", "A before the line, N points given", "A before the line, no room for a check"];
+        let name = names.get(self.u32()? as usize).ok_or(broken("no such thing stays"))?;
+        self.u64()?;
+        let length = self.counted()?.len();
+        self.bytes(4 * points)?;
+        Ok((name, number, length))
     }
 
     /// The rest of a case of an old body.

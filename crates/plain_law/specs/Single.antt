@@ -34,17 +34,17 @@ Single [] = Unit {0}
 Single (b ∷ []) = Unit {0}
 Single (b ∷ c ∷ t) = (eqb b 10 ≡ false) × Single (c ∷ t)
 
-single-tail : (b : ℕ) (s : List ℕ) → Single (b ∷ s) → Single s
+pub single-tail : (b : ℕ) (s : List ℕ) → Single (b ∷ s) → Single s
 single-tail b [] h = tt
 single-tail b (c ∷ t) h = h .1
 
 -- ---- a line's end is the end of its text
 
-abbrev EndAll : List ℕ → Ending → Type 0
+abbrev pub EndAll : List ℕ → Ending → Type 0
 EndAll s none = Unit {0}
 EndAll s (ends n) = n ≡ length s
 
-lf-last : (b : ℕ) (s : List ℕ) → Single (b ∷ s) → eqb b 10 ≡ true → 0 ≡ length s
+pub lf-last : (b : ℕ) (s : List ℕ) → Single (b ∷ s) → eqb b 10 ≡ true → 0 ≡ length s
 lf-last b [] h e = refl
 lf-last b (c ∷ t) h e = no-way (sym (h .0) ∙ e)
 
@@ -54,12 +54,12 @@ comment-all [] h = refl
 comment-all (b ∷ []) h = by-case (λ t. _≡_ {A = ℕ} (pick t 1 1) 1) (eqb b 10) (λ _. refl) (λ _. refl)
 comment-all (b ∷ c ∷ t) h = rw (h .0) (ap suc (comment-all (c ∷ t) (h .1)))
 
-cr-all : (s : List ℕ) → Single s → EndAll s (ending cr s)
+pub cr-all : (s : List ℕ) → Single s → EndAll s (ending cr s)
 unfolding ending
 cr-all [] h = tt
 cr-all (x ∷ t) h = by-case (λ y. eqb x 10 ≡ y → EndAll (x ∷ t) (pick y (ends 1) none)) (eqb x 10) (λ _ e. ap suc (lf-last x t h e)) (λ _ e. tt) refl
 
-dollar-all : (s : List ℕ) → Single s → EndAll s (ending dollar s)
+pub dollar-all : (s : List ℕ) → Single s → EndAll s (ending dollar s)
 unfolding ending
 dollar-all [] h = tt
 dollar-all (x ∷ t) h = by-case (λ y. EndAll (x ∷ t) (pick y (ends (suc (comment t))) none)) (eqb x 36) (λ _. ap suc (comment-all t (single-tail x t h))) (λ _. tt)
@@ -122,7 +122,7 @@ unfolding stop
 stopped a fresh = refl
 stopped a (inner q) = refl
 
-all-passed : (tabs : Bool) (s : List ℕ) (a z : ℕ) → a + length s ≡ z → tokens tabs s (length s) a fresh ≡ over z
+pub all-passed : (tabs : Bool) (s : List ℕ) (a z : ℕ) → a + length s ≡ z → tokens tabs s (length s) a fresh ≡ over z
 unfolding tokens stop
 all-passed tabs [] a z e = ap over (omega arith)
 all-passed tabs (b ∷ s) a z e = all-passed tabs s (suc a) z (omega arith)

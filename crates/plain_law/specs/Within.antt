@@ -34,9 +34,9 @@ tokens-within tabs s n a q =
     every a (a + length s) Starts Within
     (record {
       s-over = tt;
-      s-fault = λ c b x. tt;
+      s-fault = λ c b n x. tt;
       s-head = λ b h u r x y. tt;
-      i-fault = λ c b x. tt;
+      i-fault = λ c b n x. tt;
       i-value = λ b v r x y. y;
       i-line = λ r x. x;
     }) tabs s n a (inner q) (omega arith) refl

@@ -44,7 +44,7 @@ value-apart tabs (dif-more g z l r) e = ap lengthens (pseudo-kind tabs g)
 value-apart tabs (dup-more g l r) e = ap lengthens (pseudo-kind tabs g)
 value-apart tabs missing e = refl
 
-line-apart : {tabs q : Bool} {w : Spot} {p e : ℕ} {vs t s : List ℕ} {r : Form} → Line tabs q w p vs r e t s → q ≡ false → Apart tabs t
+pub line-apart : {tabs q : Bool} {w : Spot} {p e : ℕ} {vs t s : List ℕ} {r : Form} → Line tabs q w p vs r e t s → q ≡ false → Apart tabs t
 line-apart {tabs = tabs} (done h) g = end-apart tabs h
 line-apart (with-blank h r) g = ap lengthens (blank-kind h)
 line-apart {tabs = tabs} (with-value h m r) g = value-apart tabs h g
@@ -87,7 +87,7 @@ module _ (R : Rules) where
       let j = push-push us vs (judge R (tokens (R .tabs) s 0 (k .0) fresh) (i + length (us ++ vs)) y (after x)) in
       (k .0, rw (z .1, v .0, le-leb (i + length us) (R .points) (omega (arith, l)), v .1, k .1, e) j)
 
-  count : {i p : ℕ} {c : Bool} {ys t : List ℕ} → Body R i p c ys t → i + length ys ≡ R .points
+  pub count : {i p : ℕ} {c : Bool} {ys t : List ℕ} → Body R i p c ys t → i + length ys ≡ R .points
   count end = omega arith
   count (indent h r) = count r
   count (passed h r) = count r

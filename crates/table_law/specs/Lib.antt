@@ -10,5 +10,6 @@ pub mod Small
 pub mod Outcome
 pub mod Every
 pub mod Places
+pub mod Ahead
 pub mod Linewise
 pub mod WholeLine

@@ -2,20 +2,21 @@
 use mathlib.Core.Path.{_≡_, refl, sym, ap, _∙_}
 use mathlib.Core.Bool.{Bool, true, false}
 use mathlib.Core.List.{List, [], _∷_, _++_}
-use Prim.Native.Nat.{ℕ, zero, suc, _+_, _-_, _*_, _≤_}
+use Prim.Native.Nat.{ℕ, zero, suc, _+_, _≤_}
 use native.Mathlib.Omega.{arith}
 use native.Mathlib.Numerals.{add-one}
 use native.Mathlib.Nat.{le-of-suc-le-suc, not-suc-le-zero}
 use lib.Dec.{eqb}
-use lib.ListN.{length, drop}
+use lib.ListN.{length}
 use borrow.Author.Tests.{eq-eqb}
 use Rattle.terms.specs.Logic.{pick, by-case, no-way}
-use Rattle.alphabet_spec.specs.Digits.{within, Run, long, run, digits, some}
+use Rattle.alphabet_spec.specs.Digits.{Run, long, run, digits, some}
 use Rattle.alphabet_spec.specs.Bytes.{Byte, digit, lead, sign, quest, blank, point, lf, cr, dollar, other, kind}
 use Rattle.alphabet_spec.specs.KindLaws.{Back, kind-back}
 use Rattle.table_spec.specs.Values.{Value, own, gap, room, valueOf, headed-at}
-use Rattle.table_spec.specs.Reading.{Tokens, over, fault, head, value, line, HeadDigits, no-head, sized, unit, comment, starts, Ending, ends, none, ending, scaled, pointed}
+use Rattle.table_spec.specs.Reading.{Tokens, over, fault, head, value, line, HeadDigits, no-head, sized, comment, Ending, ends, none, ending}
 use Rattle.table_spec.specs.Reading.{thousandths, Mode, fresh, inner, Rest, ended, headed, valued, opening, inside, step, stop, tokens}
+use Rattle.table_law.specs.Ahead.{RunIn, HeadIn, some-in, digits-same, digits-in, head-same, head-in}
 
 -- tokens, and then others where the first are over
 abbrev pub and-then : Tokens → Tokens → Tokens
@@ -31,87 +32,6 @@ NoLf [] = Unit {0}
 NoLf (b ∷ w) = (eqb b 10 ≡ false) × NoLf w
 
 -- ---- what is looked at ahead lies on the line
-
-digits-line : (w s t : List ℕ) (m v n : ℕ) → digits (w ++ 10 ∷ s) m v n ≡ digits (w ++ 10 ∷ t) m v n
-unfolding digits
-digits-line [] s t m v n = refl
-digits-line (b ∷ w) s t zero v n = refl
-digits-line (b ∷ w) s t (suc m) v n = ap (λ (x : Run). pick (within 48 10 b) x (run v n)) (digits-line w s t m (v * 10 + (b - 48)) (suc n))
-
-abbrev RunIn : List ℕ → ℕ → Run → Type 0
-RunIn w n long = Unit {0}
-RunIn w n (run v k) = k ≤ n + length w
-
-run-pick : (t : Bool) (w : List ℕ) (n : ℕ) (x y : Run) → RunIn w n x → RunIn w n y → RunIn w n (pick t x y)
-run-pick true w n x y h k = h
-run-pick false w n x y h k = k
-
-run-more : (b : ℕ) (w : List ℕ) (n : ℕ) (x : Run) → RunIn w (suc n) x → RunIn (b ∷ w) n x
-run-more b w n long h = tt
-run-more b w n (run v k) h = omega arith
-
-digits-in : (w s : List ℕ) (m v n : ℕ) → RunIn w n (digits (w ++ 10 ∷ s) m v n)
-unfolding digits
-digits-in [] s m v n = omega arith
-digits-in (b ∷ w) s zero v n = run-pick (within 48 10 b) (b ∷ w) n long (run v n) tt (omega arith)
-digits-in (b ∷ w) s (suc m) v n =
-    let d = digits (w ++ 10 ∷ s) m (v * 10 + (b - 48)) (suc n) in
-    run-pick (within 48 10 b) (b ∷ w) n d (run v n) (run-more b w n d (digits-in w s m (v * 10 + (b - 48)) (suc n))) (omega arith)
-
-some-in : (w : List ℕ) (n : ℕ) (x : Run) → RunIn w n x → RunIn w n (some x)
-some-in w n long h = tt
-some-in w n (run v zero) h = tt
-some-in w n (run v (suc k)) h = h
-
-drop-line : (n : ℕ) (w s : List ℕ) → n ≤ length w → drop n (w ++ 10 ∷ s) ≡ drop n w ++ 10 ∷ s
-drop-line zero w s l = refl
-drop-line (suc n) [] s l = absurd (not-suc-le-zero l)
-drop-line (suc n) (b ∷ w) s l = drop-line n w s (le-of-suc-le-suc l)
-
-drop-length : (n : ℕ) (w : List ℕ) → n ≤ length w → n + length (drop n w) ≡ length w
-drop-length zero w l = omega arith
-drop-length (suc n) [] l = absurd (not-suc-le-zero l)
-drop-length (suc n) (b ∷ w) l = let z = drop-length n w (le-of-suc-le-suc l) in omega arith
-
-starts-line : (c : ℕ) (w s t : List ℕ) → starts c (w ++ 10 ∷ s) ≡ starts c (w ++ 10 ∷ t)
-starts-line c [] s t = refl
-starts-line c (b ∷ w) s t = refl
-
-abbrev HeadIn : List ℕ → ℕ → HeadDigits → Type 0
-HeadIn w n no-head = Unit {0}
-HeadIn w n (sized h u k) = k ≤ n + length w
-
-pointed-line : (w s t : List ℕ) (v n : ℕ) → pointed (w ++ 10 ∷ s) v n ≡ pointed (w ++ 10 ∷ t) v n
-unfolding pointed
-pointed-line [] s t v n = refl
-pointed-line (b ∷ w) s t v n = ap (λ (x : Run). pick (eqb b 46) (scaled n x) (sized (v * unit 0) (unit 0) n)) (digits-line w s t 3 v 0)
-
-scaled-in : (b : ℕ) (w : List ℕ) (n : ℕ) (x : Run) → RunIn w 0 x → HeadIn (b ∷ w) n (scaled n x)
-unfolding scaled
-scaled-in b w n long h = tt
-scaled-in b w n (run v k) h = omega arith
-
-pointed-in : (w s : List ℕ) (v n : ℕ) → HeadIn w n (pointed (w ++ 10 ∷ s) v n)
-unfolding pointed
-pointed-in [] s v n = omega arith
-pointed-in (b ∷ w) s v n =
-    by-case (λ t. HeadIn (b ∷ w) n (pick t (scaled n (digits (w ++ 10 ∷ s) 3 v 0)) (sized (v * unit 0) (unit 0) n))) (eqb b 46)
-    (λ _. scaled-in b w n (digits (w ++ 10 ∷ s) 3 v 0) (digits-in w s 3 v 0)) (λ _. omega arith)
-
-head-line : (w s t : List ℕ) (x : Run) → RunIn w 0 x → thousandths (w ++ 10 ∷ s) x ≡ thousandths (w ++ 10 ∷ t) x
-unfolding thousandths
-head-line w s t long h = refl
-head-line w s t (run v n) h = rw (drop-line n w s (omega arith), drop-line n w t (omega arith)) (pointed-line (drop n w) s t v n)
-
-shorter : (n : ℕ) (w u : List ℕ) (x : HeadDigits) → n + length u ≡ length w → HeadIn u n x → HeadIn w 0 x
-shorter n w u no-head e h = tt
-shorter n w u (sized g x k) e h = omega arith
-
-head-in : (w s : List ℕ) (x : Run) → RunIn w 0 x → HeadIn w 0 (thousandths (w ++ 10 ∷ s) x)
-unfolding thousandths
-head-in w s long h = tt
-head-in w s (run v n) h =
-    rw (drop-line n w s (omega arith)) (shorter n w (drop n w) (pointed (drop n w ++ 10 ∷ s) v n) (drop-length n w (omega arith)) (pointed-in (drop n w) s v n))
 
 comment-line : (w s : List ℕ) → NoLf w → comment (w ++ 10 ∷ s) ≡ suc (length w)
 unfolding comment
@@ -163,12 +83,12 @@ module _ (b : ℕ) (w s : List ℕ) (a : ℕ) (y : Tokens) (K1 K2 : Rest) (h : N
   opens : (tabs : Bool) (c : Byte) → eqb b 10 ≡ false → Back tabs b c → opening K1 a (w ++ 10 ∷ s) c ≡ and-then (opening K2 a (w ++ 10 ∷ []) c) y
   unfolding opening
   opens tabs (digit d) e k =
-      let x = digits (w ++ 10 ∷ []) 6 d 0 in let l = digits-in w [] 6 d 0 in
-      rw (digits-line w s [] 6 d 0, head-line w s [] x l) (heads false (thousandths (w ++ 10 ∷ []) x) (head-in w [] x l))
+      let x = digits (w ++ 10 ∷ []) 6 d 0 in let l = digits-in 10 refl w [] 6 d 0 in
+      rw (digits-same 10 refl w s [] 6 d 0, head-same 10 refl refl w s [] x l) (heads false (thousandths (w ++ 10 ∷ []) x) (head-in 10 refl refl w [] x l))
   opens tabs (lead q d) e k = refl
   opens tabs (sign m) e k =
-      let x = some (digits (w ++ 10 ∷ []) 7 0 0) in let l = some-in w 0 (digits (w ++ 10 ∷ []) 7 0 0) (digits-in w [] 7 0 0) in
-      rw (digits-line w s [] 7 0 0, head-line w s [] x l) (heads m (thousandths (w ++ 10 ∷ []) x) (head-in w [] x l))
+      let x = some (digits (w ++ 10 ∷ []) 7 0 0) in let l = some-in w 0 (digits (w ++ 10 ∷ []) 7 0 0) (digits-in 10 refl w [] 7 0 0) in
+      rw (digits-same 10 refl w s [] 7 0 0, head-same 10 refl refl w s [] x l) (heads m (thousandths (w ++ 10 ∷ []) x) (head-in 10 refl refl w [] x l))
   opens tabs quest e k = refl
   opens tabs blank e k = ih 0 fresh (within-line (omega arith))
   opens tabs point e k = refl
@@ -179,11 +99,11 @@ module _ (b : ℕ) (w s : List ℕ) (a : ℕ) (y : Tokens) (K1 K2 : Rest) (h : N
 
   insides : (tabs q : Bool) (c : Byte) → eqb b 10 ≡ false → Back tabs b c → inside K1 a (w ++ 10 ∷ s) q c ≡ and-then (inside K2 a (w ++ 10 ∷ []) q c) y
   unfolding inside
-  insides tabs true (digit d) e k = rw (digits-line w s [] 9 d 0) (values (own false) (digits (w ++ 10 ∷ []) 9 d 0) (digits-in w [] 9 d 0))
+  insides tabs true (digit d) e k = rw (digits-same 10 refl w s [] 9 d 0) (values (own false) (digits (w ++ 10 ∷ []) 9 d 0) (digits-in 10 refl w [] 9 d 0))
   insides tabs false (digit d) e k = refl
-  insides tabs q (lead x d) e k = rw (digits-line w s [] (room x d) d 0) (values (valueOf x) (digits (w ++ 10 ∷ []) (room x d) d 0) (digits-in w [] (room x d) d 0))
+  insides tabs q (lead x d) e k = rw (digits-same 10 refl w s [] (room x d) d 0) (values (valueOf x) (digits (w ++ 10 ∷ []) (room x d) d 0) (digits-in 10 refl w [] (room x d) d 0))
   insides tabs q (sign m) e k =
-      let x = digits (w ++ 10 ∷ []) 10 0 0 in rw (digits-line w s [] 10 0 0) (values (own m) (some x) (some-in w 0 x (digits-in w [] 10 0 0)))
+      let x = digits (w ++ 10 ∷ []) 10 0 0 in rw (digits-same 10 refl w s [] 10 0 0) (values (own m) (some x) (some-in w 0 x (digits-in 10 refl w [] 10 0 0)))
   insides tabs q quest e k = ap (value a gap) (ih 0 (inner false) (within-line (omega arith)))
   insides tabs q blank e k = ih 0 (inner true) (within-line (omega arith))
   insides tabs q point e k = refl

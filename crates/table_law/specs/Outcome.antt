@@ -64,7 +64,7 @@ module _ (f l : ℤ) (n : ℕ) (s : List ℕ) (space : ℕ) where
   refused-none c a h e ys r = no-accept (sym e ∙ spells-accepted ys h r)
 
   -- 3 to 13 are given where frame, body and room are allowed only
-  refused-allowed : (c a : ℕ) → (c ≡ 1 → ⊥) → (c ≡ 2 → ⊥) → readTable f l n s space ≡ refuse c a → Allowed f l n s space
+  pub refused-allowed : (c a : ℕ) → (c ≡ 1 → ⊥) → (c ≡ 2 → ⊥) → readTable f l n s space ≡ refuse c a → Allowed f l n s space
   refused-allowed c a x y =
       answers (λ z. z ≡ refuse c a → Allowed f l n s space) (λ e. absurd (x (sym (ap number e)))) (λ e. absurd (y (sym (ap number e)))) (λ h e. h)
     where

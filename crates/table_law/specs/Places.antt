@@ -11,9 +11,9 @@ use lib.ListN.{length}
 use Rattle.terms.specs.Logic.{pick, both, by-case}
 use Rattle.table_spec.specs.Frame.{Rules, rules, abscissa, longest-body, longest-line, frame-legal}
 use Rattle.table_spec.specs.Values.{Form, Own, Spot, first, after, lastOr, index}
-use Rattle.table_spec.specs.Reading.{Tokens, over, fault, head, value, line, fresh, tokens, Says, adds, refuses, says, Answer, refuse, accept, push, bare, difBefore}
+use Rattle.table_spec.specs.Reading.{Tokens, over, fault, head, value, line, Mode, fresh, inner, tokens, Says, adds, refuses, says, Answer, refuse, accept, push, bare, difBefore}
 use Rattle.table_spec.specs.Reading.{took, checked, finish, judge, readLines, lineLength, LongLine, all-short, long-at, longLine, sooner, read, readTable}
-use Rattle.table_law.specs.Every.{ByteIn, every}
+use Rattle.table_law.specs.Every.{ByteIn, Everywhere, every}
 
 -- ---- tokens
 
@@ -25,18 +25,23 @@ Placed lo hi (head a h u r) = ByteIn lo hi a × Placed lo hi r
 Placed lo hi (value a v r) = ByteIn lo hi a × Placed lo hi r
 Placed lo hi (line r) = Placed lo hi r
 
+placed : (a hi : ℕ) → a ≤ hi → Everywhere a hi (Placed a hi) (Placed a hi)
+placed a hi l = record {
+  s-over = (l, refl);
+  s-fault = λ c b n x. x;
+  s-head = λ b h u r x y. (x, y);
+  i-fault = λ c b n x. x;
+  i-value = λ b v r x y. (x, y);
+  i-line = λ r x. x;
+}
+
+-- however many bytes are passed over, and in either mode
+pub placed-from : (tabs : Bool) (s : List ℕ) (n a : ℕ) (m : Mode) → Placed a (a + length s) (tokens tabs s n a m)
+placed-from tabs s n a fresh = let hi = a + length s in every a hi (Placed a hi) (Placed a hi) (placed a hi (omega arith)) tabs s n a fresh (omega arith) refl
+placed-from tabs s n a (inner q) = let hi = a + length s in every a hi (Placed a hi) (Placed a hi) (placed a hi (omega arith)) tabs s n a (inner q) (omega arith) refl
+
 pub tokens-placed : (tabs : Bool) (s : List ℕ) (a : ℕ) → Placed a (a + length s) (tokens tabs s 0 a fresh)
-tokens-placed tabs s a =
-    let hi = a + length s in
-    every a hi (Placed a hi) (Placed a hi)
-    (record {
-      s-over = (omega arith, refl);
-      s-fault = λ c b x. x;
-      s-head = λ b h u r x y. (x, y);
-      i-fault = λ c b x. x;
-      i-value = λ b v r x y. (x, y);
-      i-line = λ r x. x;
-    }) tabs s 0 a fresh (omega arith) refl
+tokens-placed tabs s a = placed-from tabs s 0 a fresh
 
 -- ---- what they say
 

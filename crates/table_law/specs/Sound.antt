@@ -27,7 +27,7 @@ use Rattle.table_law.specs.Complete.{complete}
 
 -- ---- answers that accept
 
-push-accept : (us : List ℕ) (x : Answer) (ys : List ℕ) → push us x ≡ accept ys → (zs : List ℕ) × (x ≡ accept zs) × (ys ≡ us ++ zs)
+pub push-accept : (us : List ℕ) (x : Answer) (ys : List ℕ) → push us x ≡ accept ys → (zs : List ℕ) × (x ≡ accept zs) × (ys ≡ us ++ zs)
 unfolding push
 push-accept us (refuse c a) ys e = no-accept e
 push-accept us (accept zs) ys e = (zs, refl, cc)
@@ -39,7 +39,7 @@ ends Gap = gap-not
 ends (By m d) = dif-does
 ends (Dup b) = dup-as
 
-belongs : (c : Bool) (i : ℕ) → Belongs c i (index c i)
+pub belongs : (c : Bool) (i : ℕ) → Belongs c i (index c i)
 belongs true i = last-given
 belongs false i = next-point
 
@@ -53,7 +53,7 @@ module _ (R : Rules) where
       (λ _ e. no-accept e) (λ _ e. (let z = ltb-false i (R .points) f in omega arith, refl, cc)))
       refl
 
-  checked-accept : (f : Bool → Answer) (a h u : ℕ) (b : Bool) (i : ℕ) (c : Bool) (ys : List ℕ) → checked R f a h u b i c ≡ accept ys
+  pub checked-accept : (f : Bool → Answer) (a h u : ℕ) (b : Bool) (i : ℕ) (c : Bool) (ys : List ℕ) → checked R f a h u b i c ≡ accept ys
       → (R .passing h u (index c i) ≡ true) × (b ≡ false) × (f c ≡ accept ys)
   unfolding checked
   checked-accept f a h u b i c ys =
@@ -215,11 +215,15 @@ module _ (R : Rules) where
   sound (b ∷ s) zero a m = steps b s a (λ n x. sound s n (suc a) x) m (kind (R .tabs) b) (kind-back (R .tabs) b)
   sound (b ∷ s) (suc n) a m = sound s n (suc a) m
 
+  -- lines that are read as ordinates after i points, the last of them p, are a body from there
+  pub body-sound : {i p : ℕ} {ys t : List ℕ} (a : ℕ) (w : Spot) → i ≤ R .points → judge R (tokens (R .tabs) t 0 a fresh) i p w ≡ accept ys → Body R i p (difBefore w) ys t
+  body-sound {i} {p} {ys} {t} a w l e = sound t 0 a fresh i p w ys l e
+
   pub read-sound : (s ys : List ℕ) → read R s ≡ accept ys → Spells R ys s
   unfolding read readLines
   read-sound s ys e =
       let z = sooner-accept (longLine true 0 s) (readLines R s) ys e in
-      record { body = sound s 0 0 fresh 0 0 (after Own) ys (omega arith) (z .1); short = short-spelled 0 s (z .0) }
+      record { body = body-sound 0 (after Own) (omega arith) (z .1); short = short-spelled 0 s (z .0) }
 
   -- no table spells two lists
   pub spells-unique : (s ys zs : List ℕ) → Spells R ys s → Spells R zs s → ys ≡ zs

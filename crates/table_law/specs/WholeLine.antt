@@ -90,9 +90,9 @@ line-starts tabs s a =
     every a (a + length s) (λ x. Starts x × HeadsClosed x) (λ x. Closed x × HeadsClosed x)
     (record {
       s-over = (tt, tt);
-      s-fault = λ c b x. (tt, tt);
+      s-fault = λ c b n x. (tt, tt);
       s-head = λ b h u r x y. (tt, y);
-      i-fault = λ c b x. (tt, tt);
+      i-fault = λ c b n x. (tt, tt);
       i-value = λ b v r x y. (tt, y .1);
       i-line = λ r x. (tt, x .1);
     }) tabs s 0 a fresh (omega arith) refl

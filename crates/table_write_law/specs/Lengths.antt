@@ -39,7 +39,7 @@ numeral-most : (k : Lead) (v : ℕ) → length (numeral k v) ≤ 10
 unfolding numeral
 numeral-most k v = omega (arith, low-most 9 v [])
 
-sqz-most : (u : ℕ) → length (sqzText u) ≤ 10
+pub sqz-most : (u : ℕ) → length (sqzText u) ≤ 10
 unfolding sqzText
 sqz-most u =
     by-case (λ t. length (pick t (numeral (sqz false) (u - zero-ordinate)) (numeral (sqz true) (zero-ordinate - u))) ≤ 10) (leb zero-ordinate u)

@@ -58,7 +58,7 @@ entries-again (z ∷ zs) h = rw (lower-lift zero-ordinate z (h .0), entries-agai
 -- ---- what is written
 
 -- the writer takes every legal frame
-legal-takes : (f l : ℤ) (n : ℕ) → frame-legal f l n ≡ true → Takes (abscissa f) (abscissa l) n
+pub legal-takes : (f l : ℤ) (n : ℕ) → frame-legal f l n ≡ true → Takes (abscissa f) (abscissa l) n
 unfolding frame-legal
 legal-takes f l n e =
     let a = both-true (abscissa-legal f) _ e in let b = both-true (abscissa-legal l) _ (a .1) in

@@ -96,7 +96,7 @@ minus-spelled : {q : Bool} {s : List ℕ} (v : ℕ) → v < 10000000000 → sp.S
 minus-spelled v h = let z = plain-digits v h in sp.minus (z .1) (z .2) (z .3)
 
 -- an ordinate in two ways of writing, for one that is not negative and for one that is
-by-sign : (P : List ℕ → Type 0) (a b : ℕ → List ℕ) (u : ℕ) → 0 < u → u < 4294967296 → ((v : ℕ) → v ≤ 2147483647 → sp.Sized false v u → P (a v))
+pub by-sign : (P : List ℕ → Type 0) (a b : ℕ → List ℕ) (u : ℕ) → 0 < u → u < 4294967296 → ((v : ℕ) → v ≤ 2147483647 → sp.Sized false v u → P (a v))
     → ((v : ℕ) → 0 < v → v ≤ 2147483647 → sp.Sized true v u → P (b v)) → P (pick (leb zero-ordinate u) (a (u - zero-ordinate)) (b (zero-ordinate - u)))
 by-sign P a b u g l x y =
     by-case (λ t. P (pick t (a (u - zero-ordinate)) (b (zero-ordinate - u)))) (leb zero-ordinate u)

@@ -1,0 +1,1 @@
+// No code: nothing goes on from the place of a refusal.
