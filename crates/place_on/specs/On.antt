@@ -44,11 +44,11 @@ pub record Decided (x : List ℕ) (y c z : ℕ) : Type 0 where
 
 -- an LF behind the place decides every number but 16
 pub line-decides : {c z : ℕ} (x : List ℕ) → z < length x → (c ≡ 16 → ⊥) → Decided x 10 c z
-line-decides x l n = record { within-them = l; token-ended = λ _. (refl, refl); line-ended = λ _. refl; line-long = λ e. absurd (n e) }
+line-decides x l n = record { within-them = omega arith; token-ended = λ _. (refl, refl); line-ended = λ _. refl; line-long = λ e. absurd (n e) }
 
 -- and 81 bytes of the line and any byte after them decide 16
 pub long-line-decides : {z : ℕ} (x : List ℕ) (y : ℕ) → z + 81 ≤ length x → Decided x y 16 z
-long-line-decides x y l = record { within-them = omega arith; token-ended = λ n. absurd (n refl); line-ended = λ e. absurd (omega arith); line-long = λ _. l }
+long-line-decides x y l = record { within-them = omega arith; token-ended = λ n. absurd (n refl); line-ended = λ e. absurd (omega arith); line-long = λ _. omega arith }
 
 -- ---- what the lines say
 
