@@ -45,7 +45,7 @@ pub record Decided (x : List ℕ) (y c z : ℕ) : Type 0 where
   pub no-digit : (c ≡ 3 → ⊥) → (c ≡ 16 → ⊥) → within 48 10 y ≡ false
   -- a head has ended if y is no point either
   pub no-point : OfHead c → eqb y 46 ≡ false
-  -- 7, "only blanks or a comment between a head and its line's end": that end, an LF, is y, or stands before it
+  -- 7, "only blanks or a comment between a head and its line's end": it has come if y is an LF
   pub line-ended : c ≡ 7 → y ≡ 10
   -- 16, "A body line over 80 bytes": 81 bytes of the line are among x, and y is the 82nd or one after it. Of 81 bytes alone the last may be the CR of the line's end
   pub line-long : c ≡ 16 → z + 81 ≤ length x
