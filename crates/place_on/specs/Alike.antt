@@ -1,4 +1,4 @@
--- Two texts that begin alike have the same tokens as far as the byte that ends the last of them. Assumes nothing.
+-- Two texts that begin alike have the same tokens as far as one that the last common byte makes longer, or one behind the common bytes. Assumes nothing.
 use mathlib.Core.Path.{_≡_, refl, sym, ap, _∙_}
 use mathlib.Core.Bool.{Bool, true, false}
 use mathlib.Core.List.{List, [], _∷_, _++_}
@@ -8,22 +8,40 @@ use native.Mathlib.Nat.{le-of-suc-le-suc, not-suc-le-zero, add-zero, zero-add, a
 use lib.Dec.{eqb}
 use lib.ListN.{length}
 use Rattle.terms.specs.Logic.{pick, by-case, no-way}
-use Rattle.alphabet_spec.specs.Digits.{within, Run, long, run, digits, some}
+use Rattle.alphabet_spec.specs.Digits.{within, Run, long, run}
 use Rattle.alphabet_spec.specs.Bytes.{Byte, digit, lead, sign, quest, blank, point, lf, cr, dollar, other, kind}
 use Rattle.table_spec.specs.Values.{Value, own, room, valueOf}
-use Rattle.table_spec.specs.Reading.{Tokens, fault, head, value, line, HeadDigits, no-head, sized, comment, Ending, ends, none, ending, thousandths}
+use Rattle.table_spec.specs.Reading.{Tokens, over, fault, head, value, line, HeadDigits, no-head, sized, comment, Ending, ends, none, ending}
 use Rattle.table_spec.specs.Reading.{Mode, fresh, inner, Rest, ended, headed, valued, opening, inside, step, tokens, bare}
 use Rattle.table_law.specs.Every.{every}
 use Rattle.table_law.specs.Places.{Placed, placed-from}
-use Rattle.table_law.specs.Ahead.{RunIn, HeadIn, some-in, digits-same, digits-in, head-same, head-in}
+use Rattle.table_law.specs.Ahead.{Lengthens, RunSame, run-in, run-out, digits-reach, some-reach, HeadSame, within-them, beyond-them, head-reach}
 
--- the tokens of two texts that have their first l bytes and then the byte y in common: the same, as far as tokens of the first that stand behind those bytes. Of these, if y is LF,
--- an end of a line is one in both
+-- a head, or a first token that is none, after which all stands behind l bytes
+abbrev pub HeadLast : ℕ → ℕ → Tokens → Type 0
+HeadLast l hi (over a) = ⊥
+HeadLast l hi (fault c a) = c ≡ 4
+HeadLast l hi (head a h u r) = Placed l hi r
+HeadLast l hi (value a v r) = ⊥
+HeadLast l hi (line r) = ⊥
+
+-- the same of a value, or of a misspelled one
+abbrev pub ValueLast : ℕ → ℕ → Tokens → Type 0
+ValueLast l hi (over a) = ⊥
+ValueLast l hi (fault c a) = c ≡ 5
+ValueLast l hi (head a h u r) = ⊥
+ValueLast l hi (value a v r) = Placed l hi r
+ValueLast l hi (line r) = ⊥
+
+-- the tokens of two texts that have their first l bytes and then the byte y in common: the same, as far as a token of the first that y makes longer, or tokens behind those bytes.
+-- Of these, if y is LF, an end of a line is one in both
 pub data Same (l y : ℕ) : Tokens → Tokens → Type 0 where
   same-fault : {c a : ℕ} → Same l y (fault c a) (fault c a)
   same-head : {a h u : ℕ} {r s : Tokens} → Same l y r s → Same l y (head a h u r) (head a h u s)
   same-value : {a : ℕ} {v : Value} {r s : Tokens} → Same l y r s → Same l y (value a v r) (value a v s)
   same-line : {r s : Tokens} → Same l y r s → Same l y (line r) (line s)
+  long-head : {r s : Tokens} (hi : ℕ) → Lengthens y → HeadLast l hi r → Same l y r s
+  long-value : {r s : Tokens} (hi : ℕ) → within 48 10 y ≡ true → ValueLast l hi r → Same l y r s
   behind : {r s : Tokens} (hi : ℕ) → Placed l hi r → (y ≡ 10 → bare r ≡ true → bare s ≡ true) → Same l y r s
 
 -- ---- ends of lines: within the common bytes w, or behind them
@@ -84,12 +102,13 @@ unfolding tokens
 skipped tabs [] s n a m = rw (zero-add n, add-zero a) refl
 skipped tabs (b ∷ w) s n a m = rw (suc-add (length w) n, add-suc a (length w), ← suc-add a (length w)) (skipped tabs w s n (suc a) m)
 
-fresh-behind : (tabs : Bool) (y : ℕ) (w s : List ℕ) (n a l : ℕ) (x : Tokens) → l ≡ a + length w → length w < n → Same l y (tokens tabs (w ++ y ∷ s) n a fresh) x
-fresh-behind tabs y w s n a l x e g =
+-- after more bytes than are common
+placed-behind : (tabs : Bool) (y : ℕ) (w s : List ℕ) (n a l : ℕ) (m : Mode) → l ≡ a + length w → length w < n → Placed l (l + length (y ∷ s)) (tokens tabs (w ++ y ∷ s) n a m)
+placed-behind tabs y w s n a l m e g =
     let k : length w + (n - length w) ≡ n = omega arith in
-    let p : tokens tabs (w ++ y ∷ s) n a fresh ≡ tokens tabs (y ∷ s) (n - length w) l fresh =
-    ap (λ j. tokens tabs (w ++ y ∷ s) j a fresh) (sym k) ∙ skipped tabs w (y ∷ s) (n - length w) a fresh ∙ ap (λ j. tokens tabs (y ∷ s) (n - length w) j fresh) (sym e) in
-    rw p (behind (l + length (y ∷ s)) (placed-from tabs (y ∷ s) (n - length w) l fresh) (λ _ h. no-way (sym (fresh-bare tabs (y ∷ s) (n - length w) l) ∙ h)))
+    let p : tokens tabs (w ++ y ∷ s) n a m ≡ tokens tabs (y ∷ s) (n - length w) l m =
+    ap (λ j. tokens tabs (w ++ y ∷ s) j a m) (sym k) ∙ skipped tabs w (y ∷ s) (n - length w) a m ∙ ap (λ j. tokens tabs (y ∷ s) (n - length w) j m) (sym e) in
+    rw p (placed-from tabs (y ∷ s) (n - length w) l m)
 
 -- the byte y itself: an LF ends a line
 lf-bare : (tabs : Bool) (y : ℕ) (s : List ℕ) (a : ℕ) (q : Bool) → y ≡ 10 → bare (tokens tabs (y ∷ s) 0 a (inner q)) ≡ true
@@ -102,18 +121,24 @@ at-last tabs y s t a l (inner q) e = rw e (behind (a + length (y ∷ s)) (placed
 
 -- ---- the tokens of two texts
 
--- y is neither a digit nor a point
-module _ (y : ℕ) (no-digit : within 48 10 y ≡ false) (no-point : eqb y 46 ≡ false) where
+module _ (y : ℕ) where
   -- one byte at a, and the texts after it
-  module _ (w s t : List ℕ) (a l : ℕ) (K L : Rest) (ih : (n : ℕ) (m : Mode) → n ≤ length w → Same l y (K n m) (L n m))
-      (out : (n k : ℕ) → length w < n → Same l y (K n fresh) (L k fresh)) where
-    heads : (m : Bool) (x : HeadDigits) → HeadIn w 0 x → Same l y (headed K a m x) (headed L a m x)
-    heads m no-head h = same-fault
-    heads m (sized g u n) h = same-head (ih n (inner false) (omega arith))
+  module _ (w s t : List ℕ) (a l hi : ℕ) (K L : Rest) (ih : (n : ℕ) (m : Mode) → n ≤ length w → Same l y (K n m) (L n m))
+      (far-on : (n : ℕ) (m : Mode) → length w < n → Placed l hi (K n m)) (fresh-on : (n : ℕ) → bare (K n fresh) ≡ false) where
+    heads : (m : Bool) {x z : HeadDigits} → HeadSame y w 0 x z → Same l y (headed K a m x) (headed L a m z)
+    heads m (within-them {x = no-head} h) = same-fault
+    heads m (within-them {x = sized g u n} h) = same-head (ih n (inner false) (omega arith))
+    heads m (beyond-them {x = no-head} e h) = long-head hi e refl
+    heads m (beyond-them {x = sized g u n} e h) = long-head hi e (far-on n (inner false) (omega arith))
 
-    values : (f : ℕ → Value) (x : Run) → RunIn w 0 x → Same l y (valued K a f x) (valued L a f x)
-    values f long h = same-fault
-    values f (run v n) h = same-value (ih n (inner false) (omega arith))
+    values : (f : ℕ → Value) {x z : Run} → RunSame y w 0 x z → Same l y (valued K a f x) (valued L a f z)
+    values f (run-in {x = long} h) = same-fault
+    values f (run-in {x = run v n} h) = same-value (ih n (inner false) (omega arith))
+    values f (run-out {x = long} e h) = long-value hi e refl
+    values f (run-out {x = run v n} e h) = long-value hi e (far-on n (inner false) (omega arith))
+
+    out : (n k : ℕ) → length w < n → Same l y (K n fresh) (L k fresh)
+    out n k h = behind hi (far-on n fresh h) (λ _ g. no-way (sym (fresh-on n) ∙ g))
 
     fresh-end : {e f : Ending} → EndSame w e f → Same l y (ended (λ n. K n fresh) a e) (ended (λ n. L n fresh) a f)
     fresh-end no-ends = same-fault
@@ -127,13 +152,9 @@ module _ (y : ℕ) (no-digit : within 48 10 y ≡ false) (no-point : eqb y 46 �
 
     opens : (c : Byte) → Same l y (opening K a (w ++ y ∷ s) c) (opening L a (w ++ y ∷ t) c)
     unfolding opening
-    opens (digit d) =
-        let x = digits (w ++ y ∷ t) 6 d 0 in let h = digits-in y no-digit w t 6 d 0 in
-        rw (digits-same y no-digit w s t 6 d 0, head-same y no-digit no-point w s t x h) (heads false (thousandths (w ++ y ∷ t) x) (head-in y no-digit no-point w t x h))
+    opens (digit d) = heads false (head-reach y w s t (digits-reach y w s t 6 d 0))
     opens (lead k d) = same-fault
-    opens (sign m) =
-        let x = some (digits (w ++ y ∷ t) 7 0 0) in let h = some-in w 0 (digits (w ++ y ∷ t) 7 0 0) (digits-in y no-digit w t 7 0 0) in
-        rw (digits-same y no-digit w s t 7 0 0, head-same y no-digit no-point w s t x h) (heads m (thousandths (w ++ y ∷ t) x) (head-in y no-digit no-point w t x h))
+    opens (sign m) = heads m (head-reach y w s t (some-reach (digits-reach y w s t 7 0 0)))
     opens quest = same-fault
     opens blank = ih 0 fresh (omega arith)
     opens point = same-fault
@@ -144,12 +165,10 @@ module _ (y : ℕ) (no-digit : within 48 10 y ≡ false) (no-point : eqb y 46 �
 
     insides : (q : Bool) (c : Byte) → Same l y (inside K a (w ++ y ∷ s) q c) (inside L a (w ++ y ∷ t) q c)
     unfolding inside
-    insides true (digit d) = rw (digits-same y no-digit w s t 9 d 0) (values (own false) (digits (w ++ y ∷ t) 9 d 0) (digits-in y no-digit w t 9 d 0))
+    insides true (digit d) = values (own false) (digits-reach y w s t 9 d 0)
     insides false (digit d) = same-fault
-    insides q (lead k d) =
-        rw (digits-same y no-digit w s t (room k d) d 0) (values (valueOf k) (digits (w ++ y ∷ t) (room k d) d 0) (digits-in y no-digit w t (room k d) d 0))
-    insides q (sign m) =
-        let x = digits (w ++ y ∷ t) 10 0 0 in rw (digits-same y no-digit w s t 10 0 0) (values (own m) (some x) (some-in w 0 x (digits-in y no-digit w t 10 0 0)))
+    insides q (lead k d) = values (valueOf k) (digits-reach y w s t (room k d) d 0)
+    insides q (sign m) = values (own m) (some-reach (digits-reach y w s t 10 0 0))
     insides q quest = same-value (ih 0 (inner false) (omega arith))
     insides q blank = ih 0 (inner true) (omega arith)
     insides q point = same-fault
@@ -171,8 +190,7 @@ module _ (y : ℕ) (no-digit : within 48 10 y ≡ false) (no-point : eqb y 46 �
       let K : Rest = λ n x. tokens tabs (w ++ y ∷ s) n (suc a) x in
       let L : Rest = λ n x. tokens tabs (w ++ y ∷ t) n (suc a) x in
       let ih : (n : ℕ) (x : Mode) → n ≤ length w → Same l y (K n x) (L n x) = λ n x g. same-from tabs w s t n (suc a) l x (omega arith) g in
-      let out : (n k : ℕ) → length w < n → Same l y (K n fresh) (L k fresh) = λ n k g. fresh-behind tabs y w s n (suc a) l (L k fresh) (omega arith) g in
-      steps w s t a l K L ih out m (kind tabs b)
+      steps w s t a l (l + length (y ∷ s)) K L ih (λ n x g. placed-behind tabs y w s n (suc a) l x (omega arith) g) (λ n. fresh-bare tabs (w ++ y ∷ s) n (suc a)) m (kind tabs b)
   same-from tabs (b ∷ w) s t (suc n) a l m e h = same-from tabs w s t n (suc a) l m (omega arith) (le-of-suc-le-suc h)
 
   -- of two texts that begin with x and y

@@ -32,9 +32,10 @@ low-faults tabs s =
     (record { s-over = tt; s-fault = λ c b l x. omega arith; s-head = λ b h u r x z. z; i-fault = λ c b l x. omega arith; i-value = λ b v r x z. z; i-line = λ r x. x })
     tabs s 0 0 fresh (omega arith) (omega arith)
 
-abbrev LowSays : Says → Type 0
+-- a value is refused with 8, 9 or 10
+abbrev pub LowSays : Says → Type 0
 LowSays (adds us f) = Unit {0}
-LowSays (refuses c) = c < 16
+LowSays (refuses c) = (7 < c) × (c < 16)
 
 says-pick : (t : Bool) (x y : Says) → LowSays x → LowSays y → LowSays (pick t x y)
 says-pick true x y h k = h
@@ -44,25 +45,25 @@ again-low : (r : Form) (n p : ℕ) → LowSays (again r n p)
 unfolding again
 again-low Own n p = tt
 again-low Gap n p = tt
-again-low (By m d) n p = says-pick (allIn (copies n (By m d) p)) (adds (copies n (By m d) p) (Dup true)) (refuses 9) tt (lit< tt)
-again-low (Dup b) n p = lit< tt
+again-low (By m d) n p = says-pick (allIn (copies n (By m d) p)) (adds (copies n (By m d) p) (Dup true)) (refuses 9) tt (lit< tt, lit< tt)
+again-low (Dup b) n p = (lit< tt, lit< tt)
 
-says-low : (w : Spot) (p : ℕ) (x : Value) → LowSays (says w p x)
+pub says-low : (w : Spot) (p : ℕ) (x : Value) → LowSays (says w p x)
 unfolding says
 says-low (first true) p (own m v) =
     let ten = pick (eqb (ordinate m v) p) (adds [] Own) (refuses 10) in
-    says-pick (leb v 2147483647) ten (refuses 9) (says-pick (eqb (ordinate m v) p) (adds [] Own) (refuses 10) tt (lit< tt)) (lit< tt)
-says-low (first false) p (own m v) = says-pick (leb v 2147483647) (adds (ordinate m v ∷ []) Own) (refuses 9) tt (lit< tt)
-says-low (after r) p (own m v) = says-pick (leb v 2147483647) (adds (ordinate m v ∷ []) Own) (refuses 9) tt (lit< tt)
-says-low (first true) p gap = lit< tt
+    says-pick (leb v 2147483647) ten (refuses 9) (says-pick (eqb (ordinate m v) p) (adds [] Own) (refuses 10) tt (lit< tt, lit< tt)) (lit< tt, lit< tt)
+says-low (first false) p (own m v) = says-pick (leb v 2147483647) (adds (ordinate m v ∷ []) Own) (refuses 9) tt (lit< tt, lit< tt)
+says-low (after r) p (own m v) = says-pick (leb v 2147483647) (adds (ordinate m v ∷ []) Own) (refuses 9) tt (lit< tt, lit< tt)
+says-low (first true) p gap = (lit< tt, lit< tt)
 says-low (first false) p gap = tt
 says-low (after r) p gap = tt
-says-low (first c) p (by m d) = lit< tt
+says-low (first c) p (by m d) = (lit< tt, lit< tt)
 says-low (after r) p (by m d) =
     let moves = adds (moved m d p ∷ []) (By m d) in
-    says-pick (eqb p 0) (refuses 8) (pick (inRange (moved m d p)) moves (refuses 9)) (lit< tt) (says-pick (inRange (moved m d p)) moves (refuses 9) tt (lit< tt))
-says-low (first c) p (times n) = lit< tt
-says-low (after r) p (times n) = says-pick (ltb n 2) (refuses 8) (again r (n - 1) p) (lit< tt) (again-low r (n - 1) p)
+    says-pick (eqb p 0) (refuses 8) (pick (inRange (moved m d p)) moves (refuses 9)) (lit< tt, lit< tt) (says-pick (inRange (moved m d p)) moves (refuses 9) tt (lit< tt, lit< tt))
+says-low (first c) p (times n) = (lit< tt, lit< tt)
+says-low (after r) p (times n) = says-pick (ltb n 2) (refuses 8) (again r (n - 1) p) (lit< tt, lit< tt) (again-low r (n - 1) p)
 
 abbrev LowNumber : Answer → Type 0
 LowNumber (refuse c a) = c < 16
@@ -80,7 +81,7 @@ low-pick false x y h k = k
 module _ (R : Rules) where
   took-low : (f : ℕ → ℕ → Form → Answer) (a i p : ℕ) (x : Says) → LowSays x → ((j q : ℕ) (g : Form) → LowNumber (f j q g)) → LowNumber (took R f a i p x)
   unfolding took
-  took-low f a i p (refuses c) l h = l
+  took-low f a i p (refuses c) l h = l .1
   took-low f a i p (adds vs r) l h =
       let x = f (i + length vs) (lastOr p vs) r in
       low-pick (leb (i + length vs) (R .points)) (push vs x) (refuse 11 a) (push-low vs x (h (i + length vs) (lastOr p vs) r)) (lit< tt)
