@@ -35,8 +35,20 @@ struct wanted {
     const char *values[VALUES];
 };
 
+/* What the options say: the points, or -1; a file's title and numbers; or, without a title, a table's form and frame. */
+struct plan {
+    int64_t points;
+    const char *title;
+    int firsty_given;
+    struct lastarunc_scales scales;
+    uint64_t form;
+    int64_t first, last;
+};
+
+/* The forms by their numbers, and how many they are. */
 static const char *const forms[] = {
     [LASTARUNC_DIFDUP] = "difdup", [LASTARUNC_AFFN] = "affn", [LASTARUNC_PAC] = "pac", [LASTARUNC_SQZ] = "sqz"};
+enum { FORMS = sizeof forms / sizeof *forms };
 
 static struct ordinates given;
 static uint8_t written[LASTARUNC_FILE_CEILING(LASTARUNC_MOST_POINTS)];
@@ -69,32 +81,42 @@ static int thousandths_of(const struct wanted *wanted, int option, int64_t *x)
     return wrong ? wrong_use(options[option].name, wanted->values[option], wrong) : 1;
 }
 
-/* How many points are wanted: as many as there are ordinates, unless it is said. */
-static int points_of(const struct wanted *wanted, size_t *points)
+/* How many points are wanted, or -1 if it is not said. */
+static int points_of(const struct wanted *wanted, int64_t *points)
 {
     const char *word = wanted->values[POINTS];
-    *points = given.count;
+    *points = -1;
     if (!word)
         return 1;
     if (!*word || strlen(word) > 9 || word[strspn(word, "0123456789")])
         return wrong_use("points", word, "is no number of points");
-    *points = strtoul(word, NULL, 10);
-    if (*points < given.count)
-        fprintf(stderr, "the first %zu of %zu ordinates are written\n", *points, given.count);
+    *points = strtol(word, NULL, 10);
     return 1;
 }
 
-/* Reads the five decimals of a file. */
-static int scales_of(const struct wanted *wanted, struct lastarunc_scales *scales)
+/* Reads the options of a file, and as many of its five decimals as are given. */
+static int plan_file(const struct wanted *wanted, struct plan *plan)
 {
-    if (!decimal_of(wanted, XFACTOR, "1", &scales->xfactor) || !decimal_of(wanted, YFACTOR, "1", &scales->yfactor) ||
-        !decimal_of(wanted, FIRSTX, NULL, &scales->firstx) || !decimal_of(wanted, LASTX, NULL, &scales->lastx))
-        return 0;
-    if (wanted->values[FIRSTY])
-        return decimal_of(wanted, FIRSTY, NULL, &scales->firsty);
-    if (!first_times(given.count ? given.list[0] : 0, &scales->yfactor, &scales->firsty))
-        return wrong_use("firsty", "", "is wanted: the first ordinate times YFACTOR has over 9 digits");
-    return 1;
+    struct lastarunc_scales *scales = &plan->scales;
+    plan->title = wanted->values[TITLE];
+    if (!plan->title)
+        return wrong_use("title", "", "is wanted");
+    plan->firsty_given = wanted->values[FIRSTY] != NULL;
+    return decimal_of(wanted, XFACTOR, "1", &scales->xfactor) && decimal_of(wanted, YFACTOR, "1", &scales->yfactor) &&
+           decimal_of(wanted, FIRSTX, NULL, &scales->firstx) && decimal_of(wanted, LASTX, NULL, &scales->lastx) &&
+           decimal_of(wanted, FIRSTY, "0", &scales->firsty);
+}
+
+/* Reads the options of a table. */
+static int plan_table(const struct wanted *wanted, struct plan *plan)
+{
+    const char *word = wanted->values[FORM];
+    plan->form = 0;
+    while (plan->form < FORMS && strcmp(word, forms[plan->form]))
+        plan->form++;
+    if (plan->form == FORMS)
+        return wrong_use("form", word, "is no form: difdup, affn, pac or sqz is wanted");
+    return thousandths_of(wanted, FIRST, &plan->first) && thousandths_of(wanted, LAST, &plan->last);
 }
 
 /* Says on standard error which quotients of a file were rounded. */
@@ -108,36 +130,15 @@ static void put_rounded(const struct lastarunc_text *answer)
         fprintf(stderr, "FIRSTY / YFACTOR is not a whole number: rounded\n");
 }
 
-/* Writes a file; 0 if it was used wrongly. */
-static int write_whole(const struct wanted *wanted, struct lastarunc_text *answer)
+/* Writes a file; 0, after a word, if FIRSTY is wanting. */
+static int write_whole(struct plan *plan, size_t points, struct lastarunc_text *answer)
 {
-    struct lastarunc_scales scales;
-    size_t points;
-    const char *title = wanted->values[TITLE];
-    if (!title)
-        return wrong_use("title", "", "is wanted");
-    if (!points_of(wanted, &points) || !scales_of(wanted, &scales))
-        return 0;
-    if (!lastarunc_write_file((const uint8_t *)title, strlen(title), points, &scales, given.list, given.count, written,
-                              sizeof written, answer))
+    struct lastarunc_scales *scales = &plan->scales;
+    if (!plan->firsty_given && !first_times(given.count ? given.list[0] : 0, &scales->yfactor, &scales->firsty))
+        return wrong_use("firsty", "", "is wanted: the first ordinate times YFACTOR has over 9 digits");
+    if (!lastarunc_write_file((const uint8_t *)plan->title, strlen(plan->title), points, scales, given.list,
+                              given.count, written, sizeof written, answer))
         put_rounded(answer);
-    return 1;
-}
-
-/* Writes a table; 0 if it was used wrongly. */
-static int write_body(const struct wanted *wanted, struct lastarunc_text *answer)
-{
-    int64_t first, last;
-    size_t points;
-    uint64_t form = 0;
-    const char *word = wanted->values[FORM];
-    while (form < sizeof forms / sizeof *forms && strcmp(word, forms[form]))
-        form++;
-    if (form == sizeof forms / sizeof *forms)
-        return wrong_use("form", word, "is no form: difdup, affn, pac or sqz is wanted");
-    if (!points_of(wanted, &points) || !thousandths_of(wanted, FIRST, &first) || !thousandths_of(wanted, LAST, &last))
-        return 0;
-    lastarunc_write_form(form, first, last, points, given.list, given.count, written, sizeof written, answer);
     return 1;
 }
 
@@ -156,27 +157,42 @@ static int options_agree(const struct wanted *wanted)
     return 1;
 }
 
-/* Reads ordinates, writes what is wanted, and prints it, or why it is refused. */
-static int write_wanted(const struct wanted *wanted, const char *name)
+/* Reads the ordinates; 0, after a word, if they cannot be read. */
+static int take_ordinates(const char *name)
 {
     struct text text;
-    struct lastarunc_text answer;
     if (!read_text(name, MOST_GIVEN + 1, &text))
-        return SOME_REFUSED;
+        return 0;
     if (text.length > MOST_GIVEN) {
         put_name(stderr, name);
         fprintf(stderr, ": more than 16 MiB of ordinates\n");
-        return SOME_REFUSED;
+        return 0;
     }
-    if (!read_ordinates(name, &text, &given))
-        return SOME_REFUSED;
+    int taken = read_ordinates(name, &text, &given);
     free(text.bytes);
-    if (wanted->file ? !write_whole(wanted, &answer) : !write_body(wanted, &answer))
-        return WRONG_USE;
+    return taken;
+}
+
+/* Reads ordinates, writes what is planned, and prints it, or why it is refused. */
+static int write_planned(struct plan *plan, const char *name)
+{
+    struct lastarunc_text answer;
+    if (!take_ordinates(name))
+        return SOME_REFUSED;
+    size_t points = plan->points < 0 ? given.count : (size_t)plan->points;
+    if (plan->title) {
+        if (!write_whole(plan, points, &answer))
+            return WRONG_USE;
+    } else {
+        lastarunc_write_form(plan->form, plan->first, plan->last, points, given.list, given.count, written,
+                             sizeof written, &answer);
+    }
     if (answer.refused) {
         fprintf(stderr, "lastarunc write: refused %" PRId64 ": %s\n", answer.refused, written_meaning(answer.refused));
         return SOME_REFUSED;
     }
+    if (points < given.count)
+        fprintf(stderr, "the first %zu of %zu ordinates are written\n", points, given.count);
     fwrite(written, 1, (size_t)answer.length, stdout);
     return end_output(ALL_ACCEPTED);
 }
@@ -199,7 +215,10 @@ int write_command(int count, char **arguments)
         fprintf(stderr, "lastarunc write: one file of ordinates at most; `lastarunc write --help` says more\n");
         return WRONG_USE;
     }
-    if (!options_agree(&wanted))
+    struct plan plan = {0};
+    if (!options_agree(&wanted) || !points_of(&wanted, &plan.points))
         return WRONG_USE;
-    return write_wanted(&wanted, optind < count ? arguments[optind] : "-");
+    if (wanted.file ? !plan_file(&wanted, &plan) : !plan_table(&wanted, &plan))
+        return WRONG_USE;
+    return write_planned(&plan, optind < count ? arguments[optind] : "-");
 }
