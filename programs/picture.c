@@ -209,12 +209,14 @@ static void put_bands(const struct picture *picture)
 static void put_axis_title(const struct picture *picture, const struct axis *axis, const char *units, const char *where,
                            double room)
 {
-    double width = SMALL * 1.1 * (width_of(units, strlen(units)) + 4);
+    double width = SMALL * 1.1 * (width_of(units, strlen(units)) + 9);
     fprintf(picture->out, "<text %s text-anchor=\"middle\" font-size=\"%.1f\">", where,
             width > room ? SMALL * 1.1 * room / width : SMALL * 1.1);
     put_escaped(picture->out, units, strlen(units));
     if (axis->common)
-        fprintf(picture->out, " &#215; 10<tspan dy=\"-5\" font-size=\"%g\">%d</tspan>", SMALL * 0.75, axis->common);
+        fprintf(picture->out,
+                " (labels &#215; 10<tspan dy=\"-5\" font-size=\"%g\">%d</tspan><tspan dy=\"5\">)</tspan>", SMALL * 0.75,
+                axis->common);
     fputs("</text>\n", picture->out);
 }
 
