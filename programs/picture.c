@@ -270,7 +270,7 @@ static void choose_y(struct picture *picture)
     double margin = highest > lowest ? 0.03 * (highest - lowest) : spectrum->yfactor;
     picture->y.from = lowest == 0 && highest > 0 ? 0 : lowest - margin;
     picture->y.to = highest == 0 && lowest < 0 ? 0 : highest + margin;
-    choose_ticks(&picture->y, 6);
+    choose_ticks(&picture->y, 8);
 }
 
 /* The ends of the horizontal axis: the abscissas at both ends; a single one stands in the middle. */
