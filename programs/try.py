@@ -311,10 +311,21 @@ def helps():
     need(re.fullmatch(rf"lastarunc \S+, proved with {re.escape(kit)}\n", run(["--version"])[1].decode()), "the version")
 
 
+def readme():
+    """What README shows under "At the command line" is what is printed; not for --version, which each commit changes."""
+    shown = open(ROOT + "/README.md", encoding="utf-8").read().split("## At the command line\n")[1].split("\n## ")[0]
+    for command, printed in re.findall(r"^    \$ (.*)\n((?:    (?!\$ ).*\n)*)", shown, re.M):
+        if "--version" in command or ">" in command:
+            continue
+        ended = subprocess.run(["bash", "-c", command], cwd=ROOT, stdout=subprocess.PIPE, stderr=subprocess.STDOUT)
+        expected = "".join(line[4:] + "\n" for line in printed.split("\n")[:-1])
+        need(ended.stdout.decode().replace("\r\n", "\n") == expected, f"README shows something else for {command}")
+
+
 def main():
     """Runs all."""
     random.seed(29)
-    for part in (same_words, same_answers, written_tables, written_files, small_pictures, large_pictures, full_size, not_permitted, helps):
+    for part in (same_words, same_answers, written_tables, written_files, small_pictures, large_pictures, full_size, not_permitted, helps, readme):
         part()
     print(f"{tallied[True]} passed, {tallied[False]} failed")
 
