@@ -20,6 +20,8 @@ static const struct command commands[] = {
 int main(int argc, char **argv)
 {
     const char *word = argc > 1 ? argv[1] : "";
+    if (argc > 1 && argc <= 3 && !strcmp(argv[argc - 1], "--version"))
+        return puts(VERSION), end_output(ALL_ACCEPTED);
     for (size_t i = 0; i < sizeof commands / sizeof *commands; i++)
         if (!strcmp(word, commands[i].name)) {
             argv[1] = commands[i].called;
@@ -27,8 +29,6 @@ int main(int argc, char **argv)
         }
     if (!strcmp(word, "--help") || !strcmp(word, "-h"))
         return fputs(HELP_lastarunc, stdout), end_output(ALL_ACCEPTED);
-    if (!strcmp(word, "--version"))
-        return puts(VERSION), end_output(ALL_ACCEPTED);
     fprintf(stderr, "no such command: '%s'; `lastarunc --help` says which there are\n", word);
     return WRONG_USE;
 }

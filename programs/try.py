@@ -3,9 +3,11 @@
 import os
 import random
 import re
+import shutil
 import struct
 import subprocess
 import sys
+import tempfile
 import xml.etree.ElementTree as tree
 
 ROOT = os.path.dirname(os.path.dirname(os.path.abspath(__file__)))
@@ -291,13 +293,15 @@ def full_size():
 
 def not_permitted():
     """A file that may not be read is said, and the others go on; root tries it as nobody."""
-    path = FOLDER + "/secret"
-    with open(path, "w", encoding="utf-8") as out:
-        out.write("secret")
-    os.chmod(path, 0)
     drop = ["setpriv", "--reuid=65534", "--regid=65534", "--clear-groups"] if os.geteuid() == 0 else []
     given = open(ROOT + "/programs/files/cr_lf.jdx", "rb").read()
-    ended = run(["check", path, "-"], given, [*drop, *PROGRAM])
+    with tempfile.TemporaryDirectory() as folder:
+        os.chmod(folder, 0o755)
+        path, copy = folder + "/secret", shutil.copy(PROGRAM[-1], folder)
+        with open(path, "w", encoding="utf-8") as out:
+            out.write("secret")
+        os.chmod(path, 0)
+        ended = run(["check", path, "-"], given, [*drop, *PROGRAM[:-1], copy])
     need(ended[0] == 1 and ended[2] == path + ": Permission denied\n" and b"standard input: ok" in ended[1], f"without permission: {ended}")
 
 
@@ -308,7 +312,8 @@ def helps():
         need(run(words) == (0, text, ""), f"help of {page}")
         need(all(len(line) <= 120 for line in text.split(b"\n")), f"help of {page} is too wide")
     kit = open(ROOT + "/kit", encoding="utf-8").read().strip()
-    need(re.fullmatch(rf"lastarunc \S+, proved with {re.escape(kit)}\n", run(["--version"])[1].decode()), "the version")
+    for words in (["--version"], ["plot", "--version"]):
+        need(re.fullmatch(rf"lastarunc \S+, proved with {re.escape(kit)}\n", run(words)[1].decode()), f"the version: {words}")
 
 
 def readme():

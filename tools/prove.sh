@@ -50,6 +50,7 @@ failed_with_log() {
 # Proves a crate and all that it needs, and shows how far that is.
 prove() {
     local log=target/prove-$1.log total
+    command -v rt > /dev/null || { echo "the Rattle toolchain is wanted, and there is no rt" >&2 && exit 1; }
     total=$(crates_needed "$1")
     mkdir -p target
     if [ ! -e target/rlib/terms.rlib ]; then
