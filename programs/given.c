@@ -116,7 +116,7 @@ static int read_exponent(const char *word, int64_t *exponent)
     return 1;
 }
 
-/* The digits of a decimal while they are read: how many, their number, and zeros at its end that it does not have yet. */
+/* The digits of a decimal while they are read: how many, their number, and zeros at the end that it lacks yet. */
 struct digits {
     int count;
     int64_t mantissa, zeros;

@@ -246,7 +246,8 @@ static void put_y_axis(const struct picture *picture)
         double at = place_on(y, tick_value(y, k));
         tick_label(y, k, label);
         fprintf(picture->out, "<path d=\"M%.1f,%.1fH%.1f\" stroke=\"#e4e4e4\"/>", x->begin, at, x->end);
-        fprintf(picture->out, "<text x=\"%.1f\" y=\"%.1f\" text-anchor=\"end\">%s</text>\n", x->begin - 8, at + 4, label);
+        fprintf(picture->out, "<text x=\"%.1f\" y=\"%.1f\" text-anchor=\"end\">%s</text>\n", x->begin - 8, at + 4,
+                label);
     }
     snprintf(where, sizeof where, "transform=\"translate(%g %.1f) rotate(-90)\"", EDGE + 6, (y->begin + y->end) / 2);
     put_axis_title(picture, y, picture->spectrum->yunits, where, HEIGHT);
@@ -317,14 +318,14 @@ void draw(FILE *out, const struct spectrum *spectrum)
 {
     struct picture picture = {.out = out, .spectrum = spectrum};
     for (size_t i = 0; i < spectrum->points; i++)
-        picture.missing += is_missing(&picture, i);
+        picture.missing += is_missing(&picture, i) ? 1 : 0;
     choose_x(&picture);
     choose_y(&picture);
     lay_out(&picture);
     double height = picture.y.begin + 56;
-    fprintf(out, "<?xml version=\"1.0\" encoding=\"UTF-8\"?>\n<svg xmlns=\"http://www.w3.org/2000/svg\" width=\"%g\" "
-                 "height=\"%.0f\" viewBox=\"0 0 %g %.0f\" font-family=\"Helvetica, Arial, sans-serif\" font-size=\"%g\">\n",
-            WIDTH, height, WIDTH, height, SMALL);
+    fputs("<?xml version=\"1.0\" encoding=\"UTF-8\"?>\n<svg xmlns=\"http://www.w3.org/2000/svg\" ", out);
+    fprintf(out, "width=\"%g\" height=\"%.0f\" viewBox=\"0 0 %g %.0f\" ", WIDTH, height, WIDTH, height);
+    fprintf(out, "font-family=\"Helvetica, Arial, sans-serif\" font-size=\"%g\">\n", SMALL);
     fputs("<title>", out);
     put_escaped(out, spectrum->title, strlen(spectrum->title));
     fputs("</title>\n<rect width=\"100%\" height=\"100%\" fill=\"#fff\"/>\n", out);

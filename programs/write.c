@@ -35,7 +35,7 @@ struct wanted {
     const char *values[VALUES];
 };
 
-/* What the options say: the points, or -1; a file's title and numbers; or, without a title, a table's form and frame. */
+/* What the options say: points, or -1; a file's title and numbers, or, without a title, a table's form and frame. */
 struct plan {
     int64_t points;
     const char *title;
@@ -152,8 +152,7 @@ static int options_agree(const struct wanted *wanted)
     }
     for (int i = from; i < to; i++)
         if (wanted->values[i])
-            return wrong_use(options[i].name, "",
-                             wanted->file ? "is not for a file, whose table is DIFDUP" : "is for a file: give --file too");
+            return wrong_use(options[i].name, "", wanted->file ? "is for a table" : "is for a file: give --file too");
     return 1;
 }
 

@@ -25,16 +25,16 @@ crates_needed() {
 # Reads what rt prints, and says how many crates of so many are proved: on a terminal in one line that is written anew,
 # otherwise in a line every ten seconds.
 show_progress() {
-    local total=$1 done=0 said=-10 line name
+    local total=$1 proved=0 said=-10 line name
     while IFS= read -r line; do
         [[ $line =~ ^rt:\ ([a-z0-9_]+)\ proved\ \( ]] || continue
         name=${BASH_REMATCH[1]}
-        done=$((done + 1))
+        proved=$((proved + 1))
         if [ -t 2 ]; then
-            printf '\r\033[Kproved crate %d of %d (%s)' $done "$total" "$name" >&2
-        elif [ $((SECONDS - said)) -ge 10 ] || [ $done = "$total" ]; then
+            printf '\r\033[Kproved crate %d of %d (%s)' $proved "$total" "$name" >&2
+        elif [ $((SECONDS - said)) -ge 10 ] || [ $proved = "$total" ]; then
             said=$SECONDS
-            echo "proved crate $done of $total ($name)" >&2
+            echo "proved crate $proved of $total ($name)" >&2
         fi
     done
     if [ -t 2 ]; then echo >&2; fi
