@@ -130,6 +130,13 @@ def told_by_check(printed, path):
     return told
 
 
+def well_formed(path):
+    """The picture of a generated file is XML, of bytes 32 to 126 and line ends."""
+    status, picture, _ = run(["plot", path])
+    need(status == 0 and set(picture) <= {10, *range(32, 127)}, f"plot {path}")
+    tree.fromstring(picture)
+
+
 def same_answers():
     """check says of generated files, simple and compound, what the second reader says."""
     stream = run(["cases", "--seed", 29, "--files", 250, "--compound", 250], program=[SECOND])[1]
@@ -149,6 +156,8 @@ def same_answers():
         expected = expected_of(path, file)
         need(told == expected, f"{path}: check says {told}, the second reader {expected}")
         right += not any("refused" in line for line in expected)
+        if right <= 80 and expected and " ok, " in expected[-1] and len(expected) == 1:
+            well_formed(path)
     need(status == 1 and not errors, f"check ended with {status}, and said {errors!r}")
     need(f"500 files: {right} accepted, {500 - right} refused" in printed.split("\n")[-2], "the last line has other counts")
     need(100 < right < 400, f"{right} of 500 files are accepted, which tries little")
