@@ -5,6 +5,7 @@
 #include <stdlib.h>
 #include <string.h>
 #include <sys/stat.h>
+#include <unistd.h>
 
 /* Says on standard error what is wrong with a file, after all that was printed before. */
 static int complain(const char *name, const char *words)
@@ -19,8 +20,11 @@ static int complain(const char *name, const char *words)
 static FILE *open_text(const char *name)
 {
     struct stat kind;
-    if (!strcmp(name, "-"))
+    if (!strcmp(name, "-")) {
+        if (isatty(STDIN_FILENO))
+            fprintf(stderr, "reading standard input, up to Ctrl-D\n");
         return stdin;
+    }
     FILE *in = fopen(name, "rb");
     if (!in) {
         complain(name, strerror(errno));
