@@ -63,7 +63,7 @@ prove() {
 
 # Proves the library and makes its archive.
 prove_library() {
-    prove host
+    prove host_plain
     echo "making the library's archive" >&2
-    rt staticlib host < /dev/null > target/staticlib.log 2>&1 || failed_with_log target/staticlib.log
+    tools/library > target/library.log 2>&1 || failed_with_log target/library.log
 }

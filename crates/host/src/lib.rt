@@ -32,22 +32,6 @@ pub extern "C" fn lastarunc_read_table(
     host_read::tell_table(read, answer)
 }
 
-// The same by the plain engine (02, T-14).
-#[no_mangle]
-pub extern "C" fn lastarunc_read_plain(
-    first: i64,
-    last: i64,
-    points: usize,
-    body: &[u8],
-    out: &mut [i32],
-    answer: &mut [u64; 5],
-) -> u64
-    ensures { λ r. ⌜ TableTold first last points (now (body .entry)) (now (out .entry)) (now (out .exit)) (now (answer .exit)) r ⌝ }
-{
-    let read = plain_read::read_plain(first, last, points, body, out);
-    host_read::tell_table(read, answer)
-}
-
 // Writes a table in a form: refused, length, and three zeros where a file has what is exact.
 fn write_style(
     style: Style,

@@ -1,9 +1,9 @@
--- `host::lastarunc_read_plain` meets its contract: the answer has the numbers of what the plain engine says.
+-- `host_plain::lastarunc_read_plain` meets its contract: the answer has the numbers of what the plain engine says.
 use mir.Facts.{toZ-ofZ}
 use Rattle.host.proofs.Tellings.{told-table}
 use borrow.Author.Needs.{needs}
-use Rattle.host.proofs.lastarunc_read_plain.Statement.{statement}
-use Rattle.host.proofs.lastarunc_read_plain.Tie as tie
+use Rattle.host_plain.proofs.lastarunc_read_plain.Statement.{statement}
+use Rattle.host_plain.proofs.lastarunc_read_plain.Tie as tie
 
 read-plain-requires : tie.Need-read-plain-requires
 read-plain-requires c κs = search needs
