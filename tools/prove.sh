@@ -67,3 +67,11 @@ prove_library() {
     echo "making the library's archive" >&2
     rt staticlib host < /dev/null > target/staticlib.log 2>&1 || failed_with_log target/staticlib.log
 }
+
+# Proves and builds a program, target/bin/NAME, if it is absent or older than its sources.
+prove_program() {
+    if ! is_current "target/bin/$1" crates crates.txt; then
+        prove "$1"
+        touch "target/bin/$1"
+    fi
+}
