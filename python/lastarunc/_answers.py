@@ -84,7 +84,7 @@ class Table:
         stands -2147483648, which is no ordinate: a missing one is not even there a 0.
         """
         try:
-            import numpy
+            import numpy  # type: ignore
         except ImportError as error:
             raise ImportError("array() wants numpy, and this Python has none; .ordinates is a list") from error
         data = [MISSING if y is None else y for y in self.ordinates]

@@ -3,7 +3,7 @@ from __future__ import annotations
 
 import ctypes
 from fractions import Fraction
-from typing import Any, Iterator, List, Optional, Union
+from typing import Any, Iterator, List, Optional, Tuple, Union
 
 from ._answers import Block, Blocks, Converted, File, Profile, Record, Refused, Report, Shown, Table, Totals, refusal
 from ._given import Number, Source, Text, file_of, size_of, text_of, thousandths_of
@@ -39,12 +39,12 @@ def _room(room: Optional[int]) -> Any:
     return room_for(MOST_POINTS if room is None else size_of(room, "room"))
 
 
-def _frame(answer: Any) -> tuple:
+def _frame(answer: Any) -> Tuple[int, int, int]:
     """Points, first and last."""
     return answer.points, answer.first, answer.last
 
 
-def _exact(answer: Any) -> tuple:
+def _exact(answer: Any) -> Tuple[bool, bool, bool]:
     """The three words on exactness."""
     return bool(answer.first_exact), bool(answer.last_exact), bool(answer.firsty_exact)
 
@@ -119,7 +119,7 @@ def _struct_of(block: Block) -> Any:
     return ctypes.byref(STRUCTS["block"](block.cut_from, block.cut_to, block.start, block.end))
 
 
-def _find_blocks(data: bytes, most: int) -> Any:
+def _find_blocks(data: bytes, most: int) -> Tuple[Any, Any]:
     """The answer on the blocks of a file, and room with the first so many."""
     blocks = (STRUCTS["block"] * most)()
     return call("find_blocks", "blocks", data, len(data), blocks, 4 * most), blocks

@@ -27,7 +27,7 @@ def _text_in(name: str, words: Tuple[Any, ...], length: int) -> Tuple[Any, bytes
     answer = call(name, "text", *words, text, length)
     if answer.refused:
         raise written_refusal(answer)
-    return answer, text[: answer.length]
+    return answer, text.raw[: answer.length]
 
 
 def _length(name: str, words: Tuple[Any, ...]) -> int:
