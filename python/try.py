@@ -468,6 +468,7 @@ def pages():
     for failed, tried in (
         doctest.testmod(lastarunc),
         doctest.testfile(ROOT + "/python/README.md", module_relative=False),
+        doctest.testfile(ROOT + "/README.md", module_relative=False),
     ):
         need(tried and not failed, "a session that is shown goes otherwise")
     need(all(getattr(lastarunc, name).__doc__ for name in lastarunc.__all__), "a name without a docstring")

@@ -69,8 +69,9 @@ def read_table(
     room: Optional[int] = None,
 ) -> Table:
     """
-    Reads the body of an XYDATA table of so many points, with its first and last abscissa (0.5, "0.5" or a Decimal; at
-    most three places). `room` is for how many ordinates there is room; without it for all. Refused: 1 to 13, 16.
+    Reads the body of an XYDATA table of so many points, with its first and last abscissa in units, not in thousandths
+    as in C (0.5, "0.5" or a Decimal; at most three places). `room` is for how many ordinates there is room; without it
+    for all. Refused: 1 to 13, 16.
     """
     return _read_body("read_table", first, last, points, body, room)
 
