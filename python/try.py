@@ -391,6 +391,7 @@ def what_is_given():
         need(raised(ValueError, lastarunc.write_table, wrong, 3, given), f"first {wrong}")
     need(refused_of(lastarunc.write_table, "1e999999999", 3, given).number == 1, "a first beyond all limits")
     need(raised(ValueError, lastarunc.read_table, 0, 3, -1, b""), "points below 0")
+    need(raised(TypeError, lastarunc.read_table, 0, 3, 4.0, b""), "points as a float")
     need(raised(TypeError, lastarunc.read_file, 5), "a file that is a number")
     need(raised(FileNotFoundError, lastarunc.read_file, "nowhere.jdx"), "no file")
     need(
@@ -460,6 +461,7 @@ def arrays():
         "an array",
     )
     need(raised(TypeError, lastarunc.write_table, 0, 1, numpy.array([1, numpy.nan])), "an array of floats")
+    need(lastarunc.write_table(0.5, 4, list(array)) == lastarunc.write_table(0.5, 4, array), "a list of a masked array")
 
 
 def pages():
@@ -472,6 +474,7 @@ def pages():
     ):
         need(tried and not failed, "a session that is shown goes otherwise")
     need(all(getattr(lastarunc, name).__doc__ for name in lastarunc.__all__), "a name without a docstring")
+    need(sorted(name for name in vars(lastarunc) if name[0] != "_") == sorted(lastarunc.__all__), "__all__")
 
 
 def main():

@@ -44,4 +44,37 @@ from ._reading import (
 )
 from ._writing import file_length, text_length, write_file, write_table
 
-__all__ = [name for name in dir() if not name.startswith("_")]
+__all__ = [
+    "Block",
+    "Blocks",
+    "Converted",
+    "File",
+    "MOST_BYTES",
+    "MOST_POINTS",
+    "Night",
+    "Profile",
+    "Record",
+    "Refused",
+    "Report",
+    "Shown",
+    "Table",
+    "Totals",
+    "Unavailable",
+    "WANTED",
+    "WrittenFile",
+    "detab_file",
+    "detab_table",
+    "file_length",
+    "find_blocks",
+    "find_in_block",
+    "find_record",
+    "night_reports",
+    "read_block",
+    "read_file",
+    "read_plain",
+    "read_profile",
+    "read_table",
+    "text_length",
+    "write_file",
+    "write_table",
+]

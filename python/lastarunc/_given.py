@@ -9,7 +9,7 @@ from decimal import Decimal, InvalidOperation
 from fractions import Fraction
 from typing import Any, Iterable, Optional, Tuple, Union
 
-from ._library import MISSING, STRUCTS, room_for
+from ._library import MISSING, STRUCTS, array_of
 
 # A text: its bytes, or a str, which is encoded in UTF-8.
 Text = Union[bytes, bytearray, memoryview, str]
@@ -44,7 +44,7 @@ def within(number: int) -> int:
 
 def size_of(count: int, what: str) -> int:
     """A number of points, or a room."""
-    if count < 0:
+    if operator.index(count) < 0:
         raise ValueError(f"{what} cannot be negative: {count}")
     return min(_LARGEST, count)
 
@@ -85,22 +85,23 @@ def thousandths_of(number: Union[Number, Fraction], what: str) -> int:
     return within(mantissa // over)
 
 
+def _ordinate(i: int, y: Any) -> int:
+    """Ordinate i as the library wants it; None, and the mask of numpy, is missing."""
+    if y is None or type(y).__name__ == "MaskedConstant":
+        return MISSING
+    try:
+        number = operator.index(y)
+    except TypeError:
+        raise TypeError(f"ordinate {i} is no whole number, and a missing one is None: {y!r}") from None
+    if abs(number) >= 2**31:
+        raise ValueError(f"ordinate {i} is beyond 2147483647 in magnitude: {number}")
+    return number
+
+
 def ordinates_of(ordinates: Iterable[Optional[int]]) -> Any:
     """Ordinates as the library wants them; None, or what a masked array masks, is missing."""
     listed = ordinates.tolist() if hasattr(ordinates, "tolist") else list(ordinates)
-    for i, y in enumerate(listed):
-        if y is None:
-            listed[i] = MISSING
-        elif not hasattr(y, "__index__"):
-            raise TypeError(f"ordinate {i} is no whole number, and a missing one is None: {y!r}")
-        elif not -(2**31) < y < 2**31:
-            raise ValueError(f"ordinate {i} is beyond 2147483647 in magnitude: {y}")
-    return _filled(listed)
-
-
-def _filled(listed: Any) -> Any:
-    """Memory with these ordinates."""
-    return type(room_for(len(listed)))(*listed)
+    return array_of(_ordinate(i, y) for i, y in enumerate(listed))
 
 
 def form_of(form: str) -> int:

@@ -6,7 +6,7 @@ import functools
 import os
 import platform
 import sys
-from typing import Any
+from typing import Any, Iterable
 
 MISSING = -(2**31)
 MOST_POINTS = 65536
@@ -115,3 +115,9 @@ def call(name: str, answer: str, *words: Any) -> Any:
 def room_for(count: int) -> Any:
     """Memory for ordinates."""
     return (ctypes.c_int32 * count)()
+
+
+def array_of(ordinates: Iterable[int]) -> Any:
+    """Memory with these ordinates."""
+    listed = tuple(ordinates)
+    return (ctypes.c_int32 * len(listed))(*listed)

@@ -35,7 +35,7 @@ def _length(name: str, words: Tuple[Any, ...]) -> int:
     answer = call(name, "text", *words)
     if answer.refused:
         raise written_refusal(answer)
-    return answer.length
+    return int(answer.length)
 
 
 def write_table(
