@@ -8,6 +8,9 @@ from typing import Any, Dict, List, Optional, Tuple
 from ._library import MISSING
 from ._meanings import COMPOUND, READ, WRITTEN
 
+# What is said of a number that a later library may have.
+_NO_WORDS = "this number has no words yet"
+
 
 class Refused(Exception):
     """
@@ -35,12 +38,12 @@ def refusal(answer: Any, name: str = "", compound: bool = False) -> Refused:
     number = answer.refused
     words = COMPOUND if compound and number in COMPOUND else READ
     on_page = bool(getattr(answer, "on_page", 0))
-    return Refused(number, answer.place, answer.line, answer.column, words[number], on_page, name)
+    return Refused(number, answer.place, answer.line, answer.column, words.get(number, _NO_WORDS), on_page, name)
 
 
 def written_refusal(answer: Any) -> Refused:
     """A writer's refusal, of its answer."""
-    return Refused(answer.refused, 0, 0, 0, WRITTEN[answer.refused])
+    return Refused(answer.refused, 0, 0, 0, WRITTEN.get(answer.refused, _NO_WORDS))
 
 
 def units(thousandths: int) -> Decimal:
