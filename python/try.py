@@ -362,6 +362,8 @@ def refusals():
         lastarunc.read_profile, ROOT + "/examples/profile/unlisted.jdx", ROOT + "/examples/profile/site.page"
     )
     need(profile.number == 31 and profile.name.endswith(".page" if profile.on_page else ".jdx"), f"{profile}")
+    spool = refused_of(list, lastarunc.night_reports(b"JD\0\0\3abcJ"))
+    need(str(spool) == "byte 8: refused 35: the spool ends within this record", f"{spool}")
     need(isinstance(refused, Exception) and refused_of(lastarunc.read_file, b"").number == 21, "an empty file")
 
 

@@ -15,7 +15,7 @@ _NO_WORDS = "this number has no words yet"
 class Refused(Exception):
     """
     What was given is refused. `number` is document 01's number, `place` the byte, from 0, `line` and `column` where it
-    stands, both from 1 (a writer's refusal has neither: all three are 0), `meaning` what the number means. `on_page` is
+    stands, both from 1 (0 in a spool, and all three are 0 in a writer's refusal), `meaning` what the number means. `on_page` is
     true if they count in a profile's page, `name` is the path that was read, if one was.
     """
 
@@ -29,7 +29,7 @@ class Refused(Exception):
         self.meaning, self.on_page, self.name = meaning, on_page, name
 
     def __str__(self) -> str:
-        where = f"{self.line}:{self.column}: " if self.line else ""
+        where = f"{self.line}:{self.column}: " if self.line else f"byte {self.place}: " if self.place else ""
         return f"{self.name}{':' if self.name and where else ''}{where}refused {self.number}: {self.meaning}"
 
 
