@@ -5,7 +5,6 @@ python/try.py STREAM: holds the module to the header and to the second reader's 
 failed'.
 """
 import collections
-import ctypes
 import doctest
 import os
 import pickle

@@ -15,8 +15,8 @@ _NO_WORDS = "this number has no words yet"
 class Refused(Exception):
     """
     What was given is refused. `number` is document 01's number, `place` the byte, from 0, `line` and `column` where it
-    stands, both from 1 (0 in a spool, and all three are 0 in a writer's refusal), `meaning` what the number means. `on_page` is
-    true if they count in a profile's page, `name` is the path that was read, if one was.
+    stands, both from 1 (0 in a spool; all three are 0 in a writer's refusal), `meaning` what the number means.
+    `on_page` is true if they count in a profile's page, `name` is the path that was read, if one was.
     """
 
     __module__ = "lastarunc"
