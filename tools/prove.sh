@@ -67,3 +67,11 @@ prove_library() {
     echo "making the library's archive" >&2
     tools/library > target/library.log 2>&1 || failed_with_log target/library.log
 }
+
+# Proves and builds a program, target/bin/NAME, if it is absent or older than its sources.
+prove_program() {
+    if ! is_current "target/bin/$1" crates crates.txt; then
+        prove "$1"
+        touch "target/bin/$1"
+    fi
+}
