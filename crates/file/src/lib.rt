@@ -1,5 +1,5 @@
-// Reading a file (01, "The file"): it is first checked (`file_check`), with nothing to write to, and then its ordinates are stored. So a refusal leaves every lent ordinate as it was. The file is lent and never
-// written to.
+// Reading a file (01, "The file"): it is first checked (`file_check`), with nothing to write to, and then its ordinates are stored. So a refusal leaves every lent ordinate as it was.
+// The file is lent and never written to.
 ghost use mathlib.Core.Path.{_≡_};
 ghost use Prim.Native.Nat.{_-_, _≤_};
 ghost use lib.ListN.{length};
