@@ -54,7 +54,7 @@ prove() {
     total=$(crates_needed "$1")
     mkdir -p target
     if [ ! -e target/rlib/terms.rlib ]; then
-        echo "first use: $total crates are proved and built, which takes some 8 minutes on two cores" >&2
+        echo "first use: $total crates are proved and built, which takes some 10 minutes on two cores" >&2
     else
         echo "the crates have changed, or were not all proved: proving what is new of $total" >&2
     fi

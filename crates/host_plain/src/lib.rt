@@ -1,4 +1,4 @@
-// The plain engine for C (02, T-14), in an archive of its own: compiled with the first engine, the functions that both call are no longer inlined there, which costs that one 7 to 16 in a hundred.
+// The plain engine for C (02, T-14), in an archive of its own: compiled with the first engine, the functions that both call are no longer inlined there, which costs it 7 to 19 in a hundred.
 ghost use Rattle.host.specs.Answers.{TableTold};
 
 // Reads a table by the plain engine (02, T-14): as `lastarunc_read_table` does, word for word.
