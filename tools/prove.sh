@@ -8,9 +8,9 @@ is_current() {
     [ -e "$made" ] && [ -z "$(find "$@" -newer "$made" -print -quit)" ]
 }
 
-# How many crates a crate needs, itself counted.
+# How many crates some crates need, themselves counted.
 crates_needed() {
-    awk -v wanted="$1" '
+    awk -v wanted="$*" '
         function visit(name, parts, k, count) {
             if (!(name in needs) || seen[name]++) return 0
             count = 1
@@ -19,7 +19,10 @@ crates_needed() {
         }
         { sub(/#.*/, "") }
         i = index($0, ":") { needs[substr($0, 1, i - 1)] = substr($0, i + 1) }
-        END { print visit(wanted) }' crates.txt
+        END {
+            for (k = split(wanted, names, " "); k > 0; k--) count += visit(names[k])
+            print count
+        }' crates.txt
 }
 
 # Reads what rt prints, and says how many crates of so many are proved: on a terminal in one line that is written anew,
@@ -47,23 +50,24 @@ failed_with_log() {
     exit 1
 }
 
-# Proves a crate and all that it needs, and shows how far that is.
+# Proves crates and all that they need, and shows how far that is.
 prove() {
     local log=target/prove-$1.log total
     command -v rt > /dev/null || { echo "the Rattle toolchain is wanted, and there is no rt" >&2 && exit 1; }
-    total=$(crates_needed "$1")
+    total=$(crates_needed "$@")
     mkdir -p target
     if [ ! -e target/rlib/terms.rlib ]; then
         echo "first use: $total crates are proved and built, which takes some 10 minutes on two cores" >&2
     else
         echo "the crates have changed, or were not all proved: proving what is new of $total" >&2
     fi
-    rt check "$1" < /dev/null 2>&1 | tee "$log" | show_progress "$total" || failed_with_log "$log"
+    rt check "$@" < /dev/null 2>&1 | tee "$log" | show_progress "$total" || failed_with_log "$log"
 }
 
 # Proves the library and makes its archive.
 prove_library() {
-    prove host_plain
+    . tools/members.sh
+    prove $members
     echo "making the library's archive" >&2
     tools/library > target/library.log 2>&1 || failed_with_log target/library.log
 }

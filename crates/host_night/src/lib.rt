@@ -134,8 +134,9 @@ fn tell_file(f: FileReport, answer: &mut [u64; 11]) -> u64
     }
 }
 
-// One step of the walk over a spool: the report of the next file, and `progress` is then past it; or the end, `ended` is 1 and `progress`, which has the totals, is as it was.
-pub fn tell_next(
+// One step of the walk over a spool (02, T-11): the report of the next file, and `progress` is then past it; or the end, `ended` is 1 and `progress`, which has the totals, is as it was.
+#[no_mangle]
+pub extern "C" fn lastarunc_next_report(
     spool: &[u8],
     out: &mut [i32],
     progress: &mut [u64; 6],

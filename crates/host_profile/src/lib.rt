@@ -1,11 +1,14 @@
-// What a C host is told of a profile (02, T-09). The function that C calls stands in `host`, and answers as this one does.
+// The function that C calls to read a profile (include/lastarunc.h; 02, T-09).
+// It fills its answer, a struct of 64-bit numbers for C, and returns the first of them, `refused`: 0 for acceptance. Every number is set, and what is not given is 0.
 ghost use Rattle.host_profile.specs.Answers.{ProfileTold};
 use host_numbers::bits_of;
 use host_numbers::flag_of;
 use profile_spec::ProfileRead;
 
-// Reads a profile: refused, place, line, column, points, first, last, whether F, L and FIRSTY's quotient are exact, and whether the refusal is on the page.
-pub fn tell_profile(
+// Reads a profile (02, T-09), with the site's page beside the file: refused, place, line, column, points, first, last, whether F, L and FIRSTY's quotient are exact, and whether the refusal is on
+// the page. `shown` has three numbers a record in 001's order: whether it is on the page, and from where up to where its text stands.
+#[no_mangle]
+pub extern "C" fn lastarunc_read_profile(
     file: &[u8],
     page: &[u8],
     out: &mut [i32],

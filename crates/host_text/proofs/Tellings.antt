@@ -1,23 +1,18 @@
--- From the answers of the writers to what a C host is told. No place of the code is named here. Assumes nothing.
+-- From the answers of the writer of tables to what a C host is told. No place of the code is named here. Assumes nothing.
 use mathlib.Core.Path.{_≡_, refl, ap, _∙_}
-use mathlib.Core.List.{List, [], _∷_}
+use mathlib.Core.List.{List, _∷_}
 use Prim.Native.Nat.{ℕ}
-use lib.ListN.{length}
 use borrow.Author.Tests.{ne-eqb}
 use Rattle.terms.specs.declared.Fault.{Fault}
 use Rattle.terms.specs.declared.TableWritten.{TableWritten}
 use Rattle.terms.specs.declared.TableWritten.the-variants as texts
 use Rattle.table_spec.specs.Writing.{Outcome, declined, wrote, laid}
 use Rattle.table_text.specs.Answers as writing
-use Rattle.file_spec.specs.declared.Exactness.{Exactness}
-use Rattle.file_write_spec.specs.declared.FileLength.{FileLength}
-use Rattle.file_write_spec.specs.declared.FileWritten.{FileWritten}
-use Rattle.file_write.specs.Answers as file-writing
 use Rattle.host_text.specs.declared.Form.{Form}
-use Rattle.host_numbers.specs.Numbers.{refusedOf, flag, flags, no-flags, Told}
-use Rattle.host_text.specs.Answers.{textAnswer, OutcomeTold, LengthTold, no-form, FormOf, writtenNumbers, fileNumbers}
+use Rattle.host_numbers.specs.Numbers.{refusedOf, no-flags, Told}
+use Rattle.host_text.specs.Answers.{textAnswer, OutcomeTold, LengthTold, no-form, FormOf, writtenNumbers}
 
--- ---- what the functions of this crate tell
+-- ---- what the functions tell
 
 pub no-such-form : (k : ℕ) → (k ≡ 0 → ⊥) → (k ≡ 1 → ⊥) → (k ≡ 2 → ⊥) → (k ≡ 3 → ⊥) → FormOf k Form.NoForm
 no-such-form k a b c d = λ f l n ys space. rw (ne-eqb k 0 a, ne-eqb k 1 b, ne-eqb k 2 c, ne-eqb k 3 d) refl
@@ -28,25 +23,13 @@ tells-length e = rw e (record { numbers = refl; returned = refl })
 pub tells-refusal : {w : TableWritten} {f : Fault} → w ≡ texts.Refused f → Told (writtenNumbers w) (f .number ∷ 0 ∷ no-flags) (f .number)
 tells-refusal e = rw e (record { numbers = refl; returned = refl })
 
-pub tells-file : {w : FileWritten} {m : FileLength} {f l y : ℕ} → w ≡ FileWritten.Length m → f ≡ flag (m .exact .first) → l ≡ flag (m .exact .last) → y ≡ flag (m .exact .firsty)
-    → Told (fileNumbers w) (0 ∷ m .length ∷ f ∷ l ∷ y ∷ []) 0
-tells-file e a b c = rw (e, a, b, c) (record { numbers = refl; returned = refl })
-
-pub tells-file-refusal : {w : FileWritten} {f : Fault} → w ≡ FileWritten.Refused f → Told (fileNumbers w) (f .number ∷ 0 ∷ no-flags) (f .number)
-tells-file-refusal e = rw e (record { numbers = refl; returned = refl })
-
 -- ---- so that a host is told of an outcome
 
 text-numbers : (x : Outcome) → writtenNumbers (writing.told x) ≡ textAnswer no-flags x
 text-numbers (declined c) = refl
 text-numbers (wrote t) = refl
 
-file-numbers : (q : Exactness) (x : Outcome) → fileNumbers (file-writing.told-file q x) ≡ textAnswer (flags q) x
-file-numbers q (declined c) = refl
-file-numbers q (wrote t) = refl
-
 module _ (x : Outcome) {answer : List ℕ} {r : ℕ} where
-  -- of a table,
   pub text-measured : {w : TableWritten} → w ≡ writing.told x → Told (writtenNumbers w) answer r → LengthTold no-flags x answer r
   text-measured e g =
       let z = ap writtenNumbers e ∙ text-numbers x in
@@ -54,15 +37,6 @@ module _ (x : Outcome) {answer : List ℕ} {r : ℕ} where
 
   pub text-told : {w : TableWritten} {o o' : List ℕ} → writing.Tells x o o' w → Told (writtenNumbers w) answer r → OutcomeTold no-flags x o o' answer r
   text-told t g = let z = text-measured (t .answer) g in record { numbers = z .numbers; returned = z .returned; leaves = t .bytes }
-
-  -- and of a file
-  pub file-measured : (q : Exactness) {w : FileWritten} → w ≡ file-writing.told-file q x → Told (fileNumbers w) answer r → LengthTold (flags q) x answer r
-  file-measured q e g =
-      let z = ap fileNumbers e ∙ file-numbers q x in
-      record { numbers = g .numbers ∙ z; returned = g .returned ∙ ap refusedOf z }
-
-  pub file-told : {q : Exactness} {w : FileWritten} {o o' : List ℕ} → file-writing.FileTells q x o o' w → Told (fileNumbers w) answer r → OutcomeTold (flags q) x o o' answer r
-  file-told {q} t g = let z = file-measured q (t .answer) g in record { numbers = z .numbers; returned = z .returned; leaves = t .bytes }
 
   -- a number that is no form's
   pub no-form-measured : x ≡ declined no-form → Told (no-form ∷ 0 ∷ no-flags) answer r → LengthTold no-flags x answer r

@@ -1,23 +1,18 @@
--- What a C host is told of a text: written, or its length only (02, T-10). The numbers of the answer's struct, in the header's order, and the first of them once more as the result. Assumes nothing.
+-- What a C host is told of a table's text: written, or its length only (02, T-10). The numbers of the answer's struct, in the header's order, and the first of them once more as the result. Assumes nothing.
 use mathlib.Core.Path.{_≡_}
 use mathlib.Core.List.{List, _∷_}
-use Prim.Native.Nat.{ℕ, _+_}
-use lib.IntN.{ℤ, pos}
+use Prim.Native.Nat.{ℕ}
+use lib.IntN.{ℤ}
 use lib.Dec.{eqb}
-use lib.ListN.{length, getD}
+use lib.ListN.{length}
 use Rattle.terms.specs.Logic.{pick}
 use Rattle.terms.specs.declared.TableWritten.{TableWritten}
 use Rattle.terms.specs.declared.TableWritten.the-variants as texts
 use Rattle.table_spec.specs.Writing.{Outcome, declined, wrote, writeTable, laid}
 use Rattle.table_spec.specs.declared.Style.{Style}
 use Rattle.table_spec.specs.declared.Style.the-variants.{Difdup, Affn, Pac, Sqz}
-use Rattle.file_write_spec.specs.File.{file-exact, writeFile}
-use Rattle.file_write_spec.specs.declared.FileWritten.{FileWritten}
-use Rattle.file_write_spec.specs.declared.GivenDecimal.{GivenDecimal}
-use Rattle.file_write_spec.specs.declared.Scales.{Scales}
 use Rattle.table_write.specs.Room.{enough}
-use Rattle.file_write.specs.Room as files
-use Rattle.host_numbers.specs.Numbers.{refusedOf, flags, no-flags}
+use Rattle.host_numbers.specs.Numbers.{refusedOf, no-flags}
 use Rattle.host_text.specs.declared.Form.{Form}
 
 -- a text written: refused, length, what is exact
@@ -52,17 +47,6 @@ writeForm k f l n ys space =
 abbrev pub FormTold : ℕ → ℤ → ℤ → ℕ → List ℤ → List ℕ → List ℕ → List ℕ → ℕ → Type 0
 FormTold k f l n ys text text' answer r = OutcomeTold no-flags (writeForm k f l n ys (length text)) text text' answer r
 
--- ten numbers as they come are five decimals, each a mantissa and an exponent, in the header's order
-abbrev pub given : List ℤ → ℕ → GivenDecimal
-given ks i = record { mantissa = getD ks i (pos 0); exponent = getD ks (i + 1) (pos 0) }
-
-abbrev pub scalesOf : List ℤ → Scales
-scalesOf ks = record { xfactor = given ks 0; yfactor = given ks 2; firstx = given ks 4; lastx = given ks 6; firsty = given ks 8 }
-
--- a file written: refused, length, what is exact
-abbrev pub FileTextTold : List ℕ → ℕ → List ℤ → List ℤ → List ℕ → List ℕ → List ℕ → ℕ → Type 0
-FileTextTold title n ks es text text' answer r = OutcomeTold (flags (file-exact (scalesOf ks) n es)) (writeFile title n (scalesOf ks) es (length text)) text text' answer r
-
 -- ---- the length of a text (02, T-10)
 
 -- what a host is told where nothing is written
@@ -74,10 +58,6 @@ pub record LengthTold (ks : List ℕ) (x : Outcome) (answer : List ℕ) (r : ℕ
 abbrev pub TextLengthTold : ℕ → ℤ → ℤ → ℕ → List ℤ → List ℕ → ℕ → Type 0
 TextLengthTold k f l n ys answer r = LengthTold no-flags (writeForm k f l n ys (enough n)) answer r
 
--- a file, likewise
-abbrev pub FileLengthTold : List ℕ → ℕ → List ℤ → List ℤ → List ℕ → ℕ → Type 0
-FileLengthTold title n ks es answer r = LengthTold (flags (file-exact (scalesOf ks) n es)) (writeFile title n (scalesOf ks) es (files.enough n)) answer r
-
 -- ---- what the functions here answer
 
 -- the form of a number, or that it is none's
@@ -85,11 +65,7 @@ abbrev pub FormOf : ℕ → Form → Type 0
 FormOf k (Form.Of st) = (f l : ℤ) (n : ℕ) (ys : List ℤ) (space : ℕ) → writeForm k f l n ys space ≡ writeTable st f l n ys space
 FormOf k Form.NoForm = (f l : ℤ) (n : ℕ) (ys : List ℤ) (space : ℕ) → writeForm k f l n ys space ≡ declined no-form
 
--- the numbers of what a writer of tables answered, and of what the writer of files did
+-- the numbers of what a writer of tables answered
 abbrev pub writtenNumbers : TableWritten → List ℕ
 writtenNumbers (texts.Length m) = 0 ∷ m ∷ no-flags
 writtenNumbers (texts.Refused f) = f .number ∷ 0 ∷ no-flags
-
-abbrev pub fileNumbers : FileWritten → List ℕ
-fileNumbers (FileWritten.Length m) = 0 ∷ m .length ∷ flags (m .exact)
-fileNumbers (FileWritten.Refused f) = f .number ∷ 0 ∷ no-flags

@@ -1,12 +1,9 @@
-// What a C host is told of a text, written or measured (02, T-01, T-02, T-04, T-10): the five numbers of its answer. The functions that C calls are those of `host`.
-ghost use mathlib.Core.Path.{_≡_};
-ghost use Rattle.host_text.specs.Answers.{no-form, scalesOf, FormOf, writtenNumbers, fileNumbers};
+// The functions that C calls to write a table and to measure its text (include/lastarunc.h; 02, T-01, T-02, T-10). Each fills its answer, a struct of 64-bit numbers for C, and returns the
+// first of them, `refused`: 0 for acceptance. Every argument is answered, every number is set, and what is not given is 0.
+ghost use Rattle.host_text.specs.Answers.{no-form, FormOf, writtenNumbers, TextTold, FormTold, TextLengthTold};
 ghost use Rattle.host_numbers.specs.Numbers.{no-flags, Told};
+ghost use Rattle.table_spec.specs.declared.Style.the-variants.{Difdup};
 ghost use mathlib.Core.List.{_∷_};
-use file_write_spec::FileWritten;
-use file_write_spec::GivenDecimal;
-use file_write_spec::Scales;
-use host_numbers::flag_of;
 use table_spec::Style;
 use terms::TableWritten;
 
@@ -14,13 +11,13 @@ use terms::TableWritten;
 const NO_FORM: u64 = 18446744073709551615;
 
 // The form of a number of the header, or that it is no form's.
-pub enum Form {
+enum Form {
     Of(Style),
     NoForm,
 }
 
 // The form of this number (02, T-02).
-pub fn form_of(form: u64) -> Form
+fn form_of(form: u64) -> Form
     ensures { λ r. ⌜ FormOf form r ⌝ }
 {
     match form {
@@ -33,7 +30,7 @@ pub fn form_of(form: u64) -> Form
 }
 
 // Tells what a writer of tables answered: refused, length, and three zeros where a file has what is exact.
-pub fn tell_text(written: TableWritten, answer: &mut [u64; 5]) -> u64
+fn tell_text(written: TableWritten, answer: &mut [u64; 5]) -> u64
     ensures { λ r. ⌜ Told (writtenNumbers written) (now (answer .exit)) r ⌝ }
 {
     match written {
@@ -49,57 +46,80 @@ pub fn tell_text(written: TableWritten, answer: &mut [u64; 5]) -> u64
 }
 
 // Tells that a number is no form's.
-pub fn tell_no_form(answer: &mut [u64; 5]) -> u64
+fn tell_no_form(answer: &mut [u64; 5]) -> u64
     ensures { λ r. ⌜ Told (no-form ∷ 0 ∷ no-flags) (now (answer .exit)) r ⌝ }
 {
     *answer = [NO_FORM, 0, 0, 0, 0];
     NO_FORM
 }
 
-// Tells what the writer of files answered: refused, length, and whether F, L and FIRSTY's quotient are exact.
-pub fn tell_file(written: FileWritten, answer: &mut [u64; 5]) -> u64
-    ensures { λ r. ⌜ Told (fileNumbers written) (now (answer .exit)) r ⌝ }
+// Writes a table in a form: refused, length, and three zeros where a file has what is exact.
+fn write_style(
+    style: Style,
+    first: i64,
+    last: i64,
+    points: usize,
+    ordinates: &[i32],
+    text: &mut [u8],
+    answer: &mut [u64; 5],
+) -> u64
+    ensures { λ r. ⌜ TextTold style first last points (now (ordinates .entry)) (now (text .entry)) (now (text .exit)) (now (answer .exit)) r ⌝ }
 {
-    match written {
-        FileWritten::Length(n) => {
-            let exact = n.exact;
-            let ef = flag_of(exact.first);
-            let el = flag_of(exact.last);
-            let ey = flag_of(exact.firsty);
-            *answer = [0, n.length as u64, ef, el, ey];
-            0
-        }
-        FileWritten::Refused(refusal) => {
-            *answer = [refusal.number, 0, 0, 0, 0];
-            refusal.number
-        }
+    let written = table_write::write_form(style, first, last, points, ordinates, text);
+    tell_text(written, answer)
+}
+
+// Writes a table in DIFDUP form, and answers as the form does.
+#[no_mangle]
+pub extern "C" fn lastarunc_write_table(
+    first: i64,
+    last: i64,
+    points: usize,
+    ordinates: &[i32],
+    text: &mut [u8],
+    answer: &mut [u64; 5],
+) -> u64
+    ensures { λ r. ⌜ TextTold Difdup first last points (now (ordinates .entry)) (now (text .entry)) (now (text .exit)) (now (answer .exit)) r ⌝ }
+{
+    write_style(Style::Difdup, first, last, points, ordinates, text, answer)
+}
+
+// Writes a table in the form of this number (02, T-02), and answers as the form does. A number that is no form's is answered too.
+#[no_mangle]
+pub extern "C" fn lastarunc_write_form(
+    form: u64,
+    first: i64,
+    last: i64,
+    points: usize,
+    ordinates: &[i32],
+    text: &mut [u8],
+    answer: &mut [u64; 5],
+) -> u64
+    ensures { λ r. ⌜ FormTold form first last points (now (ordinates .entry)) (now (text .entry)) (now (text .exit)) (now (answer .exit)) r ⌝ }
+{
+    match form_of(form) {
+        Form::NoForm => tell_no_form(answer),
+        Form::Of(style) => write_style(style, first, last, points, ordinates, text, answer),
     }
 }
 
-// The five decimals of a file, each a mantissa and an exponent: XFACTOR, YFACTOR, FIRSTX, LASTX, FIRSTY.
-pub fn scales_of(scales: &[i64; 10]) -> Scales
-    ensures { λ r. ⌜ r ≡ scalesOf (now (scales .entry)) ⌝ }
+// The length of a table's text in the form of this number (02, T-10): as writing it answers, and never with 15. A number that is no form's is answered too.
+#[no_mangle]
+pub extern "C" fn lastarunc_text_length(
+    form: u64,
+    first: i64,
+    last: i64,
+    points: usize,
+    ordinates: &[i32],
+    answer: &mut [u64; 5],
+) -> u64
+    ensures { λ r. ⌜ TextLengthTold form first last points (now (ordinates .entry)) (now (answer .exit)) r ⌝ }
 {
-    Scales {
-        xfactor: GivenDecimal {
-            mantissa: scales[0],
-            exponent: scales[1],
-        },
-        yfactor: GivenDecimal {
-            mantissa: scales[2],
-            exponent: scales[3],
-        },
-        firstx: GivenDecimal {
-            mantissa: scales[4],
-            exponent: scales[5],
-        },
-        lastx: GivenDecimal {
-            mantissa: scales[6],
-            exponent: scales[7],
-        },
-        firsty: GivenDecimal {
-            mantissa: scales[8],
-            exponent: scales[9],
-        },
+    match form_of(form) {
+        Form::NoForm => tell_no_form(answer),
+        Form::Of(style) => {
+            let written = table_write::text_length(style, first, last, points, ordinates);
+            tell_text(written, answer)
+        }
     }
 }

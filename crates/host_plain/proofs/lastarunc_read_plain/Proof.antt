@@ -1,6 +1,6 @@
 -- `host_plain::lastarunc_read_plain` meets its contract: the answer has the numbers of what the plain engine says.
 use mir.Facts.{toZ-ofZ}
-use Rattle.host.proofs.Tellings.{told-table}
+use Rattle.host_table.proofs.Tellings.{told-table}
 use borrow.Author.Needs.{needs}
 use Rattle.host_plain.proofs.lastarunc_read_plain.Statement.{statement}
 use Rattle.host_plain.proofs.lastarunc_read_plain.Tie as tie
