@@ -1,30 +1,13 @@
 -- The lines of a file before its body, said of its numbers as the reader has them (02, T-04). Assumes nothing.
 use mathlib.Core.List.{List, [], _∷_, _++_}
-use Prim.Native.Nat.{ℕ, _-_, _<_}
-use lib.Dec.{leb}
-use Rattle.terms.specs.Logic.{pick}
+use Prim.Native.Nat.{ℕ, _<_}
 use Rattle.table_spec.specs.Groups.{plainText}
 use Rattle.label_spec.specs.Names.{TITLE}
-use Rattle.decimal_spec.specs.Number.{bound, origin}
-use Rattle.file_spec.specs.declared.Decimal.{Decimal}
+use Rattle.decimal_spec.specs.Number.{bound}
 use Rattle.file_spec.specs.declared.Numbers.{Numbers}
 use Rattle.file_spec.specs.Texts.{XFACTOR, YFACTOR, FIRSTX, LASTX, NPOINTS, FIRSTY, XYDATA, LIST}
 use Rattle.file_write_spec.specs.Records.{Entry, line}
-use Rattle.file_write_spec.specs.Decimals.{twoDigits}
-
--- the text of a power of ten, counted from the origin on
-unfoldable pub powerText : ℕ → List ℕ
-powerText p = 69 ∷ pick (leb origin p) (43 ∷ twoDigits (p - origin)) (45 ∷ twoDigits (origin - p))
-
--- the text of a decimal
-unfoldable pub textOf : Decimal → List ℕ
-textOf d = pick (d .minus) (45 ∷ plainText (d .mantissa)) (plainText (d .mantissa)) ++ powerText (d .power)
-
--- "whole mantissa of at most 9 digits, exponent of at most 99 in magnitude"
-pub record Writable (d : Decimal) : Type 0 where
-  pub mantissa : d .mantissa < bound
-  pub low : 100 < d .power
-  pub high : d .power < 300
+use Rattle.file_pieces.specs.Decimals.{textOf, Writable}
 
 -- each of the numbers
 pub record AllWritable (n : Numbers) : Type 0 where

@@ -25,7 +25,7 @@ use Rattle.file_write_spec.specs.Decimals.{mantissaText, exponentText, decimalT
 use Rattle.file_write_spec.specs.File.{title-legal, scales-legal, numbers, end-line, fileText, byFrame, writeFile}
 use Rattle.file_write_law.specs.Lengths.{ScalesFit, scales-fit}
 use Rattle.file_given.specs.Taking.{givenOf, fromFirstx, figuresFor}
-use Rattle.file_lines.specs.Lines.{powerText, textOf, Writable}
+use Rattle.file_pieces.specs.Decimals.{powerText, textOf, Writable}
 use Rattle.file_plan.specs.Stages.{laidOut, bodyOf, Scaled, inFrame, fromNumbers}
 
 -- ---- one decimal

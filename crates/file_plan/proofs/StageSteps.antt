@@ -19,7 +19,8 @@ use Rattle.file_spec.specs.declared.Numbers.{Numbers}
 use Rattle.file_spec.specs.declared.Exactness.{Exactness}
 use Rattle.file_spec.specs.Figures.{ratio, whole, agrees}
 use Rattle.file_write_spec.specs.File.{ordinates}
-use Rattle.file_lines.specs.Lines.{Writable, AllWritable}
+use Rattle.file_pieces.specs.Decimals.{Writable}
+use Rattle.file_lines.specs.Lines.{AllWritable}
 use Rattle.file_plan.specs.Stages.{laidOut, bodyOf, Scaled, inFrame, first-from, last-from, fromNumbers, Plans}
 use Rattle.file_plan.specs.declared.Planned.{Planned}
 

@@ -16,7 +16,8 @@ use Rattle.file_spec.specs.declared.Exactness.{Exactness}
 use Rattle.file_spec.specs.Figures.{ratio, abscissa-of, agrees, exactness-of}
 use Rattle.file_write_spec.specs.Records.{entriesText}
 use Rattle.file_write_spec.specs.File.{end-line, within-limit, ordinates, limited}
-use Rattle.file_lines.specs.Lines.{Writable, AllWritable, headingOf}
+use Rattle.file_pieces.specs.Decimals.{Writable}
+use Rattle.file_lines.specs.Lines.{AllWritable, headingOf}
 use Rattle.file_plan.specs.declared.Plan.{Plan}
 use Rattle.file_plan.specs.declared.Planned.{Planned}
 

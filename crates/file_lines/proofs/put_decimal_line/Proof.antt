@@ -3,7 +3,7 @@ use borrow.Author.Needs.{needs}
 use Prim.Native.Nat.{_-_}
 use native.Mathlib.Omega.{arith}
 use Rattle.file_lines.proofs.Steps.{line-put}
-use Rattle.file_lines.specs.Lines.{textOf}
+use Rattle.file_pieces.specs.Decimals.{textOf}
 use Rattle.file_lines.proofs.put_decimal_line.Statement.{statement}
 use Rattle.file_lines.proofs.put_decimal_line.Tie as tie
 

@@ -1,10 +1,10 @@
--- `file_lines::put_decimal` meets its contract: a sign only if it is negative, digits, exponent.
+-- `file_pieces::put_decimal` meets its contract: a sign only if it is negative, digits, exponent.
 use Prim.Native.Nat.{_-_}
 use native.Mathlib.Omega.{arith}
-use Rattle.file_lines.proofs.Steps.{decimal-minus, decimal-plain}
+use Rattle.file_pieces.proofs.Steps.{decimal-minus, decimal-plain}
 use borrow.Author.Needs.{needs}
-use Rattle.file_lines.proofs.put_decimal.Statement.{statement}
-use Rattle.file_lines.proofs.put_decimal.Tie as tie
+use Rattle.file_pieces.proofs.put_decimal.Statement.{statement}
+use Rattle.file_pieces.proofs.put_decimal.Tie as tie
 
 put-requires : tie.Need-put-requires
 put-requires c κs = search needs

@@ -1,9 +1,9 @@
--- `file_lines::put_two` meets its contract: three bytes in a row.
+-- `file_pieces::put_two` meets its contract: three bytes in a row.
 use Prim.Native.Nat.{_-_}
-use Rattle.file_lines.proofs.Steps.{put-three-bytes}
+use Rattle.file_pieces.proofs.Steps.{put-three-bytes}
 use borrow.Author.Needs.{needs}
-use Rattle.file_lines.proofs.put_two.Statement.{statement}
-use Rattle.file_lines.proofs.put_two.Tie as tie
+use Rattle.file_pieces.proofs.put_two.Statement.{statement}
+use Rattle.file_pieces.proofs.put_two.Tie as tie
 
 add-tens : tie.Need-add-tens
 add-tens c = search needs

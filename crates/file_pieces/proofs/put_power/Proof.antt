@@ -1,9 +1,9 @@
--- `file_lines::put_power` meets its contract: `+` from the origin on, `-` below it.
+-- `file_pieces::put_power` meets its contract: `+` from the origin on, `-` below it.
 use Prim.Native.Nat.{_-_}
-use Rattle.file_lines.proofs.Steps.{power-up, power-down}
+use Rattle.file_pieces.proofs.Steps.{power-up, power-down}
 use borrow.Author.Needs.{needs}
-use Rattle.file_lines.proofs.put_power.Statement.{statement}
-use Rattle.file_lines.proofs.put_power.Tie as tie
+use Rattle.file_pieces.proofs.put_power.Statement.{statement}
+use Rattle.file_pieces.proofs.put_power.Tie as tie
 
 put-requires : tie.Need-put-requires
 put-requires c κs = search needs

@@ -1,9 +1,9 @@
--- `file_lines::put_count` meets its contract: a number whose first digit is a plain one.
+-- `file_pieces::put_count` meets its contract: a number whose first digit is a plain one.
 use Prim.Native.Nat.{_-_}
-use Rattle.file_lines.proofs.Steps.{count-put}
+use Rattle.file_pieces.proofs.Steps.{count-put}
 use borrow.Author.Needs.{needs}
-use Rattle.file_lines.proofs.put_count.Statement.{statement}
-use Rattle.file_lines.proofs.put_count.Tie as tie
+use Rattle.file_pieces.proofs.put_count.Statement.{statement}
+use Rattle.file_pieces.proofs.put_count.Tie as tie
 
 further-digits-requires : tie.Need-further-digits-requires
 further-digits-requires c κs = search needs

@@ -1,13 +1,13 @@
--- `file_lines::put_bytes` meets its contract: each byte in its place; what is left is stored from the next one on.
+-- `file_pieces::put_bytes` meets its contract: each byte in its place; what is left is stored from the next one on.
 use borrow.Author.Needs.{needs}
 use mathlib.Core.Path.{_≡_, refl}
 use Prim.Native.Nat.{_+_, _-_, _≤_}
 use native.Mathlib.Omega.{arith}
 use lib.ListN.{length, drop, length-set}
 use lib.Seq.{sets}
-use Rattle.file_lines.proofs.Steps.{bytes-again, bytes-end}
-use Rattle.file_lines.proofs.put_bytes.Statement.{statement}
-use Rattle.file_lines.proofs.put_bytes.Tie as tie
+use Rattle.file_pieces.proofs.Steps.{bytes-again, bytes-end}
+use Rattle.file_pieces.proofs.put_bytes.Statement.{statement}
+use Rattle.file_pieces.proofs.put_bytes.Tie as tie
 
 abbrev Inv-loop : tie.InvT-loop
 Inv-loop out₀ at s i₀ out i = (i ≤ length s) × (length out ≡ length out₀) × (sets out (at + i) (drop i s) ≡ sets out₀ at s)
