@@ -14,9 +14,9 @@ use Rattle.file_spec.specs.declared.FileTable.{FileTable}
 use Rattle.file_spec.specs.declared.FileRead.the-variants as reads
 use Rattle.file_spec.specs.declared.FileStaged.the-variants as stages
 use Rattle.file_spec.specs.File.{FileAnswer, refuse-file, accept-file, staged, toldFile, readFile}
-use Rattle.file_check.specs.declared.Tabled.{Tabled}
+use Rattle.file_body.specs.declared.Tabled.{Tabled}
 use Rattle.file.specs.Answers.{stagedBy, leftBy, StageSays, FileSays}
-use Rattle.file_check.specs.Checks.{tabled, StageChecks}
+use Rattle.file_body.specs.Checks.{tabled, StageChecks}
 
 -- ---- what was checked, stored
 

@@ -13,8 +13,8 @@ use Rattle.terms.specs.Refusals.{refusalIn}
 use Rattle.terms.specs.declared.Fault.{Fault}
 use Rattle.terms.specs.declared.Refusal.{Refusal}
 use Rattle.table_spec.specs.Reading.{stored}
-use Rattle.file_check.specs.declared.TablePlace.{TablePlace}
-use Rattle.file_check.specs.Checks.{tableAt}
+use Rattle.file_body.specs.declared.TablePlace.{TablePlace}
+use Rattle.file_body.specs.Checks.{tableAt}
 use Rattle.profile_spec.specs.declared.ProfileRead.{ProfileRead}
 use Rattle.profile_spec.specs.Profile.{refuse-profile, toldProfile}
 use Rattle.profile_check.specs.declared.Checked.{Checked}

@@ -12,9 +12,9 @@ use Rattle.label_spec.specs.declared.Labelled.{Labelled}
 use Rattle.file_spec.specs.declared.Span.{Span}
 use Rattle.file_spec.specs.Texts.{gatheredFrom}
 use Rattle.file_spec.specs.File.{FileAnswer, refuse-file, accept-file, byRecords, readFile}
-use Rattle.file_check.specs.declared.TablePlace.{TablePlace}
-use Rattle.file_check.specs.declared.Tabled.{Tabled}
-use Rattle.file_check.specs.Checks.{tabled, StageChecks}
+use Rattle.file_body.specs.declared.TablePlace.{TablePlace}
+use Rattle.file_body.specs.declared.Tabled.{Tabled}
+use Rattle.file_body.specs.Checks.{tabled, StageChecks}
 use Rattle.file_check.proofs.StageLaws.{labels-refused, labels-placed}
 use Rattle.profile_spec.specs.declared.Profiled.{Profiled}
 use Rattle.profile_spec.specs.Wanted.{wanted}

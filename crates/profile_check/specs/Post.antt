@@ -7,8 +7,8 @@ use lib.IntN.{ℤ}
 use Rattle.terms.specs.Refusals.{fault-at}
 use Rattle.table_spec.specs.Reading.{stored}
 use Rattle.file_spec.specs.File.{accept-file, storedFile}
-use Rattle.file_check.specs.declared.TablePlace.{TablePlace}
-use Rattle.file_check.specs.Checks.{tableAt, Laid}
+use Rattle.file_body.specs.declared.TablePlace.{TablePlace}
+use Rattle.file_body.specs.Checks.{tableAt, Laid}
 use Rattle.profile_spec.specs.declared.Profiled.{Profiled}
 use Rattle.profile_spec.specs.Wanted.{wanted}
 use Rattle.profile_spec.specs.Profile.{profiled, allNumbers, refuse-profile, accept-profile, readProfile}

@@ -4,7 +4,8 @@ use mathlib.Core.Path.{refl, sym, _∙_}
 use Prim.Native.Nat.{ℕ}
 use native.Mathlib.Omega.{arith}
 use borrow.Author.Needs.{needs}
-use Rattle.file_check.proofs.StageLaws.{stage-refused, stage-same, labels-refused, labels-placed, labels-body, labelled-short}
+use Rattle.file_body.proofs.BodyLaws.{stage-refused, stage-same}
+use Rattle.file_check.proofs.StageLaws.{labels-refused, labels-placed, labels-body, labelled-short}
 use Rattle.file_check.proofs.check_file.Statement.{statement}
 use Rattle.file_check.proofs.check_file.Tie as tie
 

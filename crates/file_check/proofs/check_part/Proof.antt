@@ -3,7 +3,8 @@ use mathlib.Core.List.{List}
 use mathlib.Core.Path.{sym, _∙_}
 use Prim.Native.Nat.{ℕ}
 use borrow.Author.Needs.{needs}
-use Rattle.file_check.proofs.StageLaws.{stage-refused, stage-same, records-lacking, records-all, records-body}
+use Rattle.file_body.proofs.BodyLaws.{stage-refused, stage-same}
+use Rattle.file_check.proofs.StageLaws.{records-lacking, records-all, records-body}
 use Rattle.file_check.proofs.check_part.Statement.{statement}
 use Rattle.file_check.proofs.check_part.Tie as tie
 
