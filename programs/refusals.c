@@ -1,4 +1,4 @@
-/* What each refusal means. Up to 29 a reader's words are those of crates/report; programs/run compares them. */
+/* What each refusal means. Up to 29 a reader's words are those of crates/refusal_words; programs/run compares them. */
 #include "programs.h"
 
 /* What a number means to those who read a file. */

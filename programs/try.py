@@ -37,15 +37,15 @@ def second(words, given):
 
 
 def same_words():
-    """The meanings of crates/report are those of refusals.c."""
-    report = open(ROOT + "/crates/report/src/lib.rt", encoding="utf-8").read()
+    """The meanings of crates/refusal_words are those of refusals.c."""
+    report = open(ROOT + "/crates/refusal_words/src/lib.rt", encoding="utf-8").read()
     ours = dict(re.findall(r'\[(\d+)\] = "(.*)"', open(ROOT + "/programs/refusals.c", encoding="utf-8").read().split("write_words")[0]))
     theirs = re.findall(r'(\d+|_) => say\(b"(.*)"\)', report)
     others = iter(["16", "29"])
     for number, words in theirs:
         number = next(others) if number == "_" else number
-        need(ours.get(number) == words, f"refusal {number} means {words!r} in crates/report, {ours.get(number)!r} here")
-    need(len(theirs) == 25, f"crates/report has words for {len(theirs)} refusals, not for 25")
+        need(ours.get(number) == words, f"refusal {number} means {words!r} in crates/refusal_words, {ours.get(number)!r} here")
+    need(len(theirs) == 25, f"crates/refusal_words has words for {len(theirs)} refusals, not for 25")
     numbers = set(re.findall(r"^\| (\d+) \|", open(ROOT + "/docs/REFUSALS.md", encoding="utf-8").read(), re.M)) - {"15", "37"}
     need(numbers <= set(ours), f"no words for {numbers - set(ours)}")
 

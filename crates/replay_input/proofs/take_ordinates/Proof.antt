@@ -1,10 +1,10 @@
--- `replay::take_ordinates` meets its contract: the next n ordinates of the input.
+-- `replay_input::take_ordinates` meets its contract: the next n ordinates of the input.
 use mathlib.Core.Path.{_≡_}
 use Prim.Native.Nat.{_-_}
 use borrow.Author.Needs.{needs}
 use lib.ListN.{length}
-use Rattle.replay.proofs.take_ordinates.Statement.{statement}
-use Rattle.replay.proofs.take_ordinates.Tie as tie
+use Rattle.replay_input.proofs.take_ordinates.Statement.{statement}
+use Rattle.replay_input.proofs.take_ordinates.Tie as tie
 
 abbrev Inv-loop : tie.InvT-loop
 Inv-loop ys₀ n i₀ ys i = length ys ≡ length ys₀

@@ -1,9 +1,9 @@
--- `replay::show_touched_text` meets its contract: a line if a byte from index n on is not what the slice was filled with.
+-- `replay_show::show_touched_text` meets its contract: a line if a byte from index n on is not what the slice was filled with.
 use Prim.Native.Nat.{_≤_, _-_}
 use borrow.Author.Needs.{needs}
 use lib.ListN.{length}
-use Rattle.replay.proofs.show_touched_text.Statement.{statement}
-use Rattle.replay.proofs.show_touched_text.Tie as tie
+use Rattle.replay_show.proofs.show_touched_text.Statement.{statement}
+use Rattle.replay_show.proofs.show_touched_text.Tie as tie
 
 abbrev Inv-loop : tie.InvT-loop
 Inv-loop text n i₀ t4 i = i ≤ length text

@@ -1,8 +1,8 @@
--- `replay::show_touched` meets its contract: a line if an ordinate from index n on is not what the slice was filled with.
+-- `replay_show::show_touched` meets its contract: a line if an ordinate from index n on is not what the slice was filled with.
 use Prim.Native.Nat.{_≤_, _-_}
 use borrow.Author.Needs.{needs}
-use Rattle.replay.proofs.show_touched.Statement.{statement}
-use Rattle.replay.proofs.show_touched.Tie as tie
+use Rattle.replay_show.proofs.show_touched.Statement.{statement}
+use Rattle.replay_show.proofs.show_touched.Tie as tie
 
 abbrev Inv-loop : tie.InvT-loop
 Inv-loop out n i₀ t4 i = i ≤ 4096

@@ -1,8 +1,8 @@
--- `replay::show_points` meets its contract: the first n ordinates, and the line's end.
+-- `replay_show::show_points` meets its contract: the first n ordinates, and the line's end.
 use Prim.Native.Nat.{_≤_, _-_}
 use borrow.Author.Needs.{needs}
-use Rattle.replay.proofs.show_points.Statement.{statement}
-use Rattle.replay.proofs.show_points.Tie as tie
+use Rattle.replay_show.proofs.show_points.Statement.{statement}
+use Rattle.replay_show.proofs.show_points.Tie as tie
 
 abbrev Inv-loop : tie.InvT-loop
 Inv-loop out n i₀ t4 i = i ≤ 4096
