@@ -15,8 +15,8 @@ use Rattle.compound_find.specs.Answers.{FindsBlocks}
 use Rattle.compound_read.specs.Answers.{ReadsBlock}
 use Rattle.host_numbers.specs.Numbers.{Told}
 use Rattle.host_numbers.specs.NumberLaws.{told-as}
-use Rattle.host_file.specs.Answers.{recordNumbers}
-use Rattle.host_blocks.specs.Answers.{blocksAnswer, BlocksTold, blockAnswer, startOf, endOf, fromOf, BlockTold, BlockRecordTold, blocksNumbers, blockNumbers}
+use Rattle.host_read.specs.Answers.{recordNumbers, blocksNumbers, blockNumbers}
+use Rattle.host_blocks.specs.Answers.{blocksAnswer, BlocksTold, blockAnswer, startOf, endOf, fromOf, BlockTold, BlockRecordTold}
 
 -- ---- the numbers of an answer are those of what it is told as
 

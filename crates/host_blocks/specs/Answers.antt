@@ -6,13 +6,11 @@ use lib.IntN.{ℤ}
 use lib.ListN.{length, getD}
 use Rattle.terms.specs.Places.{lineOf, columnOf}
 use Rattle.label_spec.specs.Names.{norm}
-use Rattle.file_spec.specs.declared.FileRead.{FileRead}
-use Rattle.compound_spec.specs.declared.BlocksFound.{BlocksFound}
-use Rattle.compound_spec.specs.declared.BlockRead.{BlockRead}
 use Rattle.compound_spec.specs.Compound.{BlocksAnswer, refuse-blocks, one-block, all-blocks, findBlocks}
 use Rattle.compound_spec.specs.Answers.{storedBlocks, BlockAnswer, answer, no-block, readBlock, storedBlock, recordInBlock}
 use Rattle.host_numbers.specs.Numbers.{refusedOf, no-flags}
-use Rattle.host_file.specs.Answers.{fileAnswer, fileNumbers, absent, recordNumbers}
+use Rattle.host_read.specs.Answers.{absent, recordNumbers}
+use Rattle.host_file.specs.Answers.{fileAnswer}
 
 -- the data blocks of a file: refused, place, line, column, whether it is compound, how many
 abbrev pub blocksAnswer : List ℕ → BlocksAnswer → List ℕ
@@ -48,15 +46,3 @@ pub record BlockTold (file block : List ℕ) (out out' : List ℤ) (numbers' : L
 pub record BlockRecordTold (file block name : List ℕ) (numbers' : List ℕ) (r : ℕ) : Type 0 where
   pub numbers : numbers' ≡ recordNumbers (recordInBlock file (fromOf block) (endOf block) (norm name))
   pub returned : r ≡ refusedOf (recordNumbers (recordInBlock file (fromOf block) (endOf block) (norm name)))
-
--- ---- the same numbers, by cases of what the functions answered
-
-abbrev pub blocksNumbers : BlocksFound → List ℕ
-blocksNumbers (BlocksFound.Refused r) = r .number ∷ r .place ∷ r .line ∷ r .column ∷ 0 ∷ 0 ∷ []
-blocksNumbers BlocksFound.One = 0 ∷ 0 ∷ 0 ∷ 0 ∷ 0 ∷ 1 ∷ []
-blocksNumbers (BlocksFound.Compound n) = 0 ∷ 0 ∷ 0 ∷ 0 ∷ 1 ∷ n ∷ []
-
-abbrev pub blockNumbers : BlockRead → List ℕ
-blockNumbers (BlockRead.Accepted t) = fileNumbers (FileRead.Accepted t)
-blockNumbers (BlockRead.Refused r) = fileNumbers (FileRead.Refused r)
-blockNumbers BlockRead.NoBlock = absent ∷ 0 ∷ 0 ∷ 0 ∷ 0 ∷ 0 ∷ 0 ∷ no-flags

@@ -1,54 +1,9 @@
 // The functions that C calls for the data blocks of a compound file (include/lastarunc.h; 02, T-07). Each fills its answer, a struct of 64-bit numbers for C, and returns the first of them,
 // `refused`: 0 for acceptance. Every argument is answered, every number is set, and what is not given is 0.
-ghost use Rattle.host_numbers.specs.Numbers.{Told};
-ghost use Rattle.host_blocks.specs.Answers.{blocksNumbers, blockNumbers, BlocksTold, BlockTold, BlockRecordTold};
-use compound_spec::BlockRead;
-use compound_spec::BlocksFound;
-use file_spec::FileRead;
-use host_file::ABSENT;
-use host_file::tell_file;
-use host_file::tell_record;
-
-// The data blocks of a file: refused, place, line, column, compound, blocks.
-fn tell_blocks(found: BlocksFound, answer: &mut [u64; 6]) -> u64
-    ensures { λ r. ⌜ Told (blocksNumbers found) (now (answer .exit)) r ⌝ }
-{
-    match found {
-        BlocksFound::Refused(r) => {
-            *answer = [
-                r.number,
-                r.place as u64,
-                r.line as u64,
-                r.column as u64,
-                0,
-                0,
-            ];
-            r.number
-        }
-        BlocksFound::One => {
-            *answer = [0, 0, 0, 0, 0, 1];
-            0
-        }
-        BlocksFound::Compound(n) => {
-            *answer = [0, 0, 0, 0, 1, n as u64];
-            0
-        }
-    }
-}
-
-// A data block read: as a file is; or that there is no block.
-fn tell_block(read: BlockRead, answer: &mut [u64; 10]) -> u64
-    ensures { λ r. ⌜ Told (blockNumbers read) (now (answer .exit)) r ⌝ }
-{
-    match read {
-        BlockRead::Accepted(t) => tell_file(FileRead::Accepted(t), answer),
-        BlockRead::Refused(r) => tell_file(FileRead::Refused(r), answer),
-        BlockRead::NoBlock => {
-            *answer = [ABSENT, 0, 0, 0, 0, 0, 0, 0, 0, 0];
-            ABSENT
-        }
-    }
-}
+ghost use Rattle.host_blocks.specs.Answers.{BlocksTold, BlockTold, BlockRecordTold};
+use host_read::tell_block;
+use host_read::tell_blocks;
+use host_read::tell_record;
 
 // Finds the data blocks of a file (02, T-07): refused, place, line, column, compound, blocks.
 #[no_mangle]

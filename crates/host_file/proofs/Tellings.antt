@@ -1,6 +1,6 @@
 -- From the answers of the reader and of the search to what a C host is told. No place of the code is named here. Assumes nothing.
 use mathlib.Core.Path.{_≡_, refl, ap, _∙_}
-use mathlib.Core.List.{List, [], _∷_}
+use mathlib.Core.List.{List}
 use Prim.Native.Nat.{ℕ}
 use lib.IntN.{ℤ}
 use lib.ListN.{length}
@@ -8,18 +8,12 @@ use Rattle.label_spec.specs.Records.{recordFor}
 use Rattle.label_spec.specs.Names.{norm}
 use Rattle.label_spec.specs.declared.Record.{Record}
 use Rattle.file_spec.specs.File.{FileAnswer, refuse-file, accept-file, readFile, toldFile}
-use Rattle.file_spec.specs.declared.FileTable.{FileTable}
 use Rattle.file_spec.specs.declared.FileRead.{FileRead}
 use Rattle.file.specs.Answers.{FileSays}
-use Rattle.host_numbers.specs.Numbers.{flag, bits, Told}
+use Rattle.host_numbers.specs.Numbers.{Told}
 use Rattle.host_numbers.specs.NumberLaws.{told-as}
-use Rattle.host_file.specs.Answers.{fileAnswer, FileTold, fileNumbers, recordNumbers, RecordTold}
-
--- what an accepted file is told with, from its parts as they are made
-pub tells-accepted : {x : FileRead} {t : FileTable} {f l ef el ey : ℕ} → x ≡ FileRead.Accepted t → f ≡ bits (t .first) → l ≡ bits (t .last)
-    → ef ≡ flag (t .exact .first) → el ≡ flag (t .exact .last) → ey ≡ flag (t .exact .firsty)
-    → Told (fileNumbers x) (0 ∷ 0 ∷ 0 ∷ 0 ∷ t .points ∷ f ∷ l ∷ ef ∷ el ∷ ey ∷ []) 0
-tells-accepted o a b c d e = rw (o, a, b, c, d, e) (record { numbers = refl; returned = refl })
+use Rattle.host_read.specs.Answers.{fileNumbers, recordNumbers}
+use Rattle.host_file.specs.Answers.{fileAnswer, FileTold, RecordTold}
 
 -- the numbers of an answer are those of what it is told as
 file-numbers : (s : List ℕ) (x : FileAnswer) → fileNumbers (toldFile s x) ≡ fileAnswer s x

@@ -1,16 +1,15 @@
 -- What a C host is told of a file and of a record: the numbers of the answer's struct, in the header's order, and the first of them once more as the result. What is not given is 0. Assumes nothing.
 use mathlib.Core.Path.{_≡_}
-use mathlib.Core.List.{List, [], _∷_}
+use mathlib.Core.List.{List, _∷_}
 use Prim.Native.Nat.{ℕ}
 use lib.IntN.{ℤ}
 use lib.ListN.{length}
 use Rattle.terms.specs.Places.{lineOf, columnOf}
 use Rattle.label_spec.specs.Records.{recordFor}
 use Rattle.label_spec.specs.Names.{norm}
-use Rattle.label_spec.specs.declared.Record.{Record}
 use Rattle.file_spec.specs.File.{FileAnswer, refuse-file, accept-file, readFile, storedFile}
-use Rattle.file_spec.specs.declared.FileRead.{FileRead}
 use Rattle.host_numbers.specs.Numbers.{refusedOf, flags, no-flags, bits}
+use Rattle.host_read.specs.Answers.{recordNumbers}
 
 -- a file read: refused, place, line, column, points, first, last, what is exact
 abbrev pub fileAnswer : List ℕ → FileAnswer → List ℕ
@@ -21,21 +20,6 @@ pub record FileTold (file : List ℕ) (out out' : List ℤ) (answer : List ℕ) 
   pub numbers : answer ≡ fileAnswer file (readFile file (length out))
   pub returned : r ≡ refusedOf (fileAnswer file (readFile file (length out)))
   pub leaves : out' ≡ storedFile out (readFile file (length out))
-
--- the same numbers, by cases of what a reader answered
-abbrev pub fileNumbers : FileRead → List ℕ
-fileNumbers (FileRead.Accepted t) = 0 ∷ 0 ∷ 0 ∷ 0 ∷ t .points ∷ bits (t .first) ∷ bits (t .last) ∷ flags (t .exact)
-fileNumbers (FileRead.Refused r) = r .number ∷ r .place ∷ r .line ∷ r .column ∷ 0 ∷ 0 ∷ 0 ∷ no-flags
-
--- the number for a record or a block that is absent, -1 in 64 bits: no refusal has it (Numbers.refused-number)
-abbrev pub absent : ℕ
-absent = 18446744073709551615
-
--- a record's text: refused, place, line, column, from, to
-abbrev pub recordNumbers : Record → List ℕ
-recordNumbers (Record.Text a b) = 0 ∷ 0 ∷ 0 ∷ 0 ∷ a ∷ b ∷ []
-recordNumbers Record.Absent = absent ∷ 0 ∷ 0 ∷ 0 ∷ 0 ∷ 0 ∷ []
-recordNumbers (Record.Refused r) = r .number ∷ r .place ∷ r .line ∷ r .column ∷ 0 ∷ 0 ∷ []
 
 -- a record found
 pub record RecordTold (file name : List ℕ) (answer : List ℕ) (r : ℕ) : Type 0 where

@@ -1,14 +1,14 @@
--- `host_file::tell_file` meets its contract: N, F, L and what is exact, or a refusal.
+-- `host_read::tell_file` meets its contract: N, F, L and what is exact, or a refusal.
 use mathlib.Core.Path.{ap}
 use mir.Facts.{toZ-ofZ}
 use mir.Syntax.{w64}
 use borrow.Author.Needs.{sfits-of}
 use Rattle.host_numbers.specs.NumberLaws.{tells}
-use Rattle.host_file.specs.Answers.{fileNumbers}
-use Rattle.host_file.proofs.Tellings.{tells-accepted}
+use Rattle.host_read.specs.Answers.{fileNumbers}
+use Rattle.host_read.proofs.Tellings.{tells-accepted}
 use borrow.Author.Needs.{needs}
-use Rattle.host_file.proofs.tell_file.Statement.{statement}
-use Rattle.host_file.proofs.tell_file.Tie as tie
+use Rattle.host_read.proofs.tell_file.Statement.{statement}
+use Rattle.host_read.proofs.tell_file.Tie as tie
 
 enum-known-read : tie.Need-enum-known-read
 enum-known-read c = search needs

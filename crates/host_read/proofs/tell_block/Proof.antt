@@ -1,10 +1,10 @@
--- `host_blocks::tell_block` meets its contract: what a file is told with, or that there is no block.
+-- `host_read::tell_block` meets its contract: what a file is told with, or that there is no block.
 use mathlib.Core.Path.{sym, ap}
 use Rattle.host_numbers.specs.NumberLaws.{tells, told-as}
-use Rattle.host_blocks.specs.Answers.{blockNumbers}
+use Rattle.host_read.specs.Answers.{blockNumbers}
 use borrow.Author.Needs.{needs}
-use Rattle.host_blocks.proofs.tell_block.Statement.{statement}
-use Rattle.host_blocks.proofs.tell_block.Tie as tie
+use Rattle.host_read.proofs.tell_block.Statement.{statement}
+use Rattle.host_read.proofs.tell_block.Tie as tie
 
 enum-known-read : tie.Need-enum-known-read
 enum-known-read c = search needs

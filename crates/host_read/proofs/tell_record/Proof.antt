@@ -1,10 +1,10 @@
--- `host_file::tell_record` meets its contract: from where up to where, absent, or a refusal.
+-- `host_read::tell_record` meets its contract: from where up to where, absent, or a refusal.
 use mathlib.Core.Path.{ap}
 use Rattle.host_numbers.specs.NumberLaws.{tells}
-use Rattle.host_file.specs.Answers.{recordNumbers}
+use Rattle.host_read.specs.Answers.{recordNumbers}
 use borrow.Author.Needs.{needs}
-use Rattle.host_file.proofs.tell_record.Statement.{statement}
-use Rattle.host_file.proofs.tell_record.Tie as tie
+use Rattle.host_read.proofs.tell_record.Statement.{statement}
+use Rattle.host_read.proofs.tell_record.Tie as tie
 
 enum-known-found : tie.Need-enum-known-found
 enum-known-found c = search needs

@@ -1,10 +1,10 @@
--- `host_blocks::tell_blocks` meets its contract: how many blocks, or a refusal.
+-- `host_read::tell_blocks` meets its contract: how many blocks, or a refusal.
 use mathlib.Core.Path.{ap}
 use Rattle.host_numbers.specs.NumberLaws.{tells}
-use Rattle.host_blocks.specs.Answers.{blocksNumbers}
+use Rattle.host_read.specs.Answers.{blocksNumbers}
 use borrow.Author.Needs.{needs}
-use Rattle.host_blocks.proofs.tell_blocks.Statement.{statement}
-use Rattle.host_blocks.proofs.tell_blocks.Tie as tie
+use Rattle.host_read.proofs.tell_blocks.Statement.{statement}
+use Rattle.host_read.proofs.tell_blocks.Tie as tie
 
 enum-known-found : tie.Need-enum-known-found
 enum-known-found c = search needs
