@@ -125,3 +125,15 @@ taken {s} {j = j} {b = b} r g t k m =
 -- no digit stands there: the run has ended
 pub ended : {s : List ℕ} {i v most w j b : ℕ} → Running s i v most w j → b ≡ standing s j → within 48 10 b ≡ false → Ran s i v most w j (entryAt s j)
 ended {s} {j = j} r g t = stop r refl (λ h. absurd (let x = digit-stands-not s j (rw g at t) in omega arith))
+
+-- ---- a short run
+
+-- a run that ended by itself is one under any limit that it keeps
+pub ran-within : {s : List ℕ} {i v most w j e : ℕ} (n : ℕ) → Ran s i v most w j e → 16 ≤ e → j ≤ i + n → Ran s i v n w j e
+ran-within n r l h = record { low = r .low; high = r .high; few = h; stands = r .stands; below = r .below; all = r .all; full = λ x. absurd (omega arith); onward = r .onward }
+
+-- at most three digits from the place i on, after the number v, which does not fall: the number w, the place j after them, and the byte b that stands there
+pub record Few (s : List ℕ) (i v w j b : ℕ) : Type 0 where
+  pub run : Ran s i v 3 w j (entryAt s j)
+  pub stands : b ≡ standing s j
+  pub grows : v ≤ w

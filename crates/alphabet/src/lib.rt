@@ -5,7 +5,7 @@ ghost use Prim.Native.Nat.{_+_, _*_, _^_, _<_, _≤_};
 ghost use lib.ListN.{length};
 ghost use Rattle.alphabet_spec.specs.Entries.{«entry», entryAt};
 ghost use Rattle.alphabet.specs.Ranged.{«either»};
-ghost use Rattle.alphabet.specs.Ran.{Ran};
+ghost use Rattle.alphabet.specs.Ran.{Ran, Few};
 ghost use Rattle.alphabet.specs.Standing.{«standing», blanking};
 ghost use Rattle.alphabet_spec.specs.Digits.{within};
 
@@ -136,6 +136,17 @@ pub fn is_blank(b: u64) -> bool
     b == 32
 }
 
+// The entry of what stands at a place. A digit is asked for first: it needs no ranges.
+pub fn entry_there(s: &[u8], at: usize) -> u64
+    ensures { λ r. ⌜ r ≡ entryAt (now (s .entry)) at ⌝ }
+{
+    let b = standing(s, at);
+    if is_digit(b) {
+        return b - 48;
+    }
+    entry_at(s, at)
+}
+
 // The digits from a place on, after the number v: at most `most` of them are taken, and as many as there are up to that (01, "A digit run is always as long as it can be").
 pub fn digits(s: &[u8], from: usize, v: u64, most: usize) -> Run
     requires { ⌜ (from ≤ length (now s)) × ((v + 1) * 10 ^ most ≤ 10000000000000000000) ⌝ }
@@ -155,4 +166,43 @@ pub fn digits(s: &[u8], from: usize, v: u64, most: usize) -> Run
         b = standing(s, i);
     }
     Run { v: w, at: i, b }
+}
+
+// At most three digits from a place on, after the number v, where four bytes stand: without a loop, and no end of the text is asked for. The number does not fall.
+pub fn few_digits(s: &[u8], from: usize, v: u64) -> Run
+    requires { ⌜ (from + 4 ≤ length (now s)) × (v < 10) ⌝ }
+    ensures { λ r. ⌜ Few (now (s .entry)) from v (r .v) (r .at) (r .b) ⌝ }
+{
+    let x = standing(s, from);
+    if !is_digit(x) {
+        return Run { v, at: from, b: x };
+    }
+    let one = v * 10 + (x - 48);
+    let second = from + 1;
+    let y = standing(s, second);
+    if !is_digit(y) {
+        return Run {
+            v: one,
+            at: second,
+            b: y,
+        };
+    }
+    let two = one * 10 + (y - 48);
+    let third = second + 1;
+    let z = standing(s, third);
+    if !is_digit(z) {
+        return Run {
+            v: two,
+            at: third,
+            b: z,
+        };
+    }
+    let three = two * 10 + (z - 48);
+    let end = third + 1;
+    let b = standing(s, end);
+    Run {
+        v: three,
+        at: end,
+        b,
+    }
 }
