@@ -119,6 +119,14 @@ pub fn standing(s: &[u8], i: usize) -> u64
     END
 }
 
+// The byte at a place within the text: no end is asked for.
+pub fn standing_in(s: &[u8], i: usize) -> u64
+    requires { ⌜ i < length (now s) ⌝ }
+    ensures { λ r. ⌜ r ≡ standing (now (s .entry)) i ⌝ }
+{
+    wide(s[i])
+}
+
 // Is the byte that stands there a digit?
 pub fn is_digit(b: u64) -> bool
     ensures { λ r. ⌜ r ≡ within 48 10 b ⌝ }
@@ -173,13 +181,13 @@ pub fn few_digits(s: &[u8], from: usize, v: u64) -> Run
     requires { ⌜ (from + 4 ≤ length (now s)) × (v < 10) ⌝ }
     ensures { λ r. ⌜ Few (now (s .entry)) from v (r .v) (r .at) (r .b) ⌝ }
 {
-    let x = standing(s, from);
+    let x = standing_in(s, from);
     if !is_digit(x) {
         return Run { v, at: from, b: x };
     }
     let one = v * 10 + (x - 48);
     let second = from + 1;
-    let y = standing(s, second);
+    let y = standing_in(s, second);
     if !is_digit(y) {
         return Run {
             v: one,
@@ -189,7 +197,7 @@ pub fn few_digits(s: &[u8], from: usize, v: u64) -> Run
     }
     let two = one * 10 + (y - 48);
     let third = second + 1;
-    let z = standing(s, third);
+    let z = standing_in(s, third);
     if !is_digit(z) {
         return Run {
             v: two,
@@ -199,7 +207,7 @@ pub fn few_digits(s: &[u8], from: usize, v: u64) -> Run
     }
     let three = two * 10 + (z - 48);
     let end = third + 1;
-    let b = standing(s, end);
+    let b = standing_in(s, end);
     Run {
         v: three,
         at: end,

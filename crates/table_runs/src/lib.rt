@@ -11,6 +11,7 @@ use alphabet::Run;
 use alphabet::few_digits;
 use alphabet::is_digit;
 use alphabet::standing;
+use alphabet::standing_in;
 use table_ordinates::put;
 use table_ordinates::turned;
 use table_value::Cur;
@@ -49,7 +50,7 @@ fn zero_difference(s: &[u8], at: usize, b: u64) -> Run
         return nothing(at, b);
     }
     let next = at + 1;
-    let x = standing(s, next);
+    let x = standing_in(s, next);
     if is_digit(x) {
         return nothing(at, b);
     }
@@ -66,11 +67,8 @@ fn short(s: &[u8], at: usize, b: u64) -> Run
     ensures { λ r. ⌜ Short (now (s .entry)) at b r ⌝ }
 {
     let letter = b - b / 32 % 2 * 32;
-    if letter < 74 {
+    if letter < 74 || letter > 82 {
         return zero_difference(s, at, b);
-    }
-    if letter > 82 {
-        return nothing(at, b);
     }
     let r = few_digits(s, at + 1, letter - 73);
     if is_digit(r.b) {
@@ -151,7 +149,7 @@ pub fn differences(s: &[u8], points: usize, out: &mut [i32], c: Cur) -> Cur
         if at > limit {
             break;
         }
-        let b = standing(s, at);
+        let b = standing_in(s, at);
         let r = short(s, at, b);
         if r.at == at {
             break;
@@ -178,7 +176,7 @@ pub fn short_count(s: &[u8], at: usize) -> Run
     if at > s.len() - ROOM {
         return nothing(at, 0);
     }
-    let b = standing(s, at);
+    let b = standing_in(s, at);
     if b < 83 {
         return nothing(at, 0);
     }

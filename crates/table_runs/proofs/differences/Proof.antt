@@ -29,7 +29,7 @@ at-loop c = c .before .before .before .before .before .before
 abbrev begun : tie.Else3 Inv-loop μ-loop → tie.Else1 Inv-loop μ-loop
 begun c = at-loop c .before .before
 
-taken : (c : tie.Else3 Inv-loop μ-loop) → ShortAt (begun c .before .before .before .args .s .now) (at-loop c .loop .at) (c .before .before .before .standing .result)
+taken : (c : tie.Else3 Inv-loop μ-loop) → ShortAt (begun c .before .before .before .args .s .now) (at-loop c .loop .at) (c .before .before .before .standing-in .result)
     (c .before .before .short .result .v) (c .before .before .short .result .at)
 taken c = ⊎-elim (λ x. absurd (c .if3 .left x)) (λ x. x) (c .before .before .short .ensures)
 
@@ -53,11 +53,11 @@ run-end-requires c κs = c .before .before .before .pre .few
 loop-holds : tie.Need-loop-holds Inv-loop μ-loop
 loop-holds c = (along-none _ _ _, refl)
 
-standing-requires : tie.Need-standing-requires Inv-loop μ-loop
-standing-requires c κs = search needs
+standing-in-requires : tie.Need-standing-in-requires Inv-loop μ-loop
+standing-in-requires c κs = search needs
 
 short-requires : tie.Need-short-requires Inv-loop μ-loop
-short-requires c κs = let l = c .before .if2 .left in let r = room (c .before .before .before .before .before) .0 in (omega arith, c .standing .ensures)
+short-requires c κs = let l = c .before .if2 .left in let r = room (c .before .before .before .before .before) .0 in (omega arith, c .standing-in .ensures)
 
 turned-requires : tie.Need-turned-requires Inv-loop μ-loop
 turned-requires c κs =
@@ -108,7 +108,7 @@ differences-spec =
     sub-limit
     run-end-requires
     loop-holds
-    standing-requires
+    standing-in-requires
     short-requires
     turned-requires
     put-requires

@@ -1,13 +1,19 @@
 -- `table_runs::short` meets its contract: the difference at a place, if it has at most four digits.
 use mathlib.Core.Path.{ap}
 use mathlib.Core.Logic.{inl, inr}
+use Prim.Native.Nat.{_-_, _*_, _/_, _%_, _<_}
 use native.Mathlib.Omega.{arith}
 use borrow.Author.Needs.{needs}
+use borrow.Author.Tests.{leb-false}
 use Rattle.alphabet.specs.declared.Run.{Run}
 use Rattle.alphabet.specs.Standing.{digit-seen-not}
 use Rattle.table_runs.proofs.Shorts.{letter-short}
 use Rattle.table_runs.proofs.short.Statement.{statement}
 use Rattle.table_runs.proofs.short.Tie as tie
+
+-- the letter is none past R
+high : (c : tie.Else2) → let b = c .before .before .before .args .b in b - b / 32 % 2 * 32 < 83
+high c = leb-false 83 _ (c .if2 .left)
 
 mul-letter : tie.Need-mul-letter
 mul-letter c = search needs
@@ -21,12 +27,6 @@ zero-difference-requires c κs = search needs
 returns : tie.Need-returns
 returns c = search needs
 
-nothing-requires : tie.Need-nothing-requires
-nothing-requires c κs = search needs
-
-returns-2 : tie.Need-returns-2
-returns-2 c = inl (ap (λ (r : Run). r .at) (c .nothing .ensures))
-
 add-few-digits : tie.Need-add-few-digits
 add-few-digits c = search needs
 
@@ -34,21 +34,21 @@ sub-few-digits : tie.Need-sub-few-digits
 sub-few-digits c = search needs
 
 few-digits-requires : tie.Need-few-digits-requires
-few-digits-requires c κs = search needs
+few-digits-requires c κs = let l = c .before .before .before .pre .0 in let h = high c in let g = c .before .if1 .left in (omega arith, omega arith)
 
 is-digit-requires : tie.Need-is-digit-requires
 is-digit-requires c κs = search needs
 
-nothing-requires-2 : tie.Need-nothing-requires-2
-nothing-requires-2 c κs = search needs
+nothing-requires : tie.Need-nothing-requires
+nothing-requires c κs = search needs
+
+returns-2 : tie.Need-returns-2
+returns-2 c = inl (ap (λ (r : Run). r .at) (c .nothing .ensures))
 
 returns-3 : tie.Need-returns-3
-returns-3 c = inl (ap (λ (r : Run). r .at) (c .nothing2 .ensures))
-
-returns-4 : tie.Need-returns-4
-returns-4 c =
-    let f = c .before .before in let e = f .before in let p = e .before .before .before .pre in let l = p .0 in
-    inr (letter-short _ _ (omega arith) (p .1) (e .before .if1 .left) (e .if2 .left) (f .few-digits .ensures)
+returns-3 c =
+    let f = c .before .before in let e = f .before in let p = e .before .before .before .pre in let l = p .0 in let h = high e in
+    inr (letter-short _ _ (omega arith) (p .1) (e .before .if1 .left) (omega arith) (f .few-digits .ensures)
     (digit-seen-not _ _ (f .few-digits .ensures .stands) (c .before .is-digit .ensures) (c .if3 .left)))
 
 pub short-spec : {M : Type 1} → statement M
@@ -59,12 +59,10 @@ short-spec =
     sub-letter
     zero-difference-requires
     returns
-    nothing-requires
-    returns-2
     add-few-digits
     sub-few-digits
     few-digits-requires
     is-digit-requires
-    nothing-requires-2
-    returns-3
-    returns-4)
+    nothing-requires
+    returns-2
+    returns-3)

@@ -28,8 +28,8 @@ nothing-requires-2 c κs = search needs
 returns-2 : tie.Need-returns-2
 returns-2 c = none _ (c .nothing2 .ensures)
 
-standing-requires : tie.Need-standing-requires
-standing-requires c κs = search needs
+standing-in-requires : tie.Need-standing-in-requires
+standing-in-requires c κs = search needs
 
 nothing-requires-3 : tie.Need-nothing-requires-3
 nothing-requires-3 c κs = search needs
@@ -64,7 +64,7 @@ returns-5 c = none _ (c .nothing5 .ensures)
 returns-6 : tie.Need-returns-6
 returns-6 c =
     let f = c .before .before in let e = f .before in let o = e .before .before .before in let l = o .if2 .left in let h = o .before .if1 .left in
-    λ _. count-short _ _ (omega arith) (e .before .before .standing .ensures) (e .before .if3 .left) (e .if4 .left) (f .few-digits .ensures)
+    λ _. count-short _ _ (omega arith) (e .before .before .standing-in .ensures) (e .before .if3 .left) (e .if4 .left) (f .few-digits .ensures)
     (digit-seen-not _ _ (f .few-digits .ensures .stands) (c .before .is-digit .ensures) (c .if5 .left))
 
 pub short-count-spec : {M : Type 1} → statement M
@@ -76,7 +76,7 @@ short-count-spec =
     sub-if2
     nothing-requires-2
     returns-2
-    standing-requires
+    standing-in-requires
     nothing-requires-3
     returns-3
     nothing-requires-4

@@ -18,8 +18,8 @@ returns c = inl (ap (λ (r : Run). r .at) (c .nothing .ensures))
 add-next : tie.Need-add-next
 add-next c = search needs
 
-standing-requires : tie.Need-standing-requires
-standing-requires c κs = search needs
+standing-in-requires : tie.Need-standing-in-requires
+standing-in-requires c κs = search needs
 
 is-digit-requires : tie.Need-is-digit-requires
 is-digit-requires c κs = search needs
@@ -33,9 +33,9 @@ returns-2 c = inl (ap (λ (r : Run). r .at) (c .nothing2 .ensures))
 returns-3 : tie.Need-returns-3
 returns-3 c =
     let e = c .before .before .before in let p = e .before .before .pre in let l = p .0 in
-    inr (zero-short _ _ (omega arith) (p .1) (e .if1 .left) (digit-seen-not _ _ (c .before .before .standing .ensures) (c .before .is-digit .ensures) (c .if2 .left)) (omega arith))
+    inr (zero-short _ _ (omega arith) (p .1) (e .if1 .left) (digit-seen-not _ _ (c .before .before .standing-in .ensures) (c .before .is-digit .ensures) (c .if2 .left)) (omega arith))
 
 pub zero-difference-spec : {M : Type 1} → statement M
 zero-difference-spec =
     tie.close
-    (tie.spec nothing-requires returns add-next standing-requires is-digit-requires nothing-requires-2 returns-2 returns-3)
+    (tie.spec nothing-requires returns add-next standing-in-requires is-digit-requires nothing-requires-2 returns-2 returns-3)

@@ -17,14 +17,16 @@ sub-n c = search needs
 steps-again-requires : tie.Need-steps-again-requires
 steps-again-requires c κs =
     let t = c .before .before in let r = t .before .before in let p = r .before .before .before .before .pre in let x = r .short-count .ensures (t .if2 .taken) in let l = x .0 in
-    let h = t .if2 .taken in let e : r .short-count .result .v ≡ r .short-count .result .v - 1 + 1 = omega arith in
-    (record {
-      sits = p .1;
-      most = p .0;
-      some = omega arith;
-      small = omega arith;
-      token = subst (λ (n : ℕ). Token (r .before .before .before .before .args .s .now) (r .before .before .before .before .args .c .at) (times n) (r .short-count .result .at)) e (x .1);
-    }, r .before .if1 .taken)
+    let h = t .if2 .taken in let e : r .short-count .result .v ≡ r .short-count .result .v - 1 + 1 = omega arith in (
+      record {
+        sits = p .1;
+        most = p .0;
+        some = omega arith;
+        small = omega arith;
+        token = subst (λ (n : ℕ). Token (r .before .before .before .before .args .s .now) (r .before .before .before .before .args .c .at) (times n) (r .short-count .result .at)) e (x .1);
+      },
+      r .before .if1 .taken,
+    )
 
 same-length : tie.Need-same-length
 same-length c = search needs
