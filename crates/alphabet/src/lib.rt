@@ -176,6 +176,39 @@ pub fn digits(s: &[u8], from: usize, v: u64, most: usize) -> Run
     Run { v: w, at: i, b }
 }
 
+// The same where more bytes stand than may be taken: no end of the text is asked for.
+fn digits_in(s: &[u8], from: usize, v: u64, most: usize) -> Run
+    requires { ⌜ (from + most < length (now s)) × ((v + 1) * 10 ^ most ≤ 10000000000000000000) ⌝ }
+    ensures { λ r. ⌜ Ran (now (s .entry)) from v most (r .v) (r .at) (entryAt (now (s .entry)) (r .at)) × (r .b ≡ standing (now (s .entry)) (r .at)) ⌝ }
+{
+    let mut w = v;
+    let mut i = from;
+    let mut left = most;
+    let mut b = standing_in(s, i);
+    while is_digit(b) {
+        if left == 0 {
+            return Run { v: w, at: i, b };
+        }
+        left -= 1;
+        w = w * 10 + (b - 48);
+        i += 1;
+        b = standing_in(s, i);
+    }
+    Run { v: w, at: i, b }
+}
+
+// The same, for a limit that the compiler knows and unrolls the loop for. Near the end of the text there are no more digits than bytes.
+pub fn digits_at(s: &[u8], from: usize, v: u64, most: usize) -> Run
+    requires { ⌜ (from ≤ length (now s)) × ((v + 1) * 10 ^ most ≤ 10000000000000000000) ⌝ }
+    ensures { λ r. ⌜ Ran (now (s .entry)) from v most (r .v) (r .at) (entryAt (now (s .entry)) (r .at)) × (r .b ≡ standing (now (s .entry)) (r .at)) ⌝ }
+{
+    let room = s.len() - from;
+    if room > most {
+        return digits_in(s, from, v, most);
+    }
+    digits(s, from, v, room)
+}
+
 // At most three digits from a place on, after the number v, where four bytes stand: without a loop, and no end of the text is asked for. The number does not fall.
 pub fn few_digits(s: &[u8], from: usize, v: u64) -> Run
     requires { ⌜ (from + 4 ≤ length (now s)) × (v < 10) ⌝ }
