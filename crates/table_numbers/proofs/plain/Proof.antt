@@ -14,11 +14,11 @@ is-digit-requires c κs = search needs
 
 returns : tie.Need-returns
 returns c =
-    let d = c .before .before .digits in
+    let d = c .before .before .digits-at in
     record { number = d .result .v; place = d .result .at; run = d .ensures .0; wrong = inr (digit-seen _ _ (d .ensures .1) (c .before .is-digit .ensures) (c .if1 .taken)) }
 
 returns-2 : tie.Need-returns-2
-returns-2 c = let d = c .before .before .before .before .digits in record { number = d .result .v; place = d .result .at; run = d .ensures .0; wrong = inl (c .if2 .taken) }
+returns-2 c = let d = c .before .before .before .before .digits-at in record { number = d .result .v; place = d .result .at; run = d .ensures .0; wrong = inl (c .if2 .taken) }
 
 returns-3 : tie.Need-returns-3
 returns-3 c =
