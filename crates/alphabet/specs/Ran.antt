@@ -12,6 +12,7 @@ use borrow.Author.Tests.{ltb-true, ltb-false}
 use Rattle.terms.specs.Logic.{pick, by-case}
 use Rattle.alphabet_spec.specs.Digits.{within, long, run, digits}
 use Rattle.alphabet_spec.specs.Entries.{entryAt}
+use Rattle.alphabet_spec.specs.EntryLaws.{entry-in}
 use Rattle.alphabet_spec.specs.DigitLaws.{digits-stop, digits-on, digit-at}
 use Rattle.alphabet.specs.Standing.{standing, within-in, digit-stands, digit-stands-not}
 
@@ -125,3 +126,28 @@ taken {s} {j = j} {b = b} r g t k m =
 -- no digit stands there: the run has ended
 pub ended : {s : List ℕ} {i v most w j b : ℕ} → Running s i v most w j → b ≡ standing s j → within 48 10 b ≡ false → Ran s i v most w j (entryAt s j)
 ended {s} {j = j} r g t = stop r refl (λ h. absurd (let x = digit-stands-not s j (rw g at t) in omega arith))
+
+-- ---- a short run
+
+-- a run that ended by itself is one under any limit that it keeps
+pub ran-within : {s : List ℕ} {i v most w j e : ℕ} (n : ℕ) → Ran s i v most w j e → 16 ≤ e → j ≤ i + n → Ran s i v n w j e
+ran-within n r l h = record { low = r .low; high = r .high; few = h; stands = r .stands; below = r .below; all = r .all; full = λ x. absurd (omega arith); onward = r .onward }
+
+-- so many digits as there are bytes left hold every run
+pub ran-room : {s : List ℕ} {i v room w j : ℕ} (n : ℕ) → i + room ≡ length s → room ≤ n → Ran s i v room w j (entryAt s j) → Ran s i v n w j (entryAt s j)
+ran-room {s} {j = j} n e l r =
+    let f = r .few in
+    ran-within n r
+    (by-case (λ t. ltb (entryAt s j) 16 ≡ t → 16 ≤ entryAt s j) (ltb (entryAt s j) 16)
+    (λ _ h. let x = ltb-true (entryAt s j) 16 h in let y = r .full x in let z = entry-in s j (λ g. omega arith) in absurd (omega arith)) (λ _ h. ltb-false (entryAt s j) 16 h) refl)
+    (omega arith)
+
+-- a smaller limit fits too
+pub fewer-fit : (v m n : ℕ) → m ≤ n → (v + 1) * 10 ^ n ≤ 10000000000000000000 → (v + 1) * 10 ^ m ≤ 10000000000000000000
+fewer-fit v m n l h = let p : 10 ^ m ≤ 10 ^ n = pow-le-pow-right (lit< tt) l in let q = mul-le-mul-left (v + 1) p in omega arith
+
+-- at most three digits from the place i on, after the number v, which does not fall: the number w, the place j after them, and the byte b that stands there
+pub record Few (s : List ℕ) (i v w j b : ℕ) : Type 0 where
+  pub run : Ran s i v 3 w j (entryAt s j)
+  pub stands : b ≡ standing s j
+  pub grows : v ≤ w

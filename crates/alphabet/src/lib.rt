@@ -5,7 +5,7 @@ ghost use Prim.Native.Nat.{_+_, _*_, _^_, _<_, _≤_};
 ghost use lib.ListN.{length};
 ghost use Rattle.alphabet_spec.specs.Entries.{«entry», entryAt};
 ghost use Rattle.alphabet.specs.Ranged.{«either»};
-ghost use Rattle.alphabet.specs.Ran.{Ran};
+ghost use Rattle.alphabet.specs.Ran.{Ran, Few};
 ghost use Rattle.alphabet.specs.Standing.{«standing», blanking};
 ghost use Rattle.alphabet_spec.specs.Digits.{within};
 
@@ -119,6 +119,14 @@ pub fn standing(s: &[u8], i: usize) -> u64
     END
 }
 
+// The byte at a place within the text: no end is asked for.
+pub fn standing_in(s: &[u8], i: usize) -> u64
+    requires { ⌜ i < length (now s) ⌝ }
+    ensures { λ r. ⌜ r ≡ standing (now (s .entry)) i ⌝ }
+{
+    wide(s[i])
+}
+
 // Is the byte that stands there a digit?
 pub fn is_digit(b: u64) -> bool
     ensures { λ r. ⌜ r ≡ within 48 10 b ⌝ }
@@ -134,6 +142,17 @@ pub fn is_blank(b: u64) -> bool
     ensures { λ r. ⌜ r ≡ blanking b ⌝ }
 {
     b == 32
+}
+
+// The entry of what stands at a place. A digit is asked for first: it needs no ranges.
+pub fn entry_there(s: &[u8], at: usize) -> u64
+    ensures { λ r. ⌜ r ≡ entryAt (now (s .entry)) at ⌝ }
+{
+    let b = standing(s, at);
+    if is_digit(b) {
+        return b - 48;
+    }
+    entry_at(s, at)
 }
 
 // The digits from a place on, after the number v: at most `most` of them are taken, and as many as there are up to that (01, "A digit run is always as long as it can be").
@@ -155,4 +174,76 @@ pub fn digits(s: &[u8], from: usize, v: u64, most: usize) -> Run
         b = standing(s, i);
     }
     Run { v: w, at: i, b }
+}
+
+// The same where more bytes stand than may be taken: no end of the text is asked for.
+fn digits_in(s: &[u8], from: usize, v: u64, most: usize) -> Run
+    requires { ⌜ (from + most < length (now s)) × ((v + 1) * 10 ^ most ≤ 10000000000000000000) ⌝ }
+    ensures { λ r. ⌜ Ran (now (s .entry)) from v most (r .v) (r .at) (entryAt (now (s .entry)) (r .at)) × (r .b ≡ standing (now (s .entry)) (r .at)) ⌝ }
+{
+    let mut w = v;
+    let mut i = from;
+    let mut left = most;
+    let mut b = standing_in(s, i);
+    while is_digit(b) {
+        if left == 0 {
+            return Run { v: w, at: i, b };
+        }
+        left -= 1;
+        w = w * 10 + (b - 48);
+        i += 1;
+        b = standing_in(s, i);
+    }
+    Run { v: w, at: i, b }
+}
+
+// The same, for a limit that the compiler knows and unrolls the loop for. Near the end of the text there are no more digits than bytes.
+pub fn digits_at(s: &[u8], from: usize, v: u64, most: usize) -> Run
+    requires { ⌜ (from ≤ length (now s)) × ((v + 1) * 10 ^ most ≤ 10000000000000000000) ⌝ }
+    ensures { λ r. ⌜ Ran (now (s .entry)) from v most (r .v) (r .at) (entryAt (now (s .entry)) (r .at)) × (r .b ≡ standing (now (s .entry)) (r .at)) ⌝ }
+{
+    let room = s.len() - from;
+    if room > most {
+        return digits_in(s, from, v, most);
+    }
+    digits(s, from, v, room)
+}
+
+// At most three digits from a place on, after the number v, where four bytes stand: without a loop, and no end of the text is asked for. The number does not fall.
+pub fn few_digits(s: &[u8], from: usize, v: u64) -> Run
+    requires { ⌜ (from + 4 ≤ length (now s)) × (v < 10) ⌝ }
+    ensures { λ r. ⌜ Few (now (s .entry)) from v (r .v) (r .at) (r .b) ⌝ }
+{
+    let x = standing_in(s, from);
+    if !is_digit(x) {
+        return Run { v, at: from, b: x };
+    }
+    let one = v * 10 + (x - 48);
+    let second = from + 1;
+    let y = standing_in(s, second);
+    if !is_digit(y) {
+        return Run {
+            v: one,
+            at: second,
+            b: y,
+        };
+    }
+    let two = one * 10 + (y - 48);
+    let third = second + 1;
+    let z = standing_in(s, third);
+    if !is_digit(z) {
+        return Run {
+            v: two,
+            at: third,
+            b: z,
+        };
+    }
+    let three = two * 10 + (z - 48);
+    let end = third + 1;
+    let b = standing_in(s, end);
+    Run {
+        v: three,
+        at: end,
+        b,
+    }
 }

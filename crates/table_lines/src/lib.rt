@@ -22,6 +22,7 @@ use alphabet::POINT;
 use alphabet::Run;
 use alphabet::digits;
 use alphabet::entry_at;
+use alphabet::entry_there;
 use alphabet::is_blank;
 use alphabet::is_digit;
 use alphabet::standing;
@@ -108,7 +109,7 @@ pub fn row_start(s: &[u8], from: usize) -> Start
     let mut at = from;
     loop {
         at = blanks(s, at);
-        let e = entry_at(s, at);
+        let e = entry_there(s, at);
         if e < POINT {
             return Start::Head(at, e);
         }

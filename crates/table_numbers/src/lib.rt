@@ -10,6 +10,7 @@ use alphabet::KIND;
 use alphabet::PAST_DIGITS;
 use alphabet::PLUS;
 use alphabet::digits;
+use alphabet::digits_at;
 use alphabet::is_blank;
 use alphabet::is_digit;
 use alphabet::standing;
@@ -33,12 +34,12 @@ fn further(e: u64) -> usize
     9
 }
 
-// The number of the digits from a place on, at most ten: misspelled if there is none, or one too many. The limit is a constant: the compiler unrolls the loop.
+// The number of the digits from a place on, at most ten: misspelled if there is none, or one too many.
 fn plain(s: &[u8], from: usize) -> NumberRead
     requires { ⌜ from ≤ length (now s) ⌝ }
     ensures { λ r. ⌜ Plain (now (s .entry)) from r ⌝ }
 {
-    let r = digits(s, from, 0, 10);
+    let r = digits_at(s, from, 0, 10);
     if is_digit(r.b) {
         return NumberRead::Misspelled;
     }

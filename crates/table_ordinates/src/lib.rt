@@ -21,10 +21,23 @@ pub fn moved_by(q: u64, minus: bool, v: u64) -> u64
     q + v
 }
 
+// An ordinate and a difference, where both sums are ones. Both are made, and the sign picks one: no processor can foresee a jump on it.
+pub fn turned(q: u64, minus: bool, v: u64) -> u64
+    requires { ⌜ (v ≤ q) × (q < 4294967296) ⌝ }
+    ensures { λ r. ⌜ r ≡ moved minus v q ⌝ }
+{
+    let up = q + v;
+    let down = q - v;
+    if minus {
+        return down;
+    }
+    up
+}
+
 // So much higher an ordinate stands while a difference moves it: no difference is larger.
 const RAISED: u64 = 1000000000000000;
 
-// An ordinate and a difference, or 0 if that is no ordinate. Both sums are made, and the sign picks one: no processor can foresee a jump on it.
+// An ordinate and a difference, or 0 if that is no ordinate. The sign picks one of both sums, as above.
 pub fn shifted(q: u64, minus: bool, v: u64) -> u64
     requires { ⌜ (q < 4294967296) × (v < 1000000000000000) ⌝ }
     ensures { λ r. ⌜ r ≡ shiftedTo minus v q ⌝ }

@@ -1,12 +1,11 @@
--- What a token that is no value does to the state of reading, and states one after the other. No place of the code is named here. Assumes nothing.
+-- What a token that is no value does to the state of reading, and the state at a line's end. No place of the code is named here. Assumes nothing.
 use mathlib.Core.Path.{_≡_, refl, sym, ap, _∙_}
 use mathlib.Core.Bool.{true}
-use mathlib.Core.List.{List, [], _++_, append-nil}
-use Prim.Native.Nat.{ℕ, _+_, _≤_, _<_}
+use mathlib.Core.List.{List, [], append-nil}
+use Prim.Native.Nat.{ℕ, _≤_, _<_}
 use native.Mathlib.Omega.{arith}
 use lib.Dec.{ltb}
 use lib.IntN.{ℤ}
-use lib.ListN.{length-append}
 use borrow.Author.Tests.{ne-eqb, le-leb, ltb-true, ltb-false}
 use Rattle.terms.specs.Logic.{by-case, no-way}
 use Rattle.alphabet_spec.specs.Entries.{entryAt}
@@ -15,20 +14,13 @@ use Rattle.table_spec.specs.Reading.{fault, line, fresh, difBefore}
 use Rattle.table_lines.specs.Seen.{seen, here}
 use Rattle.table_lines.specs.Ends.{Blanked}
 use Rattle.table_numbers.specs.Numbers.{Clear}
-use Rattle.table_value.specs.LineValues.{broken, given, line-says, given-none, given-given}
+use Rattle.table_value.specs.LineValues.{broken, given, line-says}
 use Rattle.table_values.specs.Lines.{difForm, rowAfter, lastAt, LineDone, LineBroken}
 use Rattle.table_value.specs.States.{Codes, own, gap, dif, dup-not, dup-dif, Holds, opening, checking, going, Gone}
 use Rattle.table_value.specs.declared.Cur.{Cur}
 use Rattle.table_value.specs.declared.Step.the-variants as step
-use Rattle.table_value.proofs.Turns.{stored-then}
 
 -- ---- what says nothing
-
--- a state that has moved over what says nothing
-pub gone-same : (N : ℕ) (s : List ℕ) (at p : ℕ) (w : Spot) (out : List ℤ) (r : Cur) → Holds (r .q) (r .want) (r .step) (r .form) p w → here s at ≡ here s (r .at)
-    → Gone N s at (r .k) p w out out r
-gone-same N s at p w out r h e =
-    record { points = []; ordinate = p; spot = w; holds = h; count = omega arith; stored = refl; law = ap (λ x. line-says N x (r .k) p w) e ∙ given-none _ }
 
 pub fault-token : (N : ℕ) (s : List ℕ) (at k p : ℕ) (w : Spot) (n : ℕ) → here s at ≡ fault n at → line-says N (here s at) k p w ≡ broken [] n at
 unfolding line-says
@@ -43,9 +35,6 @@ pub blank-clear : {s : List ℕ} {at j : ℕ} → Blanked s at j → Clear s at 
 blank-clear b k l h = let z = b .all k l h in omega arith
 
 -- ---- one after the other
-
-pub clear-then : (s : List ℕ) {i m j : ℕ} → Clear s i m → Clear s m j → Clear s i j
-clear-then s {i} {m} {j} f g k l h = by-case (λ t. ltb k m ≡ t → entryAt s k < 160) (ltb k m) (λ _ x. f k l (ltb-true k m x)) (λ _ x. g k (ltb-false k m x) h) refl
 
 -- the form of the last value, at a line's end
 dif-high : (e : ℕ) → 32 ≤ e → difForm e ≡ true
@@ -64,19 +53,6 @@ spot-end (checking h) = (refl, refl, λ x. no-way x)
 spot-end (going h) = let z = form-end h in (refl, z .0, z .1)
 
 module _ (N : ℕ) (s : List ℕ) (at k p : ℕ) (w : Spot) (out mid : List ℤ) (b : Cur) (g : Gone N s at k p w out mid b) where
-  pub gone-gone : (out' : List ℤ) (r : Cur) → ((y : ℕ) (x : Spot) → Holds (b .q) (b .want) (b .step) (b .form) y x → Gone N s (b .at) (b .k) y x mid out' r) → Gone N s at k p w out out' r
-  gone-gone out' r f =
-      let z = f (g .ordinate) (g .spot) (g .holds) in let c = g .count in let d = z .count in
-      record {
-        points = g .points ++ z .points;
-        ordinate = z .ordinate;
-        spot = z .spot;
-        holds = z .holds;
-        count = omega (arith, length-append (g .points) (z .points));
-        stored = z .stored ∙ rw (g .stored, c) (stored-then (g .points) (z .points) out k);
-        law = g .law ∙ ap (given (g .points)) (z .law) ∙ given-given (g .points) (z .points) _;
-      }
-
   pub gone-done : (j : ℕ) → here s (b .at) ≡ line (seen s j fresh) → LineDone N s at k p w out mid (rowAfter b j)
   unfolding line-says given
   gone-done j e =

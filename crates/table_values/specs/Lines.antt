@@ -8,7 +8,6 @@ use lib.IntN.{ℤ}
 use lib.ListN.{length}
 use lib.Seq.{sets}
 use Rattle.terms.specs.Logic.{pick}
-use Rattle.alphabet_spec.specs.Digits.{within}
 use Rattle.alphabet_spec.specs.Entries.{entryAt}
 use Rattle.table_spec.specs.Frame.{entry-for}
 use Rattle.table_spec.specs.Values.{Spot, first, after}
@@ -24,17 +23,6 @@ use Rattle.table_values.specs.declared.Row.{Row}
 use Rattle.table_values.specs.declared.LineRead.{LineRead}
 use Rattle.table_values.specs.declared.LineRead.the-variants as linewise
 use Rattle.table_value.specs.States.{Holds}
-
--- does a difference begin with the byte b: `%`, J to R, or j to r?
-abbrev pub beginsDifference : ℕ → Bool
-beginsDifference b = pick (eqb b 37) true (pick (within 74 9 b) true (within 106 9 b))
-
--- how it keeps the form of a difference that begins with the byte b, and the form after a run of differences, the last of which begins with b (0: there was none)
-abbrev pub difFormOf : ℕ → ℕ
-difFormOf b = pick (leb 106 b) 48 32
-
-abbrev pub formed : ℕ → ℕ → ℕ
-formed form b = pick (eqb b 0) form (difFormOf b)
 
 -- is a form, as the code keeps it, DIF?
 abbrev pub difForm : ℕ → Bool

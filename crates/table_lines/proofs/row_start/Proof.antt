@@ -23,14 +23,14 @@ loop-holds c = search needs
 blanks-requires : tie.Need-blanks-requires Inv-loop μ-loop
 blanks-requires c κs = search needs
 
-entry-at-requires : tie.Need-entry-at-requires Inv-loop μ-loop
-entry-at-requires c κs = search needs
+entry-there-requires : tie.Need-entry-there-requires Inv-loop μ-loop
+entry-there-requires c κs = search needs
 
 returns : tie.Need-returns Inv-loop μ-loop
 returns c =
     let l = c .before .before .before .loop .inv in
     let b = c .before .before .blanks .ensures in
-    let e = c .before .entry-at .ensures in
+    let e = c .before .entry-there .ensures in
     let x = c .if1 .taken in
     let y = b .low in
     let i = entry-in (c .before .before .before .before .before .args .s .now) (c .before .before .blanks .result) (λ z. omega (arith, e)) in
@@ -40,10 +40,10 @@ returns-2 : tie.Need-returns-2 Inv-loop μ-loop
 returns-2 c =
     let l = c .before .before .before .before .loop .inv in
     let b = c .before .before .before .blanks .ensures in
-    l .2 ∙ b .before ∙ start-end _ _ (b .high) (sym (c .before .before .entry-at .ensures) ∙ c .if2 .taken)
+    l .2 ∙ b .before ∙ start-end _ _ (b .high) (sym (c .before .before .entry-there .ensures) ∙ c .if2 .taken)
 
 line-end-requires : tie.Need-line-end-requires Inv-loop μ-loop
-line-end-requires c κs = (c .before .before .before .blanks .ensures .high, c .before .before .entry-at .ensures, c .before .if1 .left)
+line-end-requires c κs = (c .before .before .before .blanks .ensures .high, c .before .before .entry-there .ensures, c .before .if1 .left)
 
 enum-known-j : tie.Need-enum-known-j Inv-loop μ-loop
 enum-known-j c = search needs
@@ -54,7 +54,7 @@ loop-less c =
     let x = rw (c .before .j .given .1) at (c .before .before .before .line-end .ensures) in
     let y = b .low in
     let n = entry-in (c .before .before .before .before .before .before .before .before .before .before .args .s .now) (c .before .before .before .before .before .before .before .blanks .result)
-    (λ e. c .before .before .before .before .if2 .left (c .before .before .before .before .before .before .entry-at .ensures ∙ e)) in
+    (λ e. c .before .before .before .before .if2 .left (c .before .before .before .before .before .before .entry-there .ensures ∙ e)) in
     let z = x .moves n in
     omega (arith, x .high)
 
@@ -84,7 +84,7 @@ row-start-spec =
     μ-loop
     loop-holds
     blanks-requires
-    entry-at-requires
+    entry-there-requires
     returns
     returns-2
     line-end-requires

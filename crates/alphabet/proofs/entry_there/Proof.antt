@@ -1,11 +1,11 @@
--- `table_values::entry_there` meets its contract: the entry of what stands at a place.
+-- `alphabet::entry_there` meets its contract: the entry of what stands at a place.
 use mathlib.Core.Path.{_≡_, sym, _∙_}
 use mathlib.Core.Bool.{true}
 use borrow.Author.Needs.{needs}
 use Rattle.alphabet_spec.specs.Digits.{within}
 use Rattle.alphabet.specs.Standing.{within-in, digit-stands}
-use Rattle.table_values.proofs.entry_there.Statement.{statement}
-use Rattle.table_values.proofs.entry_there.Tie as tie
+use Rattle.alphabet.proofs.entry_there.Statement.{statement}
+use Rattle.alphabet.proofs.entry_there.Tie as tie
 
 digit : (c : tie.Then1) → within 48 10 (c .before .before .standing .result) ≡ true
 digit c = sym (c .before .is-digit .ensures) ∙ c .if1 .taken

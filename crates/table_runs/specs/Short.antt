@@ -1,0 +1,42 @@
+-- Short differences and counts, of at most four digits, and the state after a run of them. Assumes nothing.
+use mathlib.Core.Path.{_≡_}
+use mathlib.Core.Bool.{Bool, true}
+use mathlib.Core.List.{List}
+use mathlib.Core.Logic.{_⊎_}
+use Prim.Native.Nat.{ℕ, _-_, _<_, _≤_}
+use lib.Dec.{ltb, leb}
+use lib.ListN.{length}
+use Rattle.terms.specs.Logic.{pick}
+use Rattle.alphabet.specs.declared.Run.{Run}
+use Rattle.table_spec.specs.Values.{by, times}
+use Rattle.table_numbers.specs.Numbers.{Token}
+use Rattle.table_value.specs.declared.Cur.{Cur}
+
+-- a difference below ten thousand, which begins with the byte b, stands at the place i, and what is left of the line at j; one that is minus is not 0
+pub record ShortAt (s : List ℕ) (i b v j : ℕ) : Type 0 where
+  pub small : v < 10000
+  pub falls : leb 106 b ≡ true → 0 < v
+  pub token : Token s i (by (leb 106 b) v) j
+
+-- none was taken, or one was
+abbrev pub Short : List ℕ → ℕ → ℕ → Run → Type 0
+Short s i b r = (r .at ≡ i) ⊎ ShortAt s i b (r .v) (r .at)
+
+-- a count that was taken is that of a DUP at the place i; one below 2 says nothing
+abbrev pub Counted : List ℕ → ℕ → Run → Type 0
+Counted s i r = 2 ≤ r .v → (r .v < 10000) × Token s i (times (r .v)) (r .at)
+
+-- a run may begin in the state c: there is room for a short difference, and its ordinate is a million or more from the least and the largest
+abbrev pub Roomy : List ℕ → Cur → Bool → Type 0
+Roomy s c t = t ≡ true → (5 ≤ length s) × (1000000 ≤ c .q) × (c .q ≤ 4293967296)
+
+-- how far apart two ordinates are, and how the code keeps the form of a difference from the one to the other
+abbrev pub apart : ℕ → ℕ → ℕ
+apart p q = pick (ltb q p) (p - q) (q - p)
+
+abbrev pub stepForm : ℕ → ℕ → ℕ
+stepForm p q = pick (ltb q p) 48 32
+
+-- the state after a run of differences whose last one led from the ordinate p to q
+abbrev pub moved-on : Cur → ℕ → ℕ → ℕ → ℕ → Cur
+moved-on c at k p q = record { at = at; k = k; q = q; want = c .want; step = apart p q; form = stepForm p q }
