@@ -1,4 +1,4 @@
--- What a C host is told of a file, a record and data blocks (02, T-01, T-07): the numbers of the answer's struct, in the header's order, by cases of what the reader answered. What is not given is 0. Assumes nothing.
+-- What a C host is told of a file, a record and data blocks (02, T-01, T-07): the numbers of the answer's struct, in the header's order. What is not given is 0. Assumes nothing.
 use mathlib.Core.List.{List, [], _∷_}
 use Prim.Native.Nat.{ℕ}
 use Rattle.label_spec.specs.declared.Record.{Record}

@@ -1,4 +1,4 @@
--- What a C host is told of a table's text: written, or its length only (02, T-10). The numbers of the answer's struct, in the header's order, and the first of them once more as the result. Assumes nothing.
+-- What a C host is told of a table's text, written or measured (02, T-10): the numbers of the answer's struct, in the header's order, and the first once more as the result. Assumes nothing.
 use mathlib.Core.Path.{_≡_}
 use mathlib.Core.List.{List, _∷_}
 use Prim.Native.Nat.{ℕ}

@@ -21,7 +21,7 @@ const MOST_STEPS: u64 = 1001;
 
 // The report on a spool.
 fn walk(spool: &[u8], out: &mut [i32]) {
-    let mut p = night_report::start();
+    let mut p = night_totals::start();
     let mut steps = MOST_STEPS;
     while steps > 0 {
         steps -= 1;

@@ -26,7 +26,7 @@ fn print_signed(words: &[u8], x: i64) {
     if x < 0 {
         io::write_all(OUTPUT, b"-");
     }
-    io::print_decimal(OUTPUT, night_report::size_of(x));
+    io::print_decimal(OUTPUT, night_totals::size_of(x));
 }
 
 // Words, and a number of the report after them, or `none`.

@@ -1,5 +1,3 @@
-pub mod SizeLaws
-pub mod TotalLaws
 pub mod WalkLaws
 pub mod StepLaws
 pub mod Widths

@@ -19,7 +19,7 @@ use Rattle.night_spec.specs.declared.Totals.{Totals}
 use Rattle.night_spec.specs.declared.Progress.{Progress}
 use Rattle.night_spec.specs.declared.Reported.the-variants as reported
 use Rattle.file_tally.specs.Says.{ReportSays}
-use Rattle.night_report.specs.Bounds.{TotalsIn}
+use Rattle.night_totals.specs.Bounds.{TotalsIn}
 use Rattle.night_report.specs.Says.{NextSays}
 
 -- ---- what a walk can have come to

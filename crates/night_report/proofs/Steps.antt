@@ -17,8 +17,8 @@ use Rattle.night_spec.specs.declared.Progress.{Progress}
 use Rattle.spool.proofs.Files.{spooled-back}
 use Rattle.spool.proofs.SpoolLaws.{file-in, spool-over, spool-stopped, spool-file}
 use Rattle.file_tally.proofs.Widths.{report-in}
-use Rattle.night_report.specs.Bounds.{TotalsIn}
-use Rattle.night_report.proofs.TotalLaws.{plus, plus-report, plus-none, none-plus, none-in, more-in}
+use Rattle.night_totals.specs.Bounds.{TotalsIn}
+use Rattle.night_totals.proofs.TotalLaws.{plus, plus-report, plus-none, none-plus, none-in, more-in}
 use Rattle.night_report.proofs.StepLaws.{in-legal}
 
 module _ (space : ℕ) (s : List ℕ) where

@@ -19,9 +19,9 @@ use Rattle.spool.proofs.SpoolLaws.{file-in, spool-over, spool-stopped, spool-fi
 use Rattle.file_tally.specs.Bounds.{ReportIn}
 use Rattle.file_tally.specs.Says.{ReportSays}
 use Rattle.file_tally.proofs.Widths.{report-in}
-use Rattle.night_report.specs.Bounds.{TotalsIn}
+use Rattle.night_totals.specs.Bounds.{TotalsIn}
 use Rattle.night_report.specs.Says.{NightSays}
-use Rattle.night_report.proofs.TotalLaws.{plus, plus-report, plus-none, none-plus, none-in, more-in}
+use Rattle.night_totals.proofs.TotalLaws.{plus, plus-report, plus-none, none-plus, none-in, more-in}
 
 -- the totals over a spool's files from a place on, with room for so many ordinates
 abbrev pub rest-totals : ℕ → ℕ → List ℕ → ℕ → Totals

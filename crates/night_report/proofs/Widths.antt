@@ -10,8 +10,8 @@ use Rattle.night_spec.specs.declared.Spooled.{Spooled}
 use Rattle.night_spec.specs.declared.Spooled.the-variants as spooled
 use Rattle.spool.proofs.SpoolLaws.{RecordIn, record-in}
 use Rattle.file_tally.proofs.Widths.{report-in}
-use Rattle.night_report.specs.Bounds.{TotalsIn}
-use Rattle.night_report.proofs.TotalLaws.{none-in, wider, more-in}
+use Rattle.night_totals.specs.Bounds.{TotalsIn}
+use Rattle.night_totals.proofs.TotalLaws.{none-in, wider, more-in}
 
 -- ---- at most 1,000 files
 

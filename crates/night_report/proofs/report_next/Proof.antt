@@ -4,7 +4,7 @@ use native.Mathlib.Omega.{arith}
 use native.Mathlib.Numerals.{add-one}
 use borrow.Author.Tests.{not-true, not-false}
 use Rattle.spool.proofs.SpoolLaws.{file-in}
-use Rattle.night_report.proofs.TotalLaws.{wider}
+use Rattle.night_totals.proofs.TotalLaws.{wider}
 use Rattle.night_report.proofs.WalkLaws.{told-in}
 use Rattle.night_report.proofs.StepLaws.{legal-in, next-strange, next-over, next-stopped, next-file}
 use borrow.Author.Needs.{needs}

@@ -2,7 +2,7 @@
 use mathlib.Core.Path.{sym, _∙_}
 use native.Mathlib.Omega.{arith}
 use Rattle.spool.proofs.SpoolLaws.{file-in}
-use Rattle.night_report.proofs.TotalLaws.{wider}
+use Rattle.night_totals.proofs.TotalLaws.{wider}
 use Rattle.night_report.proofs.WalkLaws.{Walked, walked-start, told-in, walked-file, walked-over, walked-stopped}
 use borrow.Author.Needs.{needs}
 use Rattle.night_report.proofs.whole_night.Statement.{statement}

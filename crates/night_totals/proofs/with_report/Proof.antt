@@ -1,9 +1,9 @@
--- `night_report::with_report` meets its contract: an accepted file is added, a refused one adds nothing.
+-- `night_totals::with_report` meets its contract: an accepted file is added, a refused one adds nothing.
 use mathlib.Core.Path.{refl}
 use Rattle.night_spec.specs.Night.{with-report}
 use borrow.Author.Needs.{needs}
-use Rattle.night_report.proofs.with_report.Statement.{statement}
-use Rattle.night_report.proofs.with_report.Tie as tie
+use Rattle.night_totals.proofs.with_report.Statement.{statement}
+use Rattle.night_totals.proofs.with_report.Tie as tie
 
 enum-told : tie.Need-enum-told
 enum-told c = search needs

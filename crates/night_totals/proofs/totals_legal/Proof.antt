@@ -1,12 +1,12 @@
--- `night_report::totals_legal` meets its contract: each number of the totals against its bound, in the definition's order.
+-- `night_totals::totals_legal` meets its contract: each number of the totals against its bound, in the definition's order.
 use mathlib.Core.Path.{refl}
 use mir.Syntax.{w64}
 use mir.Facts.{toZ-ofZ}
 use borrow.Author.Tests.{le-leb, lt-leb}
 use Rattle.night_spec.specs.Steps.{totals-legal}
 use borrow.Author.Needs.{needs, sfits-of}
-use Rattle.night_report.proofs.totals_legal.Statement.{statement}
-use Rattle.night_report.proofs.totals_legal.Tie as tie
+use Rattle.night_totals.proofs.totals_legal.Statement.{statement}
+use Rattle.night_totals.proofs.totals_legal.Tie as tie
 
 returns : tie.Need-returns
 unfolding totals-legal

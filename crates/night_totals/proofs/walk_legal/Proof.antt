@@ -1,10 +1,10 @@
--- `night_report::walk_legal` meets its contract: at most 1,000 files, and totals that they can come to.
+-- `night_totals::walk_legal` meets its contract: at most 1,000 files, and totals that they can come to.
 use mathlib.Core.Path.{refl}
 use borrow.Author.Tests.{le-leb, lt-leb}
 use Rattle.night_spec.specs.Steps.{walk-legal}
 use borrow.Author.Needs.{needs}
-use Rattle.night_report.proofs.walk_legal.Statement.{statement}
-use Rattle.night_report.proofs.walk_legal.Tie as tie
+use Rattle.night_totals.proofs.walk_legal.Statement.{statement}
+use Rattle.night_totals.proofs.walk_legal.Tie as tie
 
 returns : tie.Need-returns
 unfolding walk-legal

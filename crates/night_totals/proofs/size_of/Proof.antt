@@ -1,9 +1,9 @@
--- `night_report::size_of` meets its contract: the magnitude of a number with a sign.
+-- `night_totals::size_of` meets its contract: the magnitude of a number with a sign.
 use mir.Facts.{toZ-ofZ}
-use Rattle.night_report.proofs.SizeLaws.{below-fits, under-cast, under-size, size-small, over-cast}
+use Rattle.night_totals.proofs.SizeLaws.{below-fits, under-cast, under-size, size-small, over-cast}
 use borrow.Author.Needs.{needs}
-use Rattle.night_report.proofs.size_of.Statement.{statement}
-use Rattle.night_report.proofs.size_of.Tie as tie
+use Rattle.night_totals.proofs.size_of.Statement.{statement}
+use Rattle.night_totals.proofs.size_of.Tie as tie
 
 sub-below : tie.Need-sub-below
 sub-below c = let f = c .before .fits .x in let e = toZ-ofZ f in rw e (below-fits _ (rw e at (c .if1 .taken)) f)

@@ -1,11 +1,11 @@
--- `night_report::with_file` meets its contract: each number of the totals with the file's, and the sums fit 64 bits.
+-- `night_totals::with_file` meets its contract: each number of the totals with the file's, and the sums fit 64 bits.
 use mathlib.Core.Path.{refl}
 use native.Mathlib.Numerals.{add-one}
 use mir.Facts.{toZ-ofZ}
-use Rattle.night_report.proofs.TotalLaws.{account-fits, totals-fits, sum-fits}
+use Rattle.night_totals.proofs.TotalLaws.{account-fits, totals-fits, sum-fits}
 use borrow.Author.Needs.{needs}
-use Rattle.night_report.proofs.with_file.Statement.{statement}
-use Rattle.night_report.proofs.with_file.Tie as tie
+use Rattle.night_totals.proofs.with_file.Statement.{statement}
+use Rattle.night_totals.proofs.with_file.Tie as tie
 
 add-files : tie.Need-add-files
 add-files c = search needs

@@ -11,8 +11,8 @@ use Rattle.night_spec.specs.declared.FileReport.{FileReport}
 use Rattle.night_spec.specs.declared.FileReport.the-variants as report
 use Rattle.night_spec.specs.declared.Totals.{Totals}
 use Rattle.file_tally.specs.Bounds.{AccountIn, ReportIn}
-use Rattle.night_report.specs.Bounds.{TotalsIn}
-use Rattle.night_report.proofs.SizeLaws.{size-add, size-fits}
+use Rattle.night_totals.specs.Bounds.{TotalsIn}
+use Rattle.night_totals.proofs.SizeLaws.{size-add, size-fits}
 
 -- ---- in any order
 
