@@ -1,3 +1,3 @@
 pub mod Walks
 pub mod Shorts
-pub mod Alongs
+pub mod Ways

@@ -1,25 +1,26 @@
 -- States of the code within a line, one after the other, and one difference more. No place of the code is named here. Assumes nothing.
 use mathlib.Core.Path.{_≡_, refl, ap, _∙_}
-use mathlib.Core.List.{List, [], _∷_, _++_}
-use Prim.Native.Nat.{ℕ, _+_, _≤_, _<_}
+use mathlib.Core.List.{List, [], _∷_, _++_, map}
+use Prim.Native.Nat.{ℕ, _+_, _*_, _≤_, _<_}
 use native.Mathlib.Omega.{arith}
 use lib.Dec.{ltb, leb}
 use lib.IntN.{ℤ}
 use lib.ListN.{length-append, set}
+use lib.Seq.{sets}
 use borrow.Author.Tests.{ltb-true, ltb-false}
 use Rattle.terms.specs.Logic.{by-case}
 use Rattle.alphabet_spec.specs.Entries.{entryAt}
 use Rattle.table_spec.specs.Frame.{entry-for}
-use Rattle.table_spec.specs.Values.{by, By, Spot}
+use Rattle.table_spec.specs.Values.{by, times, By, Spot, copies}
 use Rattle.table_lines.specs.Seen.{here}
 use Rattle.table_numbers.specs.Numbers.{Clear, Token}
 use Rattle.table_ordinates.specs.Reach.{shiftedTo}
-use Rattle.table_ordinates.proofs.Moves.{shift-some}
+use Rattle.table_ordinates.proofs.Moves.{Shifts, shift-some, copies-length, steps-last}
 use Rattle.table_value.specs.LineValues.{given, line-says, given-none, given-given}
-use Rattle.table_value.specs.States.{dif, Holds, opening, checking, going, Sits, Gone, Went}
+use Rattle.table_value.specs.States.{dif, dup-dif, Holds, opening, checking, going, Sits, Gone, Went}
 use Rattle.table_value.specs.declared.Cur.{Cur}
 use Rattle.table_value.proofs.Turns.{stored-then, value-adds, sits-next}
-use Rattle.table_value.proofs.Meanings.{dif-adds}
+use Rattle.table_value.proofs.Meanings.{dif-adds, repeats, dup-steps}
 
 -- ---- one after the other
 
@@ -76,4 +77,20 @@ went-on {N} {s} {c} b {out} {mid} out' {v} {j} e u g o l h vs t k d n m =
       law = λ p w x. gone-gone N s (c .at) (c .k) p w out mid b (g .law p w x) out' _
           (λ y i hold. value-adds N s t (b .k) y i (u ∷ []) (By (leb 48 e) v) mid out' _ (dif-adds (leb 48 e) v u hold (λ r. omega arith) z) (omega arith) refl refl
           (rw (no-want hold o) (going (dif l h (z .low)))) m);
+    }
+
+-- the DUP of a difference
+pub went-dup : {N : ℕ} {s : List ℕ} {c : Cur} (b : Cur) {out mid : List ℤ} (out' : List ℤ) {n j u : ℕ} → Went N s c b out mid → 0 < b .q → 32 ≤ b .form → 1 ≤ n
+    → Token s (b .at) (times (n + 1)) j → b .k + n ≤ N → Shifts (leb 48 (b .form)) (b .step * n) (b .q) u
+    → out' ≡ sets mid (b .k) (map entry-for (copies n (By (leb 48 (b .form)) (b .step)) (b .q)))
+    → Went N s c (record { at = j; k = b .k + n; q = u; want = b .want; step = 0; form = 1 }) out out'
+went-dup {N} {s} {c} b {out} {mid} out' {n} {j} {u} g o l m t k z e =
+    let low = g .low in let tl = t .low in let x = copies-length n (By (leb 48 (b .form)) (b .step)) (b .q) in
+    record {
+      low = omega arith;
+      clear = clear-then s (g .clear) (t .clear);
+      sits = sits-next t (b .k + n) u (b .want) 0 1 (z .high) (omega arith) (omega arith);
+      law = λ p w y. gone-gone N s (c .at) (c .k) p w out mid b (g .law p w y) out' _
+          (λ y i hold. let r = repeats n hold l in value-adds N s t (b .k) y i _ _ mid out' _ (dup-steps n m (g .sits .small) r z) (omega arith) refl (omega arith)
+          (rw (r .before, steps-last (leb 48 (b .form)) (b .step) n (b .q), ← z .is, no-want hold o) (going (dup-dif (z .low)))) e);
     }

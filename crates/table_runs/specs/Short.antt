@@ -1,12 +1,11 @@
--- Short differences and counts, of at most four digits, and the state after a run of them. Assumes nothing.
+-- Short differences and counts, of at most four digits. Assumes nothing.
 use mathlib.Core.Path.{_≡_}
 use mathlib.Core.Bool.{Bool, true}
 use mathlib.Core.List.{List}
 use mathlib.Core.Logic.{_⊎_}
-use Prim.Native.Nat.{ℕ, _-_, _<_, _≤_}
-use lib.Dec.{ltb, leb}
+use Prim.Native.Nat.{ℕ, _<_, _≤_}
+use lib.Dec.{leb}
 use lib.ListN.{length}
-use Rattle.terms.specs.Logic.{pick}
 use Rattle.alphabet.specs.declared.Run.{Run}
 use Rattle.table_spec.specs.Values.{by, times}
 use Rattle.table_numbers.specs.Numbers.{Token}
@@ -29,14 +28,3 @@ Counted s i r = 2 ≤ r .v → (r .v < 10000) × Token s i (times (r .v)) (r .at
 -- a run may begin in the state c: there is room for a short difference, and its ordinate is a million or more from the least and the largest
 abbrev pub Roomy : List ℕ → Cur → Bool → Type 0
 Roomy s c t = t ≡ true → (5 ≤ length s) × (1000000 ≤ c .q) × (c .q ≤ 4293967296)
-
--- how far apart two ordinates are, and how the code keeps the form of a difference from the one to the other
-abbrev pub apart : ℕ → ℕ → ℕ
-apart p q = pick (ltb q p) (p - q) (q - p)
-
-abbrev pub stepForm : ℕ → ℕ → ℕ
-stepForm p q = pick (ltb q p) 48 32
-
--- the state after a run of differences whose last one led from the ordinate p to q
-abbrev pub moved-on : Cur → ℕ → ℕ → ℕ → ℕ → Cur
-moved-on c at k p q = record { at = at; k = k; q = q; want = c .want; step = apart p q; form = stepForm p q }

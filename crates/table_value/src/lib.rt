@@ -157,7 +157,7 @@ fn same_again(s: &[u8], points: usize, out: &mut [i32], c: Cur, n: usize, j: usi
 }
 
 // A DUP of a difference: n further steps.
-pub fn steps_again(s: &[u8], points: usize, out: &mut [i32], c: Cur, n: usize, j: usize) -> Step
+fn steps_again(s: &[u8], points: usize, out: &mut [i32], c: Cur, n: usize, j: usize) -> Step
     requires { ⌜ Again points (now s) c n j × (32 ≤ c .form) ⌝ }
     ensures { λ r. ⌜ Stepped points (now (s .entry)) c (now (out .entry)) (now (out .exit)) r ⌝ }
 {

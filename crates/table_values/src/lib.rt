@@ -17,11 +17,9 @@ use table_lines::line_end;
 use table_numbers::NumberRead;
 use table_numbers::number;
 use table_runs::differences;
-use table_runs::short_count;
 use table_value::Cur;
 use table_value::Step;
 use table_value::missing;
-use table_value::steps_again;
 use table_value::value;
 
 // Between lines: the place, how many points, the last ordinate (0: missing, or none on that line), and whether the line before ended in DIF form.
@@ -79,21 +77,6 @@ fn token(s: &[u8], points: usize, out: &mut [i32], c: Cur) -> Step
     }
 }
 
-// The same. After a run of differences a DUP is asked for first: it stands there most often.
-fn next_token(s: &[u8], points: usize, out: &mut [i32], c: Cur) -> Step
-    requires { ⌜ (points ≤ 65536) × Sits points (now s) c ⌝ }
-    ensures { λ r. ⌜ Stepped points (now (s .entry)) c (now (out .entry)) (now (out .exit)) r ⌝ }
-{
-    if c.form >= DIF {
-        let r = short_count(s, c.at);
-        if r.v >= 2 {
-            let n = (r.v - 1) as usize;
-            return steps_again(s, points, out, c, n, r.at);
-        }
-    }
-    token(s, points, out, c)
-}
-
 // Is a form DIF?
 fn in_dif(form: u64) -> bool
     ensures { λ r. ⌜ r ≡ difForm form ⌝ }
@@ -133,7 +116,7 @@ pub fn values(s: &[u8], points: usize, out: &mut [i32], at: usize, k: usize, wan
     loop {
         let a = past_blanks(s, c);
         let b = differences(s, points, out, a);
-        match next_token(s, points, out, b) {
+        match token(s, points, out, b) {
             Step::Go(d) => {
                 c = d;
             }

@@ -1,8 +1,9 @@
 -- `table_runs::short_count` meets its contract: the count of a DUP of at most four digits.
 use mathlib.Core.Path.{_≡_, ap}
-use Prim.Native.Nat.{ℕ, _≤_}
+use Prim.Native.Nat.{ℕ, _≤_, _<_}
 use native.Mathlib.Omega.{arith}
 use borrow.Author.Needs.{needs}
+use borrow.Author.Tests.{leb-false}
 use Rattle.alphabet.specs.declared.Run.{Run}
 use Rattle.alphabet.specs.Standing.{digit-seen-not}
 use Rattle.table_runs.proofs.Shorts.{count-short}
@@ -13,35 +14,15 @@ use Rattle.table_runs.proofs.short_count.Tie as tie
 none : {A : Type 0} {at b : ℕ} (r : Run) → r ≡ record { v = 0; at = at; b = b } → 2 ≤ r .v → A
 none r e l = let z = ap (λ (x : Run). x .v) e in absurd (omega arith)
 
+-- the letter is none past Z
+high : (c : tie.Else2) → c .before .before .before .args .b < 91
+high c = leb-false 91 _ (c .if2 .left)
+
 nothing-requires : tie.Need-nothing-requires
 nothing-requires c κs = search needs
 
 returns : tie.Need-returns
 returns c = none _ (c .nothing .ensures)
-
-sub-if2 : tie.Need-sub-if2
-sub-if2 c = search needs
-
-nothing-requires-2 : tie.Need-nothing-requires-2
-nothing-requires-2 c κs = search needs
-
-returns-2 : tie.Need-returns-2
-returns-2 c = none _ (c .nothing2 .ensures)
-
-standing-in-requires : tie.Need-standing-in-requires
-standing-in-requires c κs = search needs
-
-nothing-requires-3 : tie.Need-nothing-requires-3
-nothing-requires-3 c κs = search needs
-
-returns-3 : tie.Need-returns-3
-returns-3 c = none _ (c .nothing3 .ensures)
-
-nothing-requires-4 : tie.Need-nothing-requires-4
-nothing-requires-4 c κs = search needs
-
-returns-4 : tie.Need-returns-4
-returns-4 c = none _ (c .nothing4 .ensures)
 
 add-few-digits : tie.Need-add-few-digits
 add-few-digits c = search needs
@@ -50,22 +31,22 @@ sub-few-digits : tie.Need-sub-few-digits
 sub-few-digits c = search needs
 
 few-digits-requires : tie.Need-few-digits-requires
-few-digits-requires c κs = search needs
+few-digits-requires c κs = let l = c .before .before .before .pre .0 in let h = high c in let g = c .before .if1 .left in (omega arith, omega arith)
 
 is-digit-requires : tie.Need-is-digit-requires
 is-digit-requires c κs = search needs
 
-nothing-requires-5 : tie.Need-nothing-requires-5
-nothing-requires-5 c κs = search needs
+nothing-requires-2 : tie.Need-nothing-requires-2
+nothing-requires-2 c κs = search needs
 
-returns-5 : tie.Need-returns-5
-returns-5 c = none _ (c .nothing5 .ensures)
+returns-2 : tie.Need-returns-2
+returns-2 c = none _ (c .nothing2 .ensures)
 
-returns-6 : tie.Need-returns-6
-returns-6 c =
-    let f = c .before .before in let e = f .before in let o = e .before .before .before in let l = o .if2 .left in let h = o .before .if1 .left in
-    λ _. count-short _ _ (omega arith) (e .before .before .standing-in .ensures) (e .before .if3 .left) (e .if4 .left) (f .few-digits .ensures)
-    (digit-seen-not _ _ (f .few-digits .ensures .stands) (c .before .is-digit .ensures) (c .if5 .left))
+returns-3 : tie.Need-returns-3
+returns-3 c =
+    let f = c .before .before in let e = f .before in let p = e .before .before .before .pre in let l = p .0 in let h = high e in
+    λ _. count-short _ _ (omega arith) (p .1) (e .before .if1 .left) (omega arith) (f .few-digits .ensures)
+    (digit-seen-not _ _ (f .few-digits .ensures .stands) (c .before .is-digit .ensures) (c .if3 .left))
 
 pub short-count-spec : {M : Type 1} → statement M
 short-count-spec =
@@ -73,18 +54,10 @@ short-count-spec =
     (tie.spec
     nothing-requires
     returns
-    sub-if2
-    nothing-requires-2
-    returns-2
-    standing-in-requires
-    nothing-requires-3
-    returns-3
-    nothing-requires-4
-    returns-4
     add-few-digits
     sub-few-digits
     few-digits-requires
     is-digit-requires
-    nothing-requires-5
-    returns-5
-    returns-6)
+    nothing-requires-2
+    returns-2
+    returns-3)

@@ -25,23 +25,23 @@ past-blanks-requires : tie.Need-past-blanks-requires Inv-loop μ-loop
 past-blanks-requires c κs = c .loop .inv .0 .sits .high
 
 differences-requires : tie.Need-differences-requires Inv-loop μ-loop
-differences-requires c κs = let b = c .before in went-past (b .before .loop .inv .0) (b .past-blanks .ensures) .sits
+differences-requires c κs = let b = c .before in (b .before .before .before .pre .most, went-past (b .before .loop .inv .0) (b .past-blanks .ensures) .sits)
 
-next-token-requires : tie.Need-next-token-requires Inv-loop μ-loop
-next-token-requires c κs = let d = c .before .before in (d .before .before .before .before .before .pre .most, d .differences .ensures .sits)
+token-requires : tie.Need-token-requires Inv-loop μ-loop
+token-requires c κs = let d = c .before .before in (d .before .before .before .before .before .pre .most, d .differences .ensures .sits)
 
 enum-known-d : tie.Need-enum-known-d Inv-loop μ-loop
 enum-known-d c = search needs
 
 loop-less : tie.Need-loop-less Inv-loop μ-loop
 loop-less c =
-    let x = rw (c .before .d .given .1) at (c .before .before .before .before .next-token .ensures) in
+    let x = rw (c .before .d .given .1) at (c .before .before .before .before .token .ensures) in
     let b = c .before .before .before .before .before .before .before in let l = b .before .before .past-blanks .ensures .0 .low in let y = b .differences .ensures .low in
     let z = x .1 .sits .high in omega (arith, x .0)
 
 loop-again : tie.Need-loop-again Inv-loop μ-loop
 loop-again c =
-    let x = rw (c .before .d .given .1) at (c .before .before .before .before .next-token .ensures) in
+    let x = rw (c .before .d .given .1) at (c .before .before .before .before .token .ensures) in
     let b = c .before .before .before .before .before .before .before in let p = b .before .before in let e = p .past-blanks .ensures in let g = p .before .loop .inv .0 in
     (went-went (went-went (went-past g e) (b .differences .ensures)) (x .1), search needs)
 
@@ -56,7 +56,7 @@ same-length c = search needs
 
 returns : tie.Need-returns Inv-loop μ-loop
 returns c =
-    let x = rw (c .before .before .j .given .1) at (c .before .before .before .before .before .next-token .ensures) in
+    let x = rw (c .before .before .j .given .1) at (c .before .before .before .before .before .token .ensures) in
     let b = c .before .before .before .before .before .before .before .before in let p = b .before .before in let e = p .past-blanks .ensures in let g = p .before .loop .inv .0 in
     rw (c .row-after .ensures) (went-line _ (went-went (went-past g e) (b .differences .ensures)) x)
 
@@ -68,7 +68,7 @@ same-length-2 c = search needs
 
 returns-2 : tie.Need-returns-2 Inv-loop μ-loop
 returns-2 c =
-    let x = rw (c .before .n .given .1) at (c .before .before .before .before .next-token .ensures) in
+    let x = rw (c .before .n .given .1) at (c .before .before .before .before .token .ensures) in
     let b = c .before .before .before .before .before .before .before in let p = b .before .before in let e = p .past-blanks .ensures in let g = p .before .loop .inv .0 in
     went-refused _ (went-went (went-past g e) (b .differences .ensures)) x
 
@@ -81,7 +81,7 @@ values-spec =
     loop-holds
     past-blanks-requires
     differences-requires
-    next-token-requires
+    token-requires
     enum-known-d
     loop-less
     loop-again
