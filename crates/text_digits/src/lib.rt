@@ -214,7 +214,7 @@ pub const PAIRS: [u8; 200] = [
 ];
 
 // The byte of the tens of a number below a hundred.
-fn tens(t: &[u8; 200], r: u32) -> u8
+pub fn tens(t: &[u8; 200], r: u32) -> u8
     requires { ⌜ (now t ≡ pairs) × (r < 100) ⌝ }
     ensures { λ b. ⌜ b ≡ 48 + r / 10 ⌝ }
 {
@@ -223,7 +223,7 @@ fn tens(t: &[u8; 200], r: u32) -> u8
 }
 
 // The byte of its ones.
-fn ones(t: &[u8; 200], r: u32) -> u8
+pub fn ones(t: &[u8; 200], r: u32) -> u8
     requires { ⌜ (now t ≡ pairs) × (r < 100) ⌝ }
     ensures { λ b. ⌜ b ≡ 48 + r % 10 ⌝ }
 {
