@@ -311,7 +311,7 @@ fn lead_of(t: &[u8; 200], odd: usize, w: u32) -> u8
     t[i]
 }
 
-// A number with n further digits, its first digit written as `base` plus the digit. Whether n is odd cannot be foreseen, so there is no jump on it: the second byte is stored before the first, and at its place if n is even.
+// A number with n further digits, its first digit written as `base` plus the digit. No jump tells whether n is odd: the second byte is stored before the first, and at its place if n is even.
 pub fn store_number(t: &[u8; 200], out: &mut [u8], at: usize, base: u64, v: u64, n: usize)
     requires { ⌜ (now t ≡ pairs) × Storable base v n at (length (now out)) ⌝ }
     ensures { λ r. ⌜ Put (now (out .entry)) at (now (out .exit)) (at + 1 + n) (number base v) ⌝ }
