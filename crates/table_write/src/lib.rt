@@ -15,6 +15,9 @@ use frame::Framed;
 use table_spec::Style;
 use table_text::refused;
 use terms::TableWritten;
+use text_differences::SCALES;
+use text_differences::put_differences;
+use text_digits::PAIRS;
 use text_length::measure;
 use text_lines::begin;
 use text_lines::finish;
@@ -31,10 +34,13 @@ fn pass(ys: &[i32], text: &mut [u8], fr: Frame) -> usize
     ensures { λ r. ⌜ Put (now (text .entry)) 0 (now (text .exit)) r (lines-of Difdup (headOf fr) (ordinates (now (ys .entry)))) ⌝ }
 {
     let n = ys.len();
+    let t = PAIRS;
+    let k = SCALES;
     let mut s = begin(text, fr);
     let mut i = 0;
     while i < n {
-        s = turn(ys, text, fr, s);
+        let r = put_differences(&t, &k, ys, text, s);
+        s = turn(ys, text, fr, r);
         i = s.given;
     }
     finish(text, fr, s)

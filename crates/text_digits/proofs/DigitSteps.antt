@@ -5,13 +5,17 @@ use Prim.Native.Nat.{ℕ, zero, suc, _+_, _-_, _*_, _/_, _%_, _^_, _≤_, _<_}
 use native.Mathlib.Omega.{arith}
 use native.Mathlib.Nat.{mod-lt, div-div-eq-div-mul}
 use lib.Arith.{digits-div, digits-mod, mod-mul}
-use lib.Dec.{lit<}
-use lib.ListN.{length, set, length-set}
-use lib.Seq.{sets}
+use mathlib.Core.Bool.{true, false}
+use lib.Dec.{eqb, lit<}
+use lib.ListN.{length, set, getD, length-set}
+use lib.Seq.{sets, set-set}
+use borrow.Author.Tests.{eqb-true, eqb-false}
+use Rattle.terms.specs.Logic.{pick, by-case}
 use Rattle.table_spec.specs.Numerals.{top, low}
 use Rattle.table_text.specs.Digits.{further, Storing, Digits}
 use Rattle.table_text.specs.Pieces.{Put, number}
 use Rattle.table_text.proofs.NumberSteps.{number-put}
+use Rattle.text_digits.specs.Pairs.{pairs, is-tens, is-ones}
 use Rattle.table_text.specs.DigitLaws.{count-end, store-more, store-end, digits-more, digits-end}
 
 -- two digits of a number
@@ -75,3 +79,33 @@ module _ {o o₁ o₂ : List ℕ} (at base v n w : ℕ) (e : n ≡ further 9 v) 
       let one : n % 2 ≡ 1 = omega (arith, h) in
       let z = last-one v n (at + 1) d (set o₁ (at + 1) b) e one (ap (set o₁ (at + 1)) y) in
       number-put at v n (base - 48 + a) e (z .2) f base (w / 10) (omega arith) (z .0) .0
+
+  -- both at once: the second byte is stored where it belongs, or where the first is stored over it
+  pub number-either : {b l : ℕ} → 48 ≤ base → b ≡ 48 + w % 10 → l ≡ 48 + pick (eqb (n % 2) 0) (w % 10) (w / 10) → o₂ ≡ set (set o₁ (at + n % 2) b) at (base - 48 + l)
+      → Put o at o₂ (at + 1 + n) (number base v)
+  number-either {b} {l} m y p f = by-case (λ t. eqb (n % 2) 0 ≡ t → Put o at o₂ (at + 1 + n) (number base v)) (eqb (n % 2) 0) (λ _ c. even c) (λ _ c. odd c) refl
+    where
+      even : eqb (n % 2) 0 ≡ true → Put o at o₂ (at + 1 + n) (number base v)
+      even c =
+          let h = eqb-true (n % 2) 0 c in
+          let z = digits-end v n (at + 1) e d (omega arith) in
+          let q : l ≡ 48 + w % 10 = p ∙ rw c refl in
+          let k : at + n % 2 ≡ at = omega arith in
+          let r : base - 48 + l ≡ base + w = omega (arith, z .1) in
+          number-even h (f ∙ rw (k, r, set-set o₁ at b (base + w)) refl)
+
+      odd : eqb (n % 2) 0 ≡ false → Put o at o₂ (at + 1 + n) (number base v)
+      odd c =
+          let h = eqb-false (n % 2) 0 c in
+          let q : l ≡ 48 + w / 10 = p ∙ rw c refl in
+          let k : at + n % 2 ≡ at + 1 = omega (arith, h) in
+          number-odd h m q y (f ∙ rw k refl)
+
+-- the place of the first digit's byte in the table
+pub is-lead : (odd w : ℕ) → odd ≤ 1 → w < 100 → getD pairs (2 * w + 1 - odd) 0 ≡ 48 + pick (eqb odd 0) (w % 10) (w / 10)
+is-lead zero w l h = let e : 2 * w + 1 - 0 ≡ 2 * w + 1 = omega arith in rw e (is-ones w h)
+is-lead (suc zero) w l h = let e : 2 * w + 1 - 1 ≡ 2 * w = omega arith in rw e (is-tens w h)
+is-lead (suc (suc odd)) w l h = absurd (omega arith)
+
+pub lead-small : (odd w : ℕ) → w < 100 → 48 + pick (eqb odd 0) (w % 10) (w / 10) ≤ 57
+lead-small odd w h = by-case (λ t. 48 + pick t (w % 10) (w / 10) ≤ 57) (eqb odd 0) (λ _. omega arith) (λ _. omega arith)

@@ -1,7 +1,9 @@
 // The digits of values in full (02, T-02), counted by a number's bits and, where all their bytes are lent, stored two at a time. Inner functions.
 ghost use mathlib.Core.Path.{_≡_};
 ghost use Prim.Native.Nat.{_+_, _/_, _%_, _≤_, _<_};
+ghost use lib.Dec.{eqb};
 ghost use lib.ListN.{length};
+ghost use Rattle.terms.specs.Logic.{pick};
 ghost use Rattle.table_text.specs.Digits.{further, Digits};
 ghost use Rattle.table_text.specs.Pieces.{Put, number};
 ghost use Rattle.text_digits.specs.Pairs.{pairs};
@@ -214,7 +216,7 @@ pub const PAIRS: [u8; 200] = [
 ];
 
 // The byte of the tens of a number below a hundred.
-fn tens(t: &[u8; 200], r: u32) -> u8
+pub fn tens(t: &[u8; 200], r: u32) -> u8
     requires { ⌜ (now t ≡ pairs) × (r < 100) ⌝ }
     ensures { λ b. ⌜ b ≡ 48 + r / 10 ⌝ }
 {
@@ -223,7 +225,7 @@ fn tens(t: &[u8; 200], r: u32) -> u8
 }
 
 // The byte of its ones.
-fn ones(t: &[u8; 200], r: u32) -> u8
+pub fn ones(t: &[u8; 200], r: u32) -> u8
     requires { ⌜ (now t ≡ pairs) × (r < 100) ⌝ }
     ensures { λ b. ⌜ b ≡ 48 + r % 10 ⌝ }
 {
@@ -300,21 +302,27 @@ fn store_pairs(t: &[u8; 200], out: &mut [u8], at: usize, v: u64, n: usize) -> u3
     w
 }
 
-// A number with n further digits, its first digit written as `base` plus the digit.
+// The byte of a number's first digit, from what is left of it: its tens if a further digit is left too, else its ones.
+fn lead_of(t: &[u8; 200], odd: usize, w: u32) -> u8
+    requires { ⌜ (now t ≡ pairs) × (odd ≤ 1) × (w < 100) ⌝ }
+    ensures { λ r. ⌜ (r ≡ 48 + pick (eqb odd 0) (w % 10) (w / 10)) × (r ≤ 57) ⌝ }
+{
+    let i = 2 * w as usize + 1 - odd;
+    t[i]
+}
+
+// A number with n further digits, its first digit written as `base` plus the digit. No jump tells whether n is odd: the second byte is stored before the first, and at its place if n is even.
 pub fn store_number(t: &[u8; 200], out: &mut [u8], at: usize, base: u64, v: u64, n: usize)
     requires { ⌜ (now t ≡ pairs) × Storable base v n at (length (now out)) ⌝ }
     ensures { λ r. ⌜ Put (now (out .entry)) at (now (out .exit)) (at + 1 + n) (number base v) ⌝ }
 {
     let next = at + 1;
     let w = store_pairs(t, out, next, v, n);
-    if n % 2 == 0 {
-        let b = (base + w as u64) as u8;
-        out[at] = b;
-        return;
-    }
-    let first = tens(t, w);
+    let odd = n % 2;
+    let lead = lead_of(t, odd, w);
     let second = ones(t, w);
-    let b = (base - DIGIT + first as u64) as u8;
-    out[next] = second;
+    let b = (base - DIGIT + lead as u64) as u8;
+    let last = at + odd;
+    out[last] = second;
     out[at] = b;
 }

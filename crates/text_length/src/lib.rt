@@ -8,11 +8,13 @@ ghost use Rattle.table_spec.specs.Writing.{lines-of};
 ghost use Rattle.text_groups.specs.Tokens.{Found, lone};
 ghost use Rattle.frame.specs.Legal.{Sound};
 ghost use Rattle.table_text.specs.Pieces.{headOf, ordinates};
-ghost use Rattle.text_lines.specs.Lines.{from, PointsLeft, Countable, Wrote, Counted, Full, difference-state};
+ghost use Rattle.text_lines.specs.Lines.{from, PointsLeft, Countable, Wrote, Counted, Full};
 use frame::Frame;
 use frame::distance;
 use signed::ordinate_at;
 use table_text::digits::further_digits;
+use text_differences::small_further;
+use text_differences::state_after;
 use text_groups::Group;
 use text_groups::find;
 use text_lines::State;
@@ -20,7 +22,7 @@ use text_lines::begin;
 use text_lines::finish;
 use text_lines::new_line;
 
-// The bytes of the DIF for y after p, if it stands alone before z; else more than a line has: y is missing, or z may have the same DIF.
+// The bytes of the DIF for y after p, if it stands alone before z, up to four digits of it counted without a jump; else more than a line has: y is missing, or z may have the same DIF.
 fn lone_width(p: u64, y: u64, z: u64) -> usize
     requires { ⌜ (p < 4294967296) × (y < 4294967296) × (z < 4294967296) ⌝ }
     ensures { λ r. ⌜ (r ≡ lone p y z) × (r ≤ 81) ⌝ }
@@ -31,25 +33,13 @@ fn lone_width(p: u64, y: u64, z: u64) -> usize
     if p + z == y + y {
         return 81;
     }
-    let further = further_digits(distance(p, y));
-    1 + further
-}
-
-// The state after differences on one line: i points given, the last of them p, the line's bytes so far.
-fn state_after(s: State, i: usize, p: u64, column: usize) -> State
-    requires { ⌜ (s .column ≤ column) × (column ≤ 2 ^ 59) × (s .at < 2 ^ 59) ⌝ }
-    ensures { λ r. ⌜ r ≡ difference-state s i p column ⌝ }
-{
-    let start = s.column;
-    let before = s.at;
-    let at = before + (column - start);
-    State {
-        given: i,
-        at,
-        column,
-        last: p,
-        dif: true,
+    let v = distance(p, y);
+    if v < 10000 {
+        let few = small_further(v);
+        return 1 + few;
     }
+    let further = further_digits(v);
+    1 + further
 }
 
 // Points in DIF form without DUP, after one in DIF form, as long as they fit on the line: most points of most tables.

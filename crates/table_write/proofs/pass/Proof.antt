@@ -1,5 +1,5 @@
 -- `table_write::pass` meets its contract: the whole text from the start of the lent bytes.
-use mathlib.Core.Path.{_∙_}
+use mathlib.Core.Path.{refl, _∙_}
 use Prim.Native.Nat.{_-_}
 use native.Mathlib.Omega.{arith}
 use borrow.Author.Needs.{needs}
@@ -7,15 +7,18 @@ use lib.ListN.{length, length-map}
 use Rattle.table_spec.specs.Frame.{ordinate-of}
 use Rattle.table_text.specs.Pieces.{headOf, ordinates}
 use Rattle.text_lines.specs.Lines.{Going}
+use Rattle.text_digits.specs.Pairs.{pairs}
+use Rattle.text_differences.specs.Small.{scales}
 use Rattle.text_lines.proofs.LineSteps.{starts, goes, going-near, finish}
+use Rattle.text_differences.proofs.LoneSteps.{goes-on}
 use Rattle.table_write.proofs.pass.Statement.{statement}
 use Rattle.table_write.proofs.pass.Tie as tie
 
 abbrev Inv-loop : tie.InvT-loop
-Inv-loop ys text₀ fr n s₀ i₀ text s i = Going (headOf fr) (ordinates ys) text₀ s₀ text s i
+Inv-loop ys text₀ fr n t k s₀ i₀ text s i = Going (headOf fr) (ordinates ys) text₀ s₀ text s i
 
 abbrev μ-loop : tie.MeasureT-loop
-μ-loop ys text₀ fr n s₀ i₀ text s i = length ys - i
+μ-loop ys text₀ fr n t k s₀ i₀ text s i = length ys - i
 
 begin-requires : tie.Need-begin-requires Inv-loop μ-loop
 begin-requires c κs = search needs
@@ -23,27 +26,53 @@ begin-requires c κs = search needs
 loop-holds : tie.Need-loop-holds Inv-loop μ-loop
 loop-holds c = let e = c .before .before .begin .ensures in starts _ _ _ _ _ (e .0) (e .1)
 
+put-differences-requires : tie.Need-put-differences-requires Inv-loop μ-loop
+unfolding pairs scales
+put-differences-requires c κs =
+    let l = c .before .before .before .before in
+    let a = l .before .before .before .before .before .before .args in
+    let p = l .before .before .before .before .before .before .pre in
+    let g₀ = l .loop .inv in
+    let l₁ = length-map (a .ys .now) ordinate-of in
+    let few = p .0 .few in
+    let i = g₀ .is in
+    let near = going-near _ _ g₀ (omega (arith, p .1)) in (
+      record { pairs-are = refl; scales-are = refl },
+      record { started = g₀ .started; few = omega (arith, p .1); column-most = g₀ .column-most; near = omega arith },
+      omega (arith, c .before .before .before .loop-test .taken),
+    )
+
 turn-requires : tie.Need-turn-requires Inv-loop μ-loop
 turn-requires c κs =
-    let a = c .before .before .before .before .before .before .before .before .args in
-    let p = c .before .before .before .before .before .before .before .before .pre in
-    let g = c .before .before .loop .inv in
-    let l = length-map (a .ys .now) ordinate-of in
+    let l = c .before .before .before .before .before .before .before .before in
+    let a = l .before .before .before .before .before .before .args in
+    let p = l .before .before .before .before .before .before .pre in
+    let g₀ = l .loop .inv in
+    let d = c .before .before .before .put-differences .ensures in
+    let g = goes-on g₀ (d .0) in
+    let l₁ = length-map (a .ys .now) ordinate-of in
     let few = p .0 .few in
-    let i = g .is in
     let near = going-near _ _ g (omega (arith, p .1)) in
-    (record { sound = p .0; all = p .1; started = g .started; some = omega (arith, c .before .loop-test .taken); near = omega arith }, g .column-most)
+    (record { sound = p .0; all = p .1; started = g .started; some = d .1; near = omega arith }, g .column-most)
 
 loop-less : tie.Need-loop-less Inv-loop μ-loop
 loop-less c =
-    let w = c .before .before .turn .ensures in
-    let g = c .before .before .before .before .before .loop .inv in
-    let on = w .on in
-    let i = g .is in
-    omega (arith, c .before .before .before .before .loop-test .taken)
+    let l = c .before .before .before .before .before .before .before .before .before .before .before in
+    let a = l .before .before .before .before .before .before .args in
+    let p = l .before .before .before .before .before .before .pre in
+    let g₀ = l .loop .inv in
+    let on = c .before .before .turn .ensures .on in
+    let later = c .before .before .before .before .before .before .put-differences .ensures .0 .counted .on in
+    let i = g₀ .is in
+    omega (arith, c .before .before .before .before .before .before .before .before .before .before .loop-test .taken)
 
 loop-again : tie.Need-loop-again Inv-loop μ-loop
-loop-again c = goes _ _ (c .before .before .before .before .before .loop .inv) (c .before .before .turn .ensures)
+loop-again c =
+    let l = c .before .before .before .before .before .before .before .before .before .before .before in
+    let a = l .before .before .before .before .before .before .args in
+    let p = l .before .before .before .before .before .before .pre in
+    let g₀ = l .loop .inv in
+    goes _ _ (goes-on g₀ (c .before .before .before .before .before .before .put-differences .ensures .0)) (c .before .before .turn .ensures)
 
 finish-requires : tie.Need-finish-requires Inv-loop μ-loop
 finish-requires c κs =
@@ -76,6 +105,7 @@ pass-spec =
     μ-loop
     begin-requires
     loop-holds
+    put-differences-requires
     turn-requires
     loop-less
     loop-again

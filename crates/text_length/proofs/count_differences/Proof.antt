@@ -2,7 +2,7 @@
 use native.Mathlib.Omega.{arith}
 use lib.ListN.{length-map}
 use Rattle.table_spec.specs.Frame.{ordinate-of}
-use Rattle.text_length.proofs.CountSteps.{counted-none}
+use Rattle.text_differences.proofs.LoneSteps.{counted-none}
 use borrow.Author.Needs.{needs}
 use Rattle.text_length.proofs.count_differences.Statement.{statement}
 use Rattle.text_length.proofs.count_differences.Tie as tie

@@ -3,7 +3,7 @@ use native.Mathlib.Omega.{arith}
 use lib.ListN.{length-map}
 use Rattle.table_spec.specs.Frame.{ordinate-of}
 use Rattle.table_text.specs.Pieces.{ordinates}
-use Rattle.text_length.proofs.CountSteps.{counted-group}
+use Rattle.text_differences.proofs.LoneSteps.{counted-group}
 use borrow.Author.Needs.{needs}
 use Rattle.text_length.proofs.count_group.Statement.{statement}
 use Rattle.text_length.proofs.count_group.Tie as tie

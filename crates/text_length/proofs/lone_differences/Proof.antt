@@ -5,7 +5,7 @@ use borrow.Author.Needs.{needs}
 use lib.ListN.{length, length-map}
 use Rattle.table_spec.specs.Frame.{ordinate-of}
 use Rattle.table_text.specs.Pieces.{ordinates}
-use Rattle.text_length.proofs.CountSteps.{LoneTo, lone-start, lone-next}
+use Rattle.text_differences.proofs.LoneSteps.{LoneTo, lone-start, lone-next}
 use Rattle.text_length.proofs.lone_differences.Statement.{statement}
 use Rattle.text_length.proofs.lone_differences.Tie as tie
 

@@ -1,0 +1,2 @@
+pub mod SmallSteps
+pub mod LoneSteps

@@ -1,0 +1,177 @@
+-- What the storing of numbers of at most four digits needs. No place of the code is named here. Assumes nothing.
+use mathlib.Core.Path.{_≡_, refl, sym, ap, _∙_}
+use mathlib.Core.List.{List, [], _∷_, _++_}
+use Prim.Native.Nat.{ℕ, suc, _+_, _-_, _*_, _/_, _%_, _≤_, _<_}
+use native.Mathlib.Omega.{arith}
+use native.Mathlib.Nat.{not-suc-le-zero, le-of-suc-le-suc}
+use native.Mathlib.Numerals.{add-one}
+use lib.Dec.{ltb, lit≤}
+use lib.ListN.{length, set, getD, length-append}
+use lib.Seq.{sets, set-set}
+use borrow.Author.Tests.{ltb-true, ltb-false, lt-ltb, le-ltb, eq-eqb, ne-eqb}
+use Rattle.terms.specs.Logic.{pick, by-case}
+use Rattle.table_spec.specs.Numerals.{top, low}
+use Rattle.table_text.specs.Digits.{further}
+use Rattle.table_text.specs.DigitLaws.{count-none, count-two, count-three, count-four, count-end}
+use Rattle.table_text.specs.Pieces.{Ahead, number, sets-append, set-sets}
+use Rattle.text_differences.specs.Small.{scales, four, Over, lead-of}
+
+-- ---- how many digits, by ranges
+
+-- what holds of numbers of one digit, of two, of three and of four
+by-digits : (P : ℕ → Type 0) (v : ℕ) → v < 10000 → (v < 10 → P v) → (10 ≤ v → v < 100 → P v) → (100 ≤ v → v < 1000 → P v) → (1000 ≤ v → P v) → P v
+by-digits P v h a b c d =
+    by-case (λ _. P v) (ltb v 10) (λ e. a (ltb-true v 10 e))
+    (λ e. by-case (λ _. P v) (ltb v 100) (λ f. b (ltb-false v 10 e) (ltb-true v 100 f))
+    (λ f. by-case (λ _. P v) (ltb v 1000) (λ g. c (ltb-false v 100 f) (ltb-true v 1000 g)) (λ g. d (ltb-false v 1000 g))))
+
+module _ (v : ℕ) where
+  further-one : v < 10 → further 9 v ≡ 0
+  further-one h = sym (count-end v 0 10 (count-none v) h .0)
+
+  further-two : 10 ≤ v → v < 100 → further 9 v ≡ 1
+  further-two l h = sym (count-end v 1 100 (count-two v (omega arith) l) h .0)
+
+  further-three : 100 ≤ v → v < 1000 → further 9 v ≡ 2
+  further-three l h = sym (count-end v 2 1000 (count-three v (omega arith) l) h .0)
+
+  further-four : 1000 ≤ v → v < 10000 → further 9 v ≡ 3
+  further-four l h = sym (count-end v 3 10000 (count-four v (omega arith) l) h .0)
+
+abbrev sum-of : ℕ → ℕ
+sum-of v = pick (ltb 9 v) 1 0 + pick (ltb 99 v) 1 0 + pick (ltb 999 v) 1 0
+
+sum-is : (v : ℕ) → v < 10000 → (sum-of v ≡ further 9 v) × (sum-of v ≤ 3)
+sum-is v h =
+    by-digits (λ v. (sum-of v ≡ further 9 v) × (sum-of v ≤ 3)) v h
+    (λ a. rw (further-one v a, le-ltb 9 v (omega arith), le-ltb 99 v (omega arith), le-ltb 999 v (omega arith)) (refl, lit≤ tt))
+    (λ l a. rw (further-two v l a, lt-ltb 9 v (omega arith), le-ltb 99 v (omega arith), le-ltb 999 v (omega arith)) (refl, lit≤ tt))
+    (λ l a. rw (further-three v l a, lt-ltb 9 v (omega arith), lt-ltb 99 v (omega arith), le-ltb 999 v (omega arith)) (refl, lit≤ tt))
+    (λ l. rw (further-four v l h, lt-ltb 9 v (omega arith), lt-ltb 99 v (omega arith), lt-ltb 999 v (omega arith)) (refl, lit≤ tt))
+
+pub further-sum : (v a b c : ℕ) → v < 10000 → a ≡ pick (ltb 9 v) 1 0 → b ≡ pick (ltb 99 v) 1 0 → c ≡ pick (ltb 999 v) 1 0 → (a + b + c ≡ further 9 v) × (a + b + c ≤ 3)
+further-sum v a b c h e f g = rw (e, f, g) (sum-is v h)
+
+pub further-few : (v : ℕ) → v < 10000 → further 9 v ≤ 3
+further-few v h = let z = sum-is v h in omega (arith, z .0, z .1)
+
+-- ---- four digits
+
+pub scaled-small : (v : ℕ) → v < 10000 → v * getD scales (further 9 v) 0 < 10000
+unfolding scales
+scaled-small v h =
+    by-digits (λ v. v * getD scales (further 9 v) 0 < 10000) v h
+    (λ a. rw (further-one v a) (omega arith))
+    (λ l a. rw (further-two v l a) (omega arith))
+    (λ l a. rw (further-three v l a) (omega arith))
+    (λ l. rw (further-four v l h) (omega arith))
+
+-- a number and what stands after it are its four digits, moved to the left
+record Widened (base v : ℕ) : Type 0 where
+  rest : List ℕ
+  is : four base (v * getD scales (further 9 v) 0) ≡ number base v ++ rest
+  few : length rest ≤ 3
+
+module _ (base v : ℕ) where
+  one : v < 10 → Widened base v
+  unfolding scales four number top low
+  one h =
+      let a : v * 1000 / 1000 ≡ v = omega arith in
+      let b : v * 1000 / 100 % 10 ≡ 0 = omega arith in
+      let c : v * 1000 / 10 % 10 ≡ 0 = omega arith in
+      let d : v * 1000 % 10 ≡ 0 = omega arith in
+      record { rest = 48 ∷ 48 ∷ 48 ∷ []; is = rw (further-one v h, a, b, c, d, lt-ltb v 10 h) refl; few = lit≤ tt }
+
+  two : 10 ≤ v → v < 100 → Widened base v
+  unfolding scales four number top low
+  two l h =
+      let a : v * 100 / 1000 ≡ v / 10 = omega arith in
+      let b : v * 100 / 100 % 10 ≡ v % 10 = omega arith in
+      let c : v * 100 / 10 % 10 ≡ 0 = omega arith in
+      let d : v * 100 % 10 ≡ 0 = omega arith in
+      record { rest = 48 ∷ 48 ∷ []; is = rw (further-two v l h, a, b, c, d, le-ltb v 10 l, lt-ltb (v / 10) 10 (omega arith)) refl; few = lit≤ tt }
+
+  three : 100 ≤ v → v < 1000 → Widened base v
+  unfolding scales four number top low
+  three l h =
+      let a : v * 10 / 1000 ≡ v / 10 / 10 = omega arith in
+      let b : v * 10 / 100 % 10 ≡ v / 10 % 10 = omega arith in
+      let c : v * 10 / 10 % 10 ≡ v % 10 = omega arith in
+      let d : v * 10 % 10 ≡ 0 = omega arith in
+      record {
+        rest = 48 ∷ [];
+        is = rw (further-three v l h, a, b, c, d, le-ltb v 10 (omega arith), le-ltb (v / 10) 10 (omega arith), lt-ltb (v / 10 / 10) 10 (omega arith)) refl;
+        few = lit≤ tt;
+      }
+
+  all : 1000 ≤ v → v < 10000 → Widened base v
+  unfolding scales four number top low
+  all l h =
+      let z : v * 1 ≡ v = omega arith in
+      let a : v / 1000 ≡ v / 10 / 10 / 10 = omega arith in
+      let b : v / 100 % 10 ≡ v / 10 / 10 % 10 = omega arith in
+      record {
+        rest = [];
+        is = rw (
+          further-four v l h,
+          z,
+          a,
+          b,
+          le-ltb v 10 (omega arith),
+          le-ltb (v / 10) 10 (omega arith),
+          le-ltb (v / 10 / 10) 10 (omega arith),
+          lt-ltb (v / 10 / 10 / 10) 10 (omega arith),
+        ) refl;
+        few = lit≤ tt;
+      }
+
+  widened : v < 10000 → Widened base v
+  widened h = by-digits (λ v. Widened base v) v h one two three (λ l. all l h)
+
+  pub over-small : {o o' : List ℕ} (at w : ℕ) → v < 10000 → w ≡ v * getD scales (further 9 v) 0 → o' ≡ sets o at (four base w) → Over o at o' (number base v)
+  over-small at w h e f = let x = widened h in record { rest = x .rest; stored = f ∙ rw (e, x .is) refl; few = x .few }
+
+-- the four stores
+pub stored-four : (o : List ℕ) (at base w a b c d : ℕ) → w < 10000 → a ≡ 48 + w / 100 / 10 → b ≡ 48 + w / 100 % 10 → c ≡ 48 + w % 100 / 10 → d ≡ 48 + w % 100 % 10
+    → set (set (set (set o at (base + a - 48)) (at + 1) b) (at + 2) c) (at + 3) d ≡ sets o at (four base w)
+unfolding four
+stored-four o at base w a b c d h e f g k =
+    let a₁ : base + a - 48 ≡ base + w / 1000 = omega arith in
+    let c₁ : c ≡ 48 + w / 10 % 10 = omega arith in
+    let d₁ : d ≡ 48 + w % 10 = omega arith in
+    let i : at + 1 ≡ suc at = add-one at in
+    let j : at + 2 ≡ suc (suc at) = omega arith in
+    let l : at + 3 ≡ suc (suc (suc at)) = omega arith in
+    rw (a₁, f, c₁, d₁, i, j, l) refl
+
+-- ---- what is stored over
+
+sets-over : (l : List ℕ) (i : ℕ) (a b : List ℕ) → length a ≤ length b → sets (sets l i a) i b ≡ sets l i b
+sets-over l i [] b h = refl
+sets-over l i (v ∷ a) [] h = absurd (not-suc-le-zero h)
+sets-over l i (v ∷ a) (w ∷ b) h =
+    ap (λ (x : List ℕ). sets x (suc i) b) (set-sets (set l i v) (suc i) i w a (omega arith) ∙ ap (λ (x : List ℕ). sets x (suc i) a) (set-set l i v w))
+    ∙ sets-over (set l i w) (suc i) a b (le-of-suc-le-suc h)
+
+pub ahead-over : {x o o' : List ℕ} {n at : ℕ} {g : List ℕ} (s : List ℕ) → Over o at o' g → 3 ≤ length s → Ahead x n o at (g ++ s) → Ahead x n o' (at + length g) s
+ahead-over {o = o} {at = at} {g = g} s v l a =
+    let few = v .few in
+    record {
+      whole = rw (v .stored, sets-append o at g (v .rest), sets-over (sets o at g) (at + length g) (v .rest) s (omega arith)) (sym (sets-append o at g s) ∙ a .whole);
+      ends = omega (arith, a .ends, length-append g s);
+    }
+
+-- ---- the lead
+
+module _ (p y : ℕ) where
+  pub lead-down : y < p → 105 ≡ lead-of p y
+  unfolding lead-of
+  lead-down h = rw (lt-ltb y p h) refl
+
+  pub lead-same : y ≡ p → 37 ≡ lead-of p y
+  unfolding lead-of
+  lead-same e = rw (le-ltb y p (omega arith), eq-eqb y p e) refl
+
+  pub lead-up : p < y → 73 ≡ lead-of p y
+  unfolding lead-of
+  lead-up h = rw (le-ltb y p (omega arith), ne-eqb y p (λ e. omega arith)) refl
