@@ -268,6 +268,19 @@ uint64_t c_write_form_unchecked(uint64_t form, int64_t first, int64_t last, size
     return 0;
 }
 
+uint64_t c_text_length(uint64_t form, int64_t first, int64_t last, size_t points, const int32_t *ordinates, size_t n,
+                       uint8_t *text, size_t room, uint64_t *length)
+{
+    (void)text, (void)room;
+    *length = 0;
+    if (form > FORM_SQZ)
+        return UINT64_MAX;
+    uint64_t number = judge_table(first, last, points, n);
+    if (!number)
+        *length = measure(form, &(struct frame){first, last, (int64_t)points}, ordinates);
+    return number;
+}
+
 uint64_t c_write_table(int64_t first, int64_t last, size_t points, const int32_t *ordinates, size_t n, uint8_t *text,
                        size_t room, uint64_t *length)
 {
