@@ -3,7 +3,8 @@
  *     measure FUNCTION TEXTS TIMES    runs one so many times; ./bench counts 2k times less k, so that all else cancels
  *     measure time TEXTS FUNCTION..   times each beside the others: nanoseconds a byte, least and median of nine
  *     measure size TEXTS              the bytes and the points
- *     measure store TEXTS FOLDER      stores the texts as FOLDER/0, FOLDER/1 ..
+ *     measure store TEXTS FOLDER      stores the texts as FOLDER/0, FOLDER/1 .., and the ordinates as FOLDER/0.ordinates ..
+ *     measure answer FILE             reads a file of at most 100 points, and prints its ordinates or why it is refused
  * TEXTS is (typical|quiet|noisy|file|compound)[-POINTS][.AFFN|.PAC|.SQZ], plain[-POINTS], labels-BYTES or blocks-BYTES;
  * *8 after it makes eight different ones, each taken in its turn, so that no processor learns one by heart.
  */
@@ -345,18 +346,61 @@ static void time_functions(struct texts *texts, char **names, size_t count)
     }
 }
 
-/* Stores the texts in a folder. */
+/* Opens FOLDER/K and an ending. */
+static FILE *open_text(const char *folder, size_t k, const char *ending)
+{
+    char path[4096];
+    snprintf(path, sizeof path, "%s/%zu%s", folder, k, ending);
+    FILE *file = fopen(path, "wb");
+    if (!file)
+        die("cannot write", path);
+    return file;
+}
+
+/* Stores the texts in a folder, and the ordinates of each, one on a line, `?` for a missing one. */
 static void store(const struct texts *texts, const char *folder)
 {
     for (size_t k = 0; k < texts->count; k++) {
-        char path[4096];
-        snprintf(path, sizeof path, "%s/%zu", folder, k);
-        FILE *file = fopen(path, "wb");
         const struct table *t = texts->tables[k];
+        if (!t)
+            die("there are no tables to store in", folder);
         const struct file text = texts->files[k].length ? texts->files[k] : (struct file){t->length, t->body};
-        if (!file || fwrite(text.bytes, 1, text.length, file) != text.length || fclose(file))
-            die("cannot write", path);
+        FILE *file = open_text(folder, k, "");
+        fwrite(text.bytes, 1, text.length, file);
+        if (fclose(file))
+            die("cannot write", folder);
+        file = open_text(folder, k, ".ordinates");
+        for (size_t i = 0; i < t->points; i++)
+            if (t->ordinates[i] == LASTARUNC_MISSING)
+                fprintf(file, "?\n");
+            else
+                fprintf(file, "%d\n", (int)t->ordinates[i]);
+        if (fclose(file))
+            die("cannot write", folder);
     }
+}
+
+/* Prints what the library answers for a file. */
+static void answer(const char *path)
+{
+    static uint8_t bytes[LASTARUNC_MOST_BYTES];
+    int32_t y[100];
+    struct lastarunc_file answer;
+    FILE *file = fopen(path, "rb");
+    if (!file)
+        die("cannot read", path);
+    size_t length = fread(bytes, 1, sizeof bytes, file);
+    fclose(file);
+    if (lastarunc_read_file(bytes, length, y, 100, &answer)) {
+        printf("refused %d, line %d, column %d\n", (int)answer.refused, (int)answer.line, (int)answer.column);
+        return;
+    }
+    for (int i = 0; i < answer.points; i++)
+        if (y[i] == LASTARUNC_MISSING)
+            printf("%s?", i ? " " : "");
+        else
+            printf("%s%d", i ? " " : "", (int)y[i]);
+    printf("\n");
 }
 
 int main(int argc, char **argv)
@@ -366,6 +410,8 @@ int main(int argc, char **argv)
         printf("%zu %zu\n", texts->bytes, texts->points);
     } else if (argc == 4 && !strcmp(argv[1], "store")) {
         store(make_texts(argv[2]), argv[3]);
+    } else if (argc == 3 && !strcmp(argv[1], "answer")) {
+        answer(argv[2]);
     } else if (argc >= 4 && !strcmp(argv[1], "time")) {
         time_functions(make_texts(argv[2]), argv + 3, (size_t)argc - 3);
     } else if (argc == 4) {
@@ -373,7 +419,7 @@ int main(int argc, char **argv)
         run(function_of(argv[1]), texts, atol(argv[3]));
         look(function_of(argv[1]), texts);
     } else {
-        die("FUNCTION TEXTS TIMES, time TEXTS FUNCTION.., size TEXTS or", "store TEXTS FOLDER");
+        die("FUNCTION TEXTS TIMES, time TEXTS FUNCTION.., size TEXTS, store TEXTS FOLDER or", "answer FILE");
     }
     return 0;
 }
