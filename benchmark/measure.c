@@ -3,7 +3,7 @@
  *     measure FUNCTION TEXTS TIMES    runs one so many times; ./bench counts 2k times less k, so that all else cancels
  *     measure time TEXTS FUNCTION..   times each beside the others: nanoseconds a byte, least and median of nine
  *     measure size TEXTS              the bytes and the points
- *     measure store TEXTS FOLDER      stores the texts as FOLDER/0, FOLDER/1 .., and the ordinates as FOLDER/0.ordinates ..
+ *     measure store TEXTS FOLDER      stores the texts as FOLDER/0 .., and their ordinates as FOLDER/0.ordinates ..
  *     measure answer FILE             reads a file of at most 100 points, and prints its ordinates or why it is refused
  * TEXTS is (typical|quiet|noisy|file|compound)[-POINTS][.AFFN|.PAC|.SQZ], plain[-POINTS], labels-BYTES or blocks-BYTES;
  * *8 after it makes eight different ones, each taken in its turn, so that no processor learns one by heart.

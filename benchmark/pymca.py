@@ -1,7 +1,7 @@
 """PyMca's JCAMP-DX reader (Debian's python3-pymca5) beside the library, for benchmark/others:
 
-    pymca.py time FOLDER COUNT   reads the files FOLDER/0 .. in turn; nanoseconds a byte, the least and the median of nine,
-                                 and how many points are not those that the files were made from
+    pymca.py time FOLDER COUNT   reads the files FOLDER/0 .. in turn; nanoseconds a byte, the least and the median of
+                                 nine, and how many points are not those that the files were made from
     pymca.py answer FILE         reads a file, and prints its ordinates and what it logs
 """
 
