@@ -340,6 +340,12 @@ ALWAYS_INLINE uint64_t pass(const struct frame *f, struct text body, bool storin
                 continue;
             }
 
+            case BLANK: /* mostly one before a plain value: that is taken at once */
+                if (!is_digit(p, end))
+                    continue;
+                at = p;
+                entry = c_kinds[*p++];
+                /* fall through */
             case DIGIT:
                 if (!is_blank(at[-1]))
                     REFUSE_ON(5, at);
@@ -364,8 +370,6 @@ ALWAYS_INLINE uint64_t pass(const struct frame *f, struct text body, bool storin
             case MISSING:
                 value = MISSING_ORDINATE;
                 break;
-            case BLANK:
-                continue;
             case LF:
                 p = at;
                 goto line_ended;
