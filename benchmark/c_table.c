@@ -162,6 +162,75 @@ ALWAYS_INLINE bool in_range(int64_t y)
     return (uint64_t)(y + LARGEST_ORDINATE) <= 2 * (uint64_t)LARGEST_ORDINATE;
 }
 
+/* Where a row of differences has come to: the text, the ordinate before, what a DUP adds, whether one came last. */
+struct row {
+    const uint8_t *p;
+    int64_t y, step;
+    bool repeated;
+};
+
+/*
+ * Takes differences of a letter and at most three further digits, and DUPs of one letter after them, while five bytes
+ * are left, up to `most` points. A token is taken without a test for the end of the text and none of the range: from
+ * an ordinate that is FAR from its limits, ROW differences below 10,000 stay within it. The sign is taken without a
+ * jump, which no processor could foresee. Whatever is spelled in another way is left to the caller. Stores the
+ * ordinates if `out` is given; returns how many they are.
+ */
+ALWAYS_INLINE int64_t take_row(struct row *r, const uint8_t *end, int64_t most, int32_t *restrict out)
+{
+    enum { ROW = 80, FAR = 1000000 };
+    int64_t y = r->y, step = r->step, n = 0;
+    if (UNLIKELY(y < FAR - LARGEST_ORDINATE || y > LARGEST_ORDINATE - FAR))
+        return 0;
+    if (most > ROW)
+        most = ROW;
+    const uint8_t *p = r->p;
+    bool repeated = r->repeated;
+    while (n < most && end - p >= 5) {
+        unsigned v = (unsigned)(*p & 0xDF) - 'J', minus = *p >> 5 & 1, d;
+        if (v > 8) {
+            unsigned more = (unsigned)*p - 'S'; /* how many points a DUP adds */
+            if (more - 1 > 6 || repeated || (unsigned)p[1] - '0' <= 9 || (int64_t)more > most - n
+                || (uint64_t)(step + 9999) > 2 * 9999)
+                break;
+            if (out)
+                for (unsigned k = 0; k < more; k++)
+                    out[n + k] = (int32_t)(y += step);
+            else
+                y += (int64_t)more * step;
+            n += more;
+            p++;
+            repeated = true;
+            continue;
+        }
+        v++;
+        unsigned length = 1;
+        if ((d = (unsigned)p[1] - '0') <= 9) {
+            v = 10 * v + d;
+            length = 2;
+            if ((d = (unsigned)p[2] - '0') <= 9) {
+                v = 10 * v + d;
+                length = 3;
+                if ((d = (unsigned)p[3] - '0') <= 9) {
+                    v = 10 * v + d;
+                    length = 4;
+                    if ((unsigned)p[4] - '0' <= 9)
+                        break;
+                }
+            }
+        }
+        p += length;
+        step = (int32_t)((v ^ -minus) + minus);
+        y += step;
+        if (out)
+            out[n] = (int32_t)y;
+        n++;
+        repeated = false;
+    }
+    *r = (struct row){p, y, step, repeated};
+    return n;
+}
+
 /* Goes over a body once, judges it, and stores its ordinates if asked to. The answer is that of c_read_table. */
 ALWAYS_INLINE uint64_t pass(const struct frame *f, struct text body, bool storing, int32_t *restrict out,
                             uint64_t *place)
@@ -225,7 +294,16 @@ ALWAYS_INLINE uint64_t pass(const struct frame *f, struct text body, bool storin
                     REFUSE_ON(dif_is_spelled(at, end) ? 8 : 5, at);
                 form = SLOPE;
                 repeated = false;
-                for (;; at = p++) { /* differences mostly come in rows: they have a loop of their own */
+                for (p = at;;) { /* differences mostly come in rows: they have loops of their own */
+                    struct row r = {p, y, step, repeated};
+                    i += take_row(&r, end, points - i, storing ? out + i : NULL);
+                    p = r.p;
+                    y = r.y;
+                    step = r.step;
+                    repeated = r.repeated;
+                    if (p == end || !is_dif(entry = c_kinds[*p]))
+                        break;
+                    at = p++;
                     value = (int64_t)digits(&p, end, entry & 15);
                     if (UNLIKELY(p - at > 10 || (entry == K(DIF, 0) && p - at > 1)))
                         REFUSE_ON(5, at);
@@ -238,8 +316,7 @@ ALWAYS_INLINE uint64_t pass(const struct frame *f, struct text body, bool storin
                     if (storing)
                         out[i] = (int32_t)y;
                     i++;
-                    if (p == end || !is_dif(entry = c_kinds[*p]))
-                        break;
+                    repeated = false;
                 }
                 continue;
 
@@ -263,6 +340,12 @@ ALWAYS_INLINE uint64_t pass(const struct frame *f, struct text body, bool storin
                 continue;
             }
 
+            case BLANK: /* mostly one before a plain value: that is taken at once */
+                if (!is_digit(p, end))
+                    continue;
+                at = p;
+                entry = c_kinds[*p++];
+                /* fall through */
             case DIGIT:
                 if (!is_blank(at[-1]))
                     REFUSE_ON(5, at);
@@ -287,8 +370,6 @@ ALWAYS_INLINE uint64_t pass(const struct frame *f, struct text body, bool storin
             case MISSING:
                 value = MISSING_ORDINATE;
                 break;
-            case BLANK:
-                continue;
             case LF:
                 p = at;
                 goto line_ended;

@@ -47,6 +47,9 @@ typedef uint64_t form_writer(uint64_t form, int64_t first, int64_t last, size_t 
 form_writer c_write_form;
 form_writer c_write_form_unchecked;
 
+/* c_write_form's first pass alone: *length is what the text would have; text and room are not used. */
+form_writer c_text_length;
+
 /* What a byte is: its kind in the high four bits, its digit in the low four. */
 enum kind { DIGIT, SQZ, SQZ_MINUS, DIF, DIF_MINUS, DUP, MISSING, PLUS, MINUS, BLANK, LF, CR, DOLLAR, POINT, OUTSIDE };
 extern const uint8_t c_kinds[256];

@@ -13,6 +13,12 @@ static inline int64_t digits(const uint8_t **p, const uint8_t *end, int64_t lead
     return lead;
 }
 
+/* The value or, if minus is 1, its negative, without a jump: no processor can foresee the sign of a difference. */
+static inline int64_t signed_by(int64_t value, int64_t minus)
+{
+    return (value ^ -minus) + minus;
+}
+
 /* The end of the line's comment: the place of the next LF, or the end. */
 static const uint8_t *comment_end(const uint8_t *p, const uint8_t *end)
 {
@@ -49,14 +55,41 @@ uint64_t c_read_table_unchecked(int64_t first, int64_t last, size_t points, cons
         p++;
         switch (entry >> 4) {
         case DIF:
-            step = digits(&p, end, entry & 15);
-            *out++ = (int32_t)(y += step);
-            slope = true;
-            continue;
         case DIF_MINUS:
-            step = -digits(&p, end, entry & 15);
+            step = signed_by(digits(&p, end, entry & 15), entry >> 4 == DIF_MINUS);
             *out++ = (int32_t)(y += step);
             slope = true;
+            /* Differences mostly come in rows: those with at most three further digits, and DUPs of one letter. */
+            while (end - p >= 5) {
+                unsigned v = (unsigned)(*p & 0xDF) - 'J', minus = *p >> 5 & 1, length = 1, d;
+                if (v > 8) {
+                    unsigned more = (unsigned)*p - 'S'; /* how many points a DUP adds */
+                    if (more - 1 > 6 || (unsigned)p[1] - '0' <= 9)
+                        break;
+                    for (; more; more--)
+                        *out++ = (int32_t)(y += step);
+                    p++;
+                    continue;
+                }
+                v++;
+                if ((d = (unsigned)p[1] - '0') <= 9) {
+                    v = 10 * v + d;
+                    length = 2;
+                    if ((d = (unsigned)p[2] - '0') <= 9) {
+                        v = 10 * v + d;
+                        length = 3;
+                        if ((d = (unsigned)p[3] - '0') <= 9) {
+                            v = 10 * v + d;
+                            length = 4;
+                            if ((unsigned)p[4] - '0' <= 9)
+                                break;
+                        }
+                    }
+                }
+                p += length;
+                step = signed_by(v, minus);
+                *out++ = (int32_t)(y += step);
+            }
             continue;
         case DUP:
             for (int64_t more = digits(&p, end, entry & 15) - 1; more > 0; more--)

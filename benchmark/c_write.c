@@ -71,6 +71,51 @@ static unsigned put_head(const struct frame *f, int64_t i, uint8_t *to)
     return minus + n + (places ? places + 1 : 0);
 }
 
+/* Puts v, which is below 10,000, at `to`, the first digit by a row of pseudo-digits; returns how many it has. */
+ALWAYS_INLINE unsigned put_small(uint8_t *to, uint32_t v, const char *row)
+{
+    if (v < 10) {
+        to[0] = (uint8_t)row[v];
+        return 1;
+    }
+    if (v < 100) {
+        to[0] = (uint8_t)row[v / 10];
+        to[1] = (uint8_t)('0' + v % 10);
+        return 2;
+    }
+    if (v < 1000) {
+        to[0] = (uint8_t)row[v / 100];
+        memcpy(to + 1, pairs + 2 * (v % 100), 2);
+        return 3;
+    }
+    to[0] = (uint8_t)row[v / 1000];
+    to[1] = (uint8_t)('0' + v / 100 % 10);
+    memcpy(to + 2, pairs + 2 * (v % 100), 2);
+    return 4;
+}
+
+/*
+ * Lays out the differences from *next on that are below 10,000 and are not repeated, while four bytes more fit in the
+ * line and another point follows, and stores them if asked to; returns the place after them. Where nothing is stored
+ * their digits are counted without a jump. Whatever else comes is left to the caller.
+ */
+ALWAYS_INLINE size_t put_row(const int32_t **next, const int32_t *end, uint8_t *text, size_t at, size_t full,
+                             bool storing)
+{
+    const int32_t *q = *next;
+    int64_t value = (int64_t)q[0] - q[-1];
+    for (; end - q >= 2 && at + 4 <= full; q++) {
+        int64_t after = (int64_t)q[1] - q[0];
+        uint32_t v = magnitude(value);
+        if ((uint64_t)(value + 9999) > 2 * 9999 || value == after || *q == MISSING_ORDINATE)
+            break;
+        at += storing ? put_small(text + at, v, dif[value < 0]) : 1u + (v >= 10) + (v >= 100) + (v >= 1000);
+        value = after;
+    }
+    *next = q;
+    return at;
+}
+
 /* Lays out the whole text in DIFDUP form, stores it if asked to, and returns its length. */
 ALWAYS_INLINE size_t lay_out_difdup(const struct frame *f, const int32_t *restrict y, bool storing,
                                     uint8_t *restrict text)
@@ -93,6 +138,12 @@ ALWAYS_INLINE size_t lay_out_difdup(const struct frame *f, const int32_t *restri
             form = PLAIN;
         }
         while (next < end) {
+            if (form != GAP) {
+                const int32_t *before = next;
+                at = put_row(&next, end, text, at, full, storing);
+                if (next != before)
+                    form = SLOPE;
+            }
             const int32_t *after = next + 1; /* the point after the group */
             const char *row = "?";
             int64_t value = 0;
@@ -266,6 +317,19 @@ uint64_t c_write_form_unchecked(uint64_t form, int64_t first, int64_t last, size
     struct frame f = {first, last, (int64_t)points};
     *length = put_text(form, &f, ordinates, text);
     return 0;
+}
+
+uint64_t c_text_length(uint64_t form, int64_t first, int64_t last, size_t points, const int32_t *ordinates, size_t n,
+                       uint8_t *text, size_t room, uint64_t *length)
+{
+    (void)text, (void)room;
+    *length = 0;
+    if (form > FORM_SQZ)
+        return UINT64_MAX;
+    uint64_t number = judge_table(first, last, points, n);
+    if (!number)
+        *length = measure(form, &(struct frame){first, last, (int64_t)points}, ordinates);
+    return number;
 }
 
 uint64_t c_write_table(int64_t first, int64_t last, size_t points, const int32_t *ordinates, size_t n, uint8_t *text,

@@ -74,7 +74,7 @@ static struct table *table_of(const struct spectrum *s, uint64_t seed, size_t po
 {
     struct table *t = memory(sizeof *t);
     const size_t room = 34 * points + 24;
-    *t = (struct table){s->name, form, 0, 200 * ((int64_t)points - 1), points, 0, memory(points * sizeof(int32_t)),
+    *t = (struct table){form, 0, 200 * ((int64_t)points - 1), points, 0, memory(points * sizeof(int32_t)),
                         memory(room)};
     make_ordinates(s, seed, t->ordinates, points);
     uint64_t length;
@@ -88,7 +88,7 @@ static struct table *table_of(const struct spectrum *s, uint64_t seed, size_t po
 static struct table *plain_table(uint64_t seed, size_t points)
 {
     struct table *t = memory(sizeof *t);
-    *t = (struct table){"plain", FORM_AFFN, 0, 200 * ((int64_t)points - 1), points, 0, memory(points * sizeof(int32_t)),
+    *t = (struct table){FORM_AFFN, 0, 200 * ((int64_t)points - 1), points, 0, memory(points * sizeof(int32_t)),
                         memory(40 * points + 40)};
     char *p = (char *)t->body;
     for (size_t i = 0; i < points; i++) {
@@ -113,25 +113,38 @@ static uint64_t form_of(const char *name)
     return form;
 }
 
-struct table *make_table(const char *name, uint64_t turn)
+/* The points that a table's name asks for: those after `-`, or 65,536. */
+static size_t points_of(const char *name)
 {
     const char *dash = strchr(name, '-');
-    size_t letters = strcspn(name, "-."), points = dash ? strtoul(dash + 1, NULL, 10) : 65536;
+    return dash ? strtoul(dash + 1, NULL, 10) : 65536;
+}
+
+struct table *make_table(const char *name, uint64_t turn)
+{
+    size_t letters = strcspn(name, "-.");
     uint64_t form = form_of(name);
     if (form == FORM_DIFDUP && !strncmp(name, "plain", letters))
-        return plain_table(2026 + turn, points);
+        return plain_table(2026 + turn, points_of(name));
     for (size_t k = 0; k < sizeof spectra / sizeof *spectra; k++)
         if (form <= FORM_SQZ && strlen(spectra[k].name) == letters && !strncmp(name, spectra[k].name, letters))
-            return table_of(&spectra[k], 1981 + k + 100 * turn, points, form);
+            return table_of(&spectra[k], 1981 + k + 100 * turn, points_of(name), form);
     return NULL;
 }
 
-struct table *make_file_table(size_t points)
+struct table *make_file_table(const char *name, uint64_t turn)
 {
-    return table_of(&spectra[0], 63, points, FORM_DIFDUP);
+    return form_of(name) <= FORM_SQZ ? table_of(&spectra[0], 63 + 100 * turn, points_of(name), form_of(name)) : NULL;
 }
 
-uint8_t *make_file(size_t points, size_t *length)
+/* Puts a text at a place of the file; the place after it. */
+static size_t put_text(uint8_t *file, size_t at, const char *text)
+{
+    memcpy(file + at, text, strlen(text));
+    return at + strlen(text);
+}
+
+struct file make_file(const struct table *t)
 {
     static const char *const before[] = {
         "TITLE=drift time spectrum, synthetic", "JCAMP-DX=5.01", "DATA TYPE=ION MOBILITY SPECTRUM",
@@ -143,18 +156,31 @@ uint8_t *make_file(size_t points, size_t *length)
         ".REPETITION RATE=50", ".DRIFT CHAMBER=12", ".AVERAGES=64", ".TEMPERATURE=20", "RESOLUTION=0.02", "DELTAX=0.02",
         "XUNITS=MILLISECONDS", "YUNITS=PICOAMPERES",
     };
-    struct table *t = make_file_table(points);
     char *file = memory(t->length + 8192), *p = file;
     for (size_t k = 0; k < sizeof before / sizeof *before; k++)
         p += sprintf(p, "##%s\r\n", before[k]);
     p += sprintf(p, "##XFACTOR=0.1\r\n##YFACTOR=1\r\n##FIRSTX=0\r\n##LASTX=%.2f\r\n##NPOINTS=%zu\r\n##FIRSTY=%d\r\n",
-                 0.02 * ((double)points - 1), points, t->ordinates[0]);
+                 0.02 * ((double)t->points - 1), t->points, t->ordinates[0]);
     p += sprintf(p, "##XYDATA=(X++(Y..Y))\r\n");
     memcpy(p, t->body, t->length);
     p += t->length;
     p += sprintf(p, "##END=\r\n");
-    *length = (size_t)(p - file);
-    return (uint8_t *)file;
+    return (struct file){(size_t)(p - file), (uint8_t *)file};
+}
+
+struct file make_compound(const char *name, uint64_t turn)
+{
+    struct file file = {0, memory(MOST_BYTES)};
+    file.length = put_text(file.bytes, 0, "##TITLE=eight spectra\r\n##DATA TYPE=LINK\r\n##BLOCKS=8\r\n");
+    for (uint64_t k = 0; k < COMPOUND_BLOCKS; k++) {
+        struct file block = make_file(make_file_table(name, turn + k));
+        if (file.length + block.length + 8 > MOST_BYTES)
+            exit(2);
+        memcpy(file.bytes + file.length, block.bytes, block.length);
+        file.length += block.length;
+    }
+    file.length = put_text(file.bytes, file.length, "##END=\r\n");
+    return file;
 }
 
 /* Fills file[at] up to file[end] with short different labels that begin alike, as many as fit; the place after them. */
@@ -174,23 +200,16 @@ static size_t put_labels(uint8_t *file, size_t at, size_t end)
     return at;
 }
 
-/* Puts a text at a place of the file; the place after it. */
-static size_t put_text(uint8_t *file, size_t at, const char *text)
-{
-    memcpy(file + at, text, strlen(text));
-    return at + strlen(text);
-}
-
-uint8_t *make_labels(size_t length)
+struct file make_labels(size_t length)
 {
     uint8_t *file = memory(length);
     memset(file, '\n', length);
     size_t at = put_text(file, 0, "##TITLE=\n");
     put_text(file, put_labels(file, at, length - 6), "##END=");
-    return file;
+    return (struct file){length, file};
 }
 
-uint8_t *make_blocks(size_t length)
+struct file make_blocks(size_t length)
 {
     uint8_t *file = memory(length);
     memset(file, '\n', length);
@@ -202,5 +221,5 @@ uint8_t *make_blocks(size_t length)
     for (int depth = 2; depth < 8; depth++)
         at = put_text(file, at, "##END=\n");
     put_text(file, put_labels(file, at, length - 6), "##END=");
-    return file;
+    return (struct file){length, file};
 }
