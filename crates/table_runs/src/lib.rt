@@ -90,15 +90,22 @@ fn run_end(points: usize, k: usize) -> usize
     points
 }
 
-// May a run begin here: a letter or `%` stands there, room for a short difference, and an ordinate far from both ends?
+// Does a difference begin with the byte b? Where none does, a run need not be tried.
+fn begins(b: u64) -> bool {
+    if b == PERCENT {
+        return true;
+    }
+    let letter = b - b / 32 % 2 * 32;
+    letter >= 74 && letter <= 82
+}
+
+// May a run begin here: a difference stands there, room for a short one, and an ordinate far from both ends?
 fn roomy(s: &[u8], c: Cur) -> bool
     ensures { λ r. ⌜ Roomy (now (s .entry)) c r ⌝ }
 {
     let b = standing(s, c.at);
-    if b < 64 {
-        if b != PERCENT {
-            return false;
-        }
+    if !begins(b) {
+        return false;
     }
     if s.len() < ROOM {
         return false;
