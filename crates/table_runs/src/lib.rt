@@ -27,16 +27,16 @@ const PERCENT: u64 = 37;
 // So many bytes hold a difference of four digits, and what stands after it.
 const ROOM: usize = 5;
 
-// So many differences are taken in one run, so that none leads out of range: each is below ten thousand.
+// So many points are taken in one run, so that none is out of range: each difference is below ten thousand.
 const MOST: usize = 80;
 
 // So far from the least and the largest ordinate a run begins.
 const FAR: u64 = 1000000;
 
-// Four thousand million and more: FAR below the first number past the ordinates.
+// FAR below the first number past the ordinates, 2^32.
 const HIGH: u64 = 4293967296;
 
-// No short value stands at this place.
+// What is answered where no short value stands: the place itself.
 fn nothing(at: usize, b: u64) -> Run
     ensures { λ r. ⌜ r ≡ record { v = 0; at = at; b = b } ⌝ }
 {
@@ -63,7 +63,7 @@ fn zero_difference(s: &[u8], at: usize, b: u64) -> Run
     }
 }
 
-// The difference at a place, which begins with the byte b, if it has at most four digits: its number and the place after it. J to R and j to r are one apart from each other but for 32.
+// The difference at a place, which begins with the byte b, if it has at most four digits: its number and the place after it. A small letter is 32 above the capital, which is taken off: one test for both.
 fn short(s: &[u8], at: usize, b: u64) -> Run
     requires { ⌜ (at + 5 ≤ length (now s)) × (b ≡ standing (now s) at) ⌝ }
     ensures { λ r. ⌜ Short (now (s .entry)) at b r ⌝ }

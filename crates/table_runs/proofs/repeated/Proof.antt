@@ -64,11 +64,11 @@ turned-requires c κs = rw (c .apart .ensures) (turns (c .before))
 
 repeat-requires : tie.Need-repeat-requires
 repeat-requires c κs =
-    let u = c .before in let e = u .before .before in let a = start e .args in let f = start e .pre .0 in let m = f .safe .most in let g = f .left in let k = e .if3 .left in (
+    let u = c .before in let e = u .before .before in let a = start e .args in let f = start e .pre .0 in let m = f .safe .most in let g = f .left in let k = e .if3 .left in
+    let x = dup-stepped _ f _ (fresh e) (some e) k (rw (u .before .apart .ensures) at (u .turned .ensures)) .shifts .inside in (
       omega arith,
       turns e .1,
-      rw (u .before .apart .ensures)
-          (reaches (ltb (a .w .q) (a .w .before)) (apart (a .w .before) (a .w .q)) _ (a .w .q) (dup-stepped _ f _ (fresh e) (some e) k (rw (u .before .apart .ensures) at (u .turned .ensures)) .shifts .inside)),
+      rw (u .before .apart .ensures) (reaches (ltb (a .w .q) (a .w .before)) (apart (a .w .before) (a .w .q)) _ (a .w .q) x),
     )
 
 add-t17 : tie.Need-add-t17
