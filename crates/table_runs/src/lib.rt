@@ -63,7 +63,7 @@ fn zero_difference(s: &[u8], at: usize, b: u64) -> Run
     }
 }
 
-// The difference at a place, which begins with the byte b, if it has at most four digits: its number and the place after it. A small letter is 32 above the capital, which is taken off: one test for both.
+// The difference at a place, which begins with the byte b, if it has at most four digits: its number and the place after it. A small letter is 32 above its capital: one test for both.
 fn short(s: &[u8], at: usize, b: u64) -> Run
     requires { ⌜ (at + 5 ≤ length (now s)) × (b ≡ standing (now s) at) ⌝ }
     ensures { λ r. ⌜ Short (now (s .entry)) at b r ⌝ }
