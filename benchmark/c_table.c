@@ -231,6 +231,43 @@ ALWAYS_INLINE int64_t take_row(struct row *r, const uint8_t *end, int64_t most, 
     return n;
 }
 
+/*
+ * Takes the ordinate of its own at *at, blanks before it passed over: AFFN, PAC or SQZ, of at most ten digits and within
+ * the range. Whatever is spelled in another way, and the text's last bytes, are left to the caller.
+ */
+ALWAYS_INLINE bool take_own(const uint8_t **at, const uint8_t *end, int64_t *value)
+{
+    const uint8_t *p = *at;
+    while (p < end && is_blank(*p))
+        p++;
+    if (end - p < 12)
+        return false;
+    unsigned byte = *p, d;
+    if ((d = byte - '0') <= 9) {
+        if (!is_blank(p[-1]))
+            return false;
+    } else if ((d = (byte & 0xDF) - 'A') <= 8) {
+        d++;
+    } else if (byte == '+' || byte == '-') {
+        if ((d = (unsigned)*++p - '0') > 9)
+            return false;
+    } else {
+        return false;
+    }
+    int64_t v = d;
+    p++;
+    for (int left = 9; (d = (unsigned)*p - '0') <= 9; p++) {
+        if (left-- == 0)
+            return false;
+        v = 10 * v + d;
+    }
+    if (v > LARGEST_ORDINATE)
+        return false;
+    *value = byte == '-' || byte >= 'a' ? -v : v;
+    *at = p;
+    return true;
+}
+
 /* Goes over a body once, judges it, and stores its ordinates if asked to. The answer is that of c_read_table. */
 ALWAYS_INLINE uint64_t pass(const struct frame *f, struct text body, bool storing, int32_t *restrict out,
                             uint64_t *place)
@@ -402,6 +439,11 @@ ALWAYS_INLINE uint64_t pass(const struct frame *f, struct text body, bool storin
             y = value;
             form = gap ? GAP : PLAIN;
             repeated = false;
+            while (!gap && i < points && take_own(&p, end, &y)) { /* such values come in rows too */
+                if (storing)
+                    out[i] = (int32_t)y;
+                i++;
+            }
         }
     line_ended:
         if (form == NONE)

@@ -2,10 +2,11 @@
 use mathlib.Core.Path.{_≡_, refl, sym, ap, _∙_}
 use mathlib.Core.Bool.{true, false}
 use mathlib.Core.List.{List}
-use Prim.Native.Nat.{ℕ, suc, _+_, _-_, _*_, _^_, _≤_, _<_}
+use mathlib.Core.Logic.{_⊎_, ⊎-elim}
+use Prim.Native.Nat.{ℕ, zero, suc, _+_, _-_, _*_, _^_, _≤_, _<_}
 use native.Mathlib.Omega.{arith}
 use native.Mathlib.Numerals.{add-one}
-use native.Mathlib.Nat.{add-zero, zero-add, add-suc, suc-add, pow-suc, pow-le-pow-right, mul-le-mul-left, mul-assoc}
+use native.Mathlib.Nat.{add-zero, zero-add, add-suc, suc-add, pow-suc, pow-zero, pow-le-pow-right, mul-one, mul-le-mul-left, mul-le-mul-right, mul-assoc}
 use lib.Dec.{ltb, lit<}
 use lib.ListN.{length, drop}
 use borrow.Author.Tests.{ltb-true, ltb-false}
@@ -15,6 +16,13 @@ use Rattle.alphabet_spec.specs.Entries.{entryAt}
 use Rattle.alphabet_spec.specs.EntryLaws.{entry-in}
 use Rattle.alphabet_spec.specs.DigitLaws.{digits-stop, digits-on, digit-at}
 use Rattle.alphabet.specs.Standing.{standing, within-in, digit-stands, digit-stands-not}
+
+-- where a run of at most `most` digits from the place i on ends at the latest, in a text of n bytes
+pub record RunEnd (n i most j : ℕ) : Type 0 where
+  pub low : i ≤ j
+  pub high : j ≤ n
+  pub few : j ≤ i + most
+  pub is : j ≡ n ⊎ j ≡ i + most
 
 -- reading on from the place i with the number v is reading on from the place j with the number w, after j - i more digits
 abbrev pub Onward : List ℕ → ℕ → ℕ → ℕ → ℕ → Type 0
@@ -127,24 +135,39 @@ taken {s} {j = j} {b = b} r g t k m =
 pub ended : {s : List ℕ} {i v most w j b : ℕ} → Running s i v most w j → b ≡ standing s j → within 48 10 b ≡ false → Ran s i v most w j (entryAt s j)
 ended {s} {j = j} r g t = stop r refl (λ h. absurd (let x = digit-stands-not s j (rw g at t) in omega arith))
 
+-- as far as it may go at the latest: where the text ends no digit stands
+pub run-out : {s : List ℕ} {i v most w j : ℕ} → Running s i v most w j → RunEnd (length s) i most j → Ran s i v most w j (entryAt s j)
+run-out {s} {j = j} r e =
+    stop r refl (λ h. ⊎-elim (λ x. let y = entry-in s j (λ z. omega arith) in absurd (omega arith)) (λ x. x) (e .is))
+
 -- ---- a short run
 
 -- a run that ended by itself is one under any limit that it keeps
 pub ran-within : {s : List ℕ} {i v most w j e : ℕ} (n : ℕ) → Ran s i v most w j e → 16 ≤ e → j ≤ i + n → Ran s i v n w j e
 ran-within n r l h = record { low = r .low; high = r .high; few = h; stands = r .stands; below = r .below; all = r .all; full = λ x. absurd (omega arith); onward = r .onward }
 
--- so many digits as there are bytes left hold every run
-pub ran-room : {s : List ℕ} {i v room w j : ℕ} (n : ℕ) → i + room ≡ length s → room ≤ n → Ran s i v room w j (entryAt s j) → Ran s i v n w j (entryAt s j)
-ran-room {s} {j = j} n e l r =
-    let f = r .few in
-    ran-within n r
-    (by-case (λ t. ltb (entryAt s j) 16 ≡ t → 16 ≤ entryAt s j) (ltb (entryAt s j) 16)
-    (λ _ h. let x = ltb-true (entryAt s j) 16 h in let y = r .full x in let z = entry-in s j (λ g. omega arith) in absurd (omega arith)) (λ _ h. ltb-false (entryAt s j) 16 h) refl)
-    (omega arith)
+power-sum : (m n : ℕ) → 10 ^ (m + n) ≡ 10 ^ m * 10 ^ n
+power-sum m zero = rw (add-zero m, pow-zero 10) (sym (mul-one (10 ^ m)))
+power-sum m (suc n) = rw (add-suc m n, pow-suc 10 (m + n), pow-suc 10 n, power-sum m n) (mul-assoc (10 ^ m) (10 ^ n) 10)
 
--- a smaller limit fits too
-pub fewer-fit : (v m n : ℕ) → m ≤ n → (v + 1) * 10 ^ n ≤ 10000000000000000000 → (v + 1) * 10 ^ m ≤ 10000000000000000000
-fewer-fit v m n l h = let p : 10 ^ m ≤ 10 ^ n = pow-le-pow-right (lit< tt) l in let q = mul-le-mul-left (v + 1) p in omega arith
+-- a run that has come so far, and a further one from there on: one run of as many digits as both may have
+pub joined : {s : List ℕ} {i v most w j n x k e : ℕ} → Running s i v most w j → Ran s j w n x k e → j + n ≡ i + most → Ran s i v most x k e
+joined {s} {i} {v} {most} {w} {j} {n} {x} {k} {e} g r h =
+    let a = g .low in let b = r .low in let c = r .few in let y = r .below in let z = g .below in
+    let p : k - i ≡ (j - i) + (k - j) = omega arith in
+    let q = mul-le-mul-right (10 ^ (k - j)) z in
+    let t : (v + 1) * 10 ^ (k - i) ≡ (v + 1) * 10 ^ (j - i) * 10 ^ (k - j) = rw (p, power-sum (j - i) (k - j)) (sym (mul-assoc (v + 1) (10 ^ (j - i)) (10 ^ (k - j)))) in
+    record {
+      low = omega arith;
+      high = r .high;
+      few = omega arith;
+      stands = r .stands;
+      below = omega arith;
+      all = λ m l o. by-case (λ u. ltb m j ≡ u → entryAt s m < 16) (ltb m j) (λ _ d. g .all m l (ltb-true m j d)) (λ _ d. r .all m (ltb-false m j d) o) refl;
+      full = λ l. let d = r .full l in omega arith;
+      onward = λ m o. let u : m + (k - i) ≡ m + (k - j) + (j - i) = omega arith in let d : o + (k - i) ≡ o + (j - i) + (k - j) = omega arith in
+          rw (u, d) (g .onward (m + (k - j)) o ∙ r .onward m (o + (j - i)));
+    }
 
 -- at most three digits from the place i on, after the number v, which does not fall: the number w, the place j after them, and the byte b that stands there
 pub record Few (s : List ℕ) (i v w j b : ℕ) : Type 0 where

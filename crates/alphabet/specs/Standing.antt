@@ -31,6 +31,10 @@ pub stands-over : (s : List ℕ) (i : ℕ) → length s ≤ i → standing s i �
 unfolding standing
 stands-over s i h = rw (le-ltb i (length s) h) refl
 
+-- the byte b that stands within the text has its entry
+pub entry-stands : (s : List ℕ) (i : ℕ) {b : ℕ} → i < length s → b ≡ standing s i → entryAt s i ≡ entry b
+entry-stands s i h g = at-entry s i h ∙ rw (g, stands-in s i h) refl
+
 -- what holds of each byte and its entry, and of the end, holds of what stands at a place
 pub stood : (P : ℕ → ℕ → Type 0) → ((b : ℕ) → P b (entry b)) → P 256 256 → (s : List ℕ) (i : ℕ) → P (standing s i) (entryAt s i)
 stood P f e s i =

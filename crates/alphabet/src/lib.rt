@@ -5,7 +5,7 @@ ghost use Prim.Native.Nat.{_+_, _*_, _^_, _<_, _≤_};
 ghost use lib.ListN.{length};
 ghost use Rattle.alphabet_spec.specs.Entries.{«entry», entryAt};
 ghost use Rattle.alphabet.specs.Ranged.{«either»};
-ghost use Rattle.alphabet.specs.Ran.{Ran, Few};
+ghost use Rattle.alphabet.specs.Ran.{RunEnd, Ran, Few};
 ghost use Rattle.alphabet.specs.Standing.{«standing», blanking};
 ghost use Rattle.alphabet_spec.specs.Digits.{within};
 
@@ -155,29 +155,41 @@ pub fn entry_there(s: &[u8], at: usize) -> u64
     entry_at(s, at)
 }
 
-// The digits from a place on, after the number v: at most `most` of them are taken, and as many as there are up to that (01, "A digit run is always as long as it can be").
+// Where a run of so many digits ends at the latest, in a text of n bytes: at the end of the text, if that is nearer.
+fn run_end(n: usize, from: usize, most: usize) -> usize
+    requires { ⌜ from ≤ n ⌝ }
+    ensures { λ r. ⌜ RunEnd n from most r ⌝ }
+{
+    let room = n - from;
+    if room < most {
+        return n;
+    }
+    from + most
+}
+
+// The digits from a place on, after the number v: at most `most` of them are taken, and as many as there are up to that (01, "A digit run is always as long as it can be"). One test in the
+// loop holds both the limit and the end of the text.
 pub fn digits(s: &[u8], from: usize, v: u64, most: usize) -> Run
     requires { ⌜ (from ≤ length (now s)) × ((v + 1) * 10 ^ most ≤ 10000000000000000000) ⌝ }
     ensures { λ r. ⌜ Ran (now (s .entry)) from v most (r .v) (r .at) (entryAt (now (s .entry)) (r .at)) × (r .b ≡ standing (now (s .entry)) (r .at)) ⌝ }
 {
+    let end = run_end(s.len(), from, most);
     let mut w = v;
     let mut i = from;
-    let mut left = most;
-    let mut b = standing(s, i);
-    while is_digit(b) {
-        if left == 0 {
+    while i < end {
+        let b = standing_in(s, i);
+        if !is_digit(b) {
             return Run { v: w, at: i, b };
         }
-        left -= 1;
         w = w * 10 + (b - 48);
         i += 1;
-        b = standing(s, i);
     }
+    let b = standing(s, i);
     Run { v: w, at: i, b }
 }
 
-// The same where more bytes stand than may be taken: no end of the text is asked for.
-fn digits_in(s: &[u8], from: usize, v: u64, most: usize) -> Run
+// The same where more bytes stand than may be taken, for a limit that the compiler knows and unrolls the loop for: no end of the text is asked for.
+pub fn digits_in(s: &[u8], from: usize, v: u64, most: usize) -> Run
     requires { ⌜ (from + most < length (now s)) × ((v + 1) * 10 ^ most ≤ 10000000000000000000) ⌝ }
     ensures { λ r. ⌜ Ran (now (s .entry)) from v most (r .v) (r .at) (entryAt (now (s .entry)) (r .at)) × (r .b ≡ standing (now (s .entry)) (r .at)) ⌝ }
 {
@@ -195,18 +207,6 @@ fn digits_in(s: &[u8], from: usize, v: u64, most: usize) -> Run
         b = standing_in(s, i);
     }
     Run { v: w, at: i, b }
-}
-
-// The same, for a limit that the compiler knows and unrolls the loop for. Near the end of the text there are no more digits than bytes.
-pub fn digits_at(s: &[u8], from: usize, v: u64, most: usize) -> Run
-    requires { ⌜ (from ≤ length (now s)) × ((v + 1) * 10 ^ most ≤ 10000000000000000000) ⌝ }
-    ensures { λ r. ⌜ Ran (now (s .entry)) from v most (r .v) (r .at) (entryAt (now (s .entry)) (r .at)) × (r .b ≡ standing (now (s .entry)) (r .at)) ⌝ }
-{
-    let room = s.len() - from;
-    if room > most {
-        return digits_in(s, from, v, most);
-    }
-    digits(s, from, v, room)
 }
 
 // At most three digits from a place on, after the number v, where four bytes stand: without a loop, and no end of the text is asked for. The number does not fall.

@@ -10,7 +10,6 @@ use alphabet::KIND;
 use alphabet::PAST_DIGITS;
 use alphabet::PLUS;
 use alphabet::digits;
-use alphabet::digits_at;
 use alphabet::is_blank;
 use alphabet::is_digit;
 use alphabet::standing;
@@ -39,7 +38,7 @@ fn plain(s: &[u8], from: usize) -> NumberRead
     requires { ⌜ from ≤ length (now s) ⌝ }
     ensures { λ r. ⌜ Plain (now (s .entry)) from r ⌝ }
 {
-    let r = digits_at(s, from, 0, 10);
+    let r = digits(s, from, 0, 10);
     if is_digit(r.b) {
         return NumberRead::Misspelled;
     }

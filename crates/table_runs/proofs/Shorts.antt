@@ -9,18 +9,13 @@ use borrow.Author.Tests.{lt-leb, le-leb, leb-true, leb-false}
 use Rattle.terms.specs.Logic.{by-case, no-way}
 use Rattle.alphabet_spec.specs.Bytes.{kind}
 use Rattle.alphabet_spec.specs.Entries.{entry, entryAt}
-use Rattle.alphabet_spec.specs.EntryLaws.{at-entry}
 use Rattle.alphabet.specs.Ranged.{ruled}
-use Rattle.alphabet.specs.Standing.{standing, stands-in}
+use Rattle.alphabet.specs.Standing.{standing, entry-stands}
 use Rattle.alphabet.specs.Ran.{Ran, Few, start, stop, ran-within, ran-below}
 use Rattle.table_spec.specs.Values.{by, times}
 use Rattle.table_numbers.specs.Numbers.{Token, NumberAt}
 use Rattle.table_numbers.proofs.NumberLaws.{further-dup, further-none, further-nine, packed-token, dif-at, dup-at}
 use Rattle.table_runs.specs.Short.{ShortAt}
-
--- the byte that stands within the text has its entry
-there : (s : List ℕ) (i : ℕ) {b : ℕ} → i < length s → b ≡ standing s i → entryAt s i ≡ entry b
-there s i h g = at-entry s i h ∙ rw (g, stands-in s i h) refl
 
 -- ---- what begins a difference
 
@@ -65,7 +60,7 @@ module _ (s : List ℕ) (i : ℕ) {b : ℕ} (h : i < length s) (g : b ≡ standi
   -- a letter and at most three digits
   pub letter-short : {v j x : ℕ} → 74 ≤ b - b / 32 % 2 * 32 → b - b / 32 % 2 * 32 ≤ 82 → Few s (i + 1) (b - b / 32 % 2 * 32 - 73) v j x → 16 ≤ entryAt s j → ShortAt s i b v j
   letter-short {v} {j} l u f o =
-      let z = subst (Begins b (b - b / 32 % 2 * 32 - 73)) (sym (there s i h g)) (lettered b l u) in let a = z .low in let c = z .high in let d = z .digit in
+      let z = subst (Begins b (b - b / 32 % 2 * 32 - 73)) (sym (entry-stands s i h g)) (lettered b l u) in let a = z .low in let c = z .high in let d = z .digit in
       let r = f .run in let q = r .few in let w = f .grows in let m = ran-below r in
       let n : NumberAt s i (entryAt s i) v j = packed-token s i (entryAt s i) refl (omega arith) (omega arith) (further-nine (entryAt s i) a (λ y. omega arith))
       (rw d at (ran-within 9 r o (omega arith))) o in
@@ -74,7 +69,7 @@ module _ (s : List ℕ) (i : ℕ) {b : ℕ} (h : i < length s) (g : b ≡ standi
   -- `%`, with no digit after it
   pub zero-short : b ≡ 37 → 16 ≤ entryAt s (i + 1) → i + 1 ≤ length s → ShortAt s i b 0 (i + 1)
   zero-short p o l =
-      let e : entryAt s i ≡ 32 = there s i h g ∙ rw p percent in let d : 0 ≡ entryAt s i % 16 = omega arith in
+      let e : entryAt s i ≡ 32 = entry-stands s i h g ∙ rw p percent in let d : 0 ≡ entryAt s i % 16 = omega arith in
       let n : NumberAt s i (entryAt s i) 0 (i + 1) = packed-token s i (entryAt s i) refl (omega arith) (omega arith) (further-none (entryAt s i) (omega arith) (omega arith))
       (subst (λ (y : ℕ). Ran s (i + 1) y 0 0 (i + 1) (entryAt s (i + 1))) d (stop (start s (i + 1) 0 0 l) refl (λ y. omega arith))) o in
       let t : Token s i (by (leb 48 (entryAt s i)) 0) (i + 1) = rw (dif-at (entryAt s i) 0 (omega arith) (omega arith)) at (n .token) in
@@ -83,7 +78,7 @@ module _ (s : List ℕ) (i : ℕ) {b : ℕ} (h : i < length s) (g : b ≡ standi
   -- S to Z and at most three digits
   pub count-short : {v j x : ℕ} → 83 ≤ b → b ≤ 90 → Few s (i + 1) (b - 82) v j x → 16 ≤ entryAt s j → (v < 10000) × Token s i (times v) j
   count-short {v} {j} l u f o =
-      let z = dups b l u in let e = there s i h g in
+      let z = dups b l u in let e = entry-stands s i h g in
       let r = f .run in let q = r .few in let m = ran-below r in let d : b - 82 ≡ entryAt s i % 16 = omega arith in
       let n : NumberAt s i (entryAt s i) v j = packed-token s i (entryAt s i) refl (omega arith) (omega arith) (further-dup (entryAt s i) (omega arith))
       (rw d at (ran-within 4 r o (omega arith))) o in

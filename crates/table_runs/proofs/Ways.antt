@@ -22,7 +22,8 @@ use Rattle.table_value.specs.declared.Cur.{Cur}
 use Rattle.table_runs.specs.declared.Way.{Way}
 use Rattle.table_runs.specs.Short.{ShortAt}
 use Rattle.table_runs.specs.Ways.{apart, stepAfter, formAfter, reached, Safe, Fare, Been, Onward}
-use Rattle.table_runs.proofs.Walks.{went-none, went-on, went-dup}
+use Rattle.table_value.proofs.Walks.{went-none}
+use Rattle.table_runs.proofs.Walks.{went-on, went-dup}
 
 -- ---- differences
 

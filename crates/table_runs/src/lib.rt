@@ -11,7 +11,6 @@ use alphabet::DIF_MINUS;
 use alphabet::Run;
 use alphabet::few_digits;
 use alphabet::is_digit;
-use alphabet::standing;
 use alphabet::standing_in;
 use table_ordinates::put;
 use table_ordinates::repeat;
@@ -90,23 +89,10 @@ fn run_end(points: usize, k: usize) -> usize
     points
 }
 
-// Does a difference begin with the byte b? Where none does, a run need not be tried.
-fn begins(b: u64) -> bool {
-    if b == PERCENT {
-        return true;
-    }
-    let letter = b - b / 32 % 2 * 32;
-    letter >= 74 && letter <= 82
-}
-
-// May a run begin here: a difference stands there, room for a short one, and an ordinate far from both ends?
+// May a run begin here: is there room for a short difference, and an ordinate far from both ends?
 fn roomy(s: &[u8], c: Cur) -> bool
     ensures { λ r. ⌜ Roomy (now (s .entry)) c r ⌝ }
 {
-    let b = standing(s, c.at);
-    if !begins(b) {
-        return false;
-    }
     if s.len() < ROOM {
         return false;
     }

@@ -13,7 +13,6 @@ use Rattle.table_spec.specs.Values.{Form, isDif, Spot}
 use Rattle.table_spec.specs.Reading.{fault, line, fresh, difBefore}
 use Rattle.table_lines.specs.Seen.{seen, here}
 use Rattle.table_lines.specs.Ends.{Blanked}
-use Rattle.table_numbers.specs.Numbers.{Clear}
 use Rattle.table_value.specs.LineValues.{broken, given, line-says}
 use Rattle.table_values.specs.Lines.{difForm, rowAfter, lastAt, LineDone, LineBroken}
 use Rattle.table_value.specs.States.{Codes, own, gap, dif, dup-not, dup-dif, Holds, opening, checking, going, Gone}
@@ -30,9 +29,6 @@ pub blank-moves : (s : List ℕ) (at e j : ℕ) → e ≡ entryAt s at → e ≡
 blank-moves s at e j g h b =
     by-case (λ t. ltb at j ≡ t → at < j) (ltb at j) (λ _ x. ltb-true at j x)
     (λ _ x. let y = ltb-false at j x in let z = b .low in let i : j ≡ at = omega arith in absurd (b .stops (ap (entryAt s) i ∙ sym g ∙ h))) refl
-
-pub blank-clear : {s : List ℕ} {at j : ℕ} → Blanked s at j → Clear s at j
-blank-clear b k l h = let z = b .all k l h in omega arith
 
 -- ---- one after the other
 

@@ -1,7 +1,7 @@
 -- States of the code, one after the other: past blanks, and along a line. No place of the code is named here. Assumes nothing.
 use mathlib.Core.Path.{_≡_, sym, subst}
 use mathlib.Core.List.{List}
-use Prim.Native.Nat.{ℕ, _-_}
+use Prim.Native.Nat.{ℕ}
 use native.Mathlib.Omega.{arith}
 use lib.IntN.{ℤ}
 use Rattle.table_lines.specs.Ends.{Blanked}
@@ -10,21 +10,13 @@ use Rattle.table_value.specs.States.{Sits, Went, Stepped}
 use Rattle.table_value.specs.declared.Cur.{Cur}
 use Rattle.table_value.specs.declared.Step.the-variants as step
 use Rattle.table_values.specs.declared.LineRead.the-variants as linewise
-use Rattle.table_runs.proofs.Walks.{gone-same, went-went}
-use Rattle.table_values.proofs.Turns.{blank-clear, gone-done, gone-broken}
+use Rattle.table_value.proofs.Walks.{went-went, went-over}
+use Rattle.table_values.proofs.Turns.{gone-done, gone-broken}
 
 -- ---- blanks
 
 pub went-blanks : {N : ℕ} {s : List ℕ} {c : Cur} (r : Cur) (out : List ℤ) → Sits N s c → Blanked s (c .at) (r .at) → r ≡ placed c (r .at) → Went N s c r out out
-went-blanks {N} {s} {c} r out h b e =
-    let l = b .low in let o = h .some in
-    subst (λ (x : Cur). Went N s c x out out) (sym e)
-    (record {
-      low = b .low;
-      clear = blank-clear b;
-      sits = record { some = omega arith; high = b .high; small = h .small; size = h .size; few = h .few };
-      law = λ p w g. gone-same _ _ _ p w out (placed c (r .at)) g (b .within);
-    })
+went-blanks {N} {s} {c} r out h b e = subst (λ (x : Cur). Went N s c x out out) (sym e) (went-over c out h b)
 
 -- ---- a line
 

@@ -4,7 +4,7 @@ ghost use Prim.Native.Nat.{_≤_};
 ghost use lib.ListN.{length};
 ghost use Rattle.table_lines.specs.Ends.{Blanked};
 ghost use Rattle.table_values.specs.Lines.{difForm, placed, rowAfter, FirstValue, Lined};
-ghost use Rattle.table_value.specs.States.{Sits, Stepped};
+ghost use Rattle.table_value.specs.States.{Sits, Stepped, Went};
 use alphabet::DIF;
 use alphabet::MISSING;
 use alphabet::POINT;
@@ -16,11 +16,15 @@ use table_lines::blanks;
 use table_lines::line_end;
 use table_numbers::NumberRead;
 use table_numbers::number;
+use table_owns::owns;
 use table_runs::differences;
 use table_value::Cur;
 use table_value::Step;
 use table_value::missing;
 use table_value::value;
+
+// The byte of `%`, the difference 0.
+const PERCENT: u64 = 37;
 
 // Between lines: the place, how many points, the last ordinate (0: missing, or none on that line), and whether the line before ended in DIF form.
 pub struct Row {
@@ -77,6 +81,26 @@ fn token(s: &[u8], points: usize, out: &mut [i32], c: Cur) -> Step
     }
 }
 
+// Does a difference begin with the byte b, rather than an ordinate of its own? It only says which loop is tried, and either may be.
+fn begins(b: u64) -> bool {
+    if b == PERCENT {
+        return true;
+    }
+    let letter = b - b / 32 % 2 * 32;
+    letter >= 74 && letter <= 82
+}
+
+// As far as a run of short differences leads, or one of ordinates of their own.
+fn run(s: &[u8], points: usize, out: &mut [i32], c: Cur) -> Cur
+    requires { ⌜ (points ≤ 65536) × Sits points (now s) c ⌝ }
+    ensures { λ r. ⌜ Went points (now (s .entry)) c r (now (out .entry)) (now (out .exit)) ⌝ }
+{
+    if begins(standing(s, c.at)) {
+        return differences(s, points, out, c);
+    }
+    owns(s, points, out, c)
+}
+
 // Is a form DIF?
 fn in_dif(form: u64) -> bool
     ensures { λ r. ⌜ r ≡ difForm form ⌝ }
@@ -115,7 +139,7 @@ pub fn values(s: &[u8], points: usize, out: &mut [i32], at: usize, k: usize, wan
     };
     loop {
         let a = past_blanks(s, c);
-        let b = differences(s, points, out, a);
+        let b = run(s, points, out, a);
         match token(s, points, out, b) {
             Step::Go(d) => {
                 c = d;

@@ -5,7 +5,7 @@ use Prim.Native.Nat.{_-_}
 use lib.ListN.{length}
 use borrow.Author.Needs.{needs}
 use Rattle.table_value.specs.States.{Went}
-use Rattle.table_runs.proofs.Walks.{went-none, went-went}
+use Rattle.table_value.proofs.Walks.{went-none, went-went}
 use Rattle.table_values.proofs.Walks.{went-past, first-state, went-line, went-refused}
 use Rattle.table_values.proofs.values.Statement.{statement}
 use Rattle.table_values.proofs.values.Tie as tie
@@ -24,11 +24,11 @@ loop-holds c =
 past-blanks-requires : tie.Need-past-blanks-requires Inv-loop μ-loop
 past-blanks-requires c κs = c .loop .inv .0 .sits .high
 
-differences-requires : tie.Need-differences-requires Inv-loop μ-loop
-differences-requires c κs = let b = c .before in (b .before .before .before .pre .most, went-past (b .before .loop .inv .0) (b .past-blanks .ensures) .sits)
+run-requires : tie.Need-run-requires Inv-loop μ-loop
+run-requires c κs = let b = c .before in (b .before .before .before .pre .most, went-past (b .before .loop .inv .0) (b .past-blanks .ensures) .sits)
 
 token-requires : tie.Need-token-requires Inv-loop μ-loop
-token-requires c κs = let d = c .before .before in (d .before .before .before .before .before .pre .most, d .differences .ensures .sits)
+token-requires c κs = let d = c .before .before in (d .before .before .before .before .before .pre .most, d .run .ensures .sits)
 
 enum-known-d : tie.Need-enum-known-d Inv-loop μ-loop
 enum-known-d c = search needs
@@ -36,14 +36,14 @@ enum-known-d c = search needs
 loop-less : tie.Need-loop-less Inv-loop μ-loop
 loop-less c =
     let x = rw (c .before .d .given .1) at (c .before .before .before .before .token .ensures) in
-    let b = c .before .before .before .before .before .before .before in let l = b .before .before .past-blanks .ensures .0 .low in let y = b .differences .ensures .low in
+    let b = c .before .before .before .before .before .before .before in let l = b .before .before .past-blanks .ensures .0 .low in let y = b .run .ensures .low in
     let z = x .1 .sits .high in omega (arith, x .0)
 
 loop-again : tie.Need-loop-again Inv-loop μ-loop
 loop-again c =
     let x = rw (c .before .d .given .1) at (c .before .before .before .before .token .ensures) in
     let b = c .before .before .before .before .before .before .before in let p = b .before .before in let e = p .past-blanks .ensures in let g = p .before .loop .inv .0 in
-    (went-went (went-went (went-past g e) (b .differences .ensures)) (x .1), search needs)
+    (went-went (went-went (went-past g e) (b .run .ensures)) (x .1), search needs)
 
 enum-known-j : tie.Need-enum-known-j Inv-loop μ-loop
 enum-known-j c = search needs
@@ -58,7 +58,7 @@ returns : tie.Need-returns Inv-loop μ-loop
 returns c =
     let x = rw (c .before .before .j .given .1) at (c .before .before .before .before .before .token .ensures) in
     let b = c .before .before .before .before .before .before .before .before in let p = b .before .before in let e = p .past-blanks .ensures in let g = p .before .loop .inv .0 in
-    rw (c .row-after .ensures) (went-line _ (went-went (went-past g e) (b .differences .ensures)) x)
+    rw (c .row-after .ensures) (went-line _ (went-went (went-past g e) (b .run .ensures)) x)
 
 enum-known-n : tie.Need-enum-known-n Inv-loop μ-loop
 enum-known-n c = search needs
@@ -70,7 +70,7 @@ returns-2 : tie.Need-returns-2 Inv-loop μ-loop
 returns-2 c =
     let x = rw (c .before .n .given .1) at (c .before .before .before .before .token .ensures) in
     let b = c .before .before .before .before .before .before .before in let p = b .before .before in let e = p .past-blanks .ensures in let g = p .before .loop .inv .0 in
-    went-refused _ (went-went (went-past g e) (b .differences .ensures)) x
+    went-refused _ (went-went (went-past g e) (b .run .ensures)) x
 
 pub values-spec : {M : Type 1} → statement M
 values-spec =
@@ -80,7 +80,7 @@ values-spec =
     μ-loop
     loop-holds
     past-blanks-requires
-    differences-requires
+    run-requires
     token-requires
     enum-known-d
     loop-less
