@@ -42,7 +42,7 @@ struct Lead {
     at: usize,
 }
 
-// No ordinate of its own begins at a place.
+// No ordinate of its own begins there. The place is said as if one did, so that it does not wait for the byte that was looked at.
 fn no_lead(at: usize) -> Lead
     ensures { λ r. ⌜ r ≡ record { v = 10; at = at } ⌝ }
 {
@@ -54,13 +54,14 @@ fn digit_lead(s: &[u8], at: usize, b: u64) -> Lead
     requires { ⌜ (0 < at) × (at < length (now s)) × (within 48 10 b ≡ true) × (b ≡ standing (now s) at) ⌝ }
     ensures { λ r. ⌜ Leading (now (s .entry)) at b r ⌝ }
 {
+    let next = at + 1;
     if is_blank(standing_in(s, at - 1)) {
         return Lead {
             v: b - 48,
-            at: at + 1,
+            at: next,
         };
     }
-    no_lead(at)
+    no_lead(next)
 }
 
 // The digit after the sign b at a place, if one stands there.
@@ -68,20 +69,18 @@ fn sign_lead(s: &[u8], at: usize, b: u64) -> Lead
     requires { ⌜ (at + 1 < length (now s)) × (b ≡ standing (now s) at) ⌝ }
     ensures { λ r. ⌜ Leading (now (s .entry)) at b r ⌝ }
 {
+    let next = at + 1;
+    let end = next + 1;
     if b != PLUS {
         if b != MINUS {
-            return no_lead(at);
+            return no_lead(end);
         }
     }
-    let next = at + 1;
     let x = standing_in(s, next);
     if !is_digit(x) {
-        return no_lead(at);
+        return no_lead(end);
     }
-    Lead {
-        v: x - 48,
-        at: next + 1,
-    }
+    Lead { v: x - 48, at: end }
 }
 
 // The first digit of the ordinate of its own at a place, where the byte b stands. A small letter is 32 above its capital: one test for both. An @ is left to the values of a line.

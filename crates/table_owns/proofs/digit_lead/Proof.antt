@@ -6,6 +6,9 @@ use Rattle.table_owns.proofs.Leads.{digit-leads}
 use Rattle.table_owns.proofs.digit_lead.Statement.{statement}
 use Rattle.table_owns.proofs.digit_lead.Tie as tie
 
+add-next : tie.Need-add-next
+add-next c = search needs
+
 sub-standing-in : tie.Need-sub-standing-in
 sub-standing-in c = search needs
 
@@ -15,11 +18,8 @@ standing-in-requires c κs = search needs
 is-blank-requires : tie.Need-is-blank-requires
 is-blank-requires c κs = search needs
 
-sub-t7 : tie.Need-sub-t7
-sub-t7 c = within-in 48 10 _ (c .before .before .before .before .pre .2) .0
-
-add-t8 : tie.Need-add-t8
-add-t8 c = search needs
+sub-t8 : tie.Need-sub-t8
+sub-t8 c = within-in 48 10 _ (c .before .before .before .before .pre .2) .0
 
 returns : tie.Need-returns
 returns c =
@@ -36,11 +36,11 @@ pub digit-lead-spec : {M : Type 1} → statement M
 digit-lead-spec =
     tie.close
     (tie.spec
+    add-next
     sub-standing-in
     standing-in-requires
     is-blank-requires
-    sub-t7
-    add-t8
+    sub-t8
     returns
     no-lead-requires
     returns-2)

@@ -22,14 +22,17 @@ found c = sym (c .before .is-digit .ensures) ∙ not-false _ (c .if3 .left)
 signs : (c : tie.Else3) → (start c .args .b ≡ 43) ⊎ (start c .args .b ≡ 45)
 signs c = ⊎-elim (λ x. inr (x .1 .left)) (λ x. inl (x .left)) (c .before .before .before .if1 .came)
 
+add-next : tie.Need-add-next
+add-next c = search needs
+
+add-end : tie.Need-add-end
+add-end c = search needs
+
 no-lead-requires : tie.Need-no-lead-requires
 no-lead-requires c κs = search needs
 
 returns : tie.Need-returns
 returns c = λ l. absurd (let y = rw (c .no-lead .ensures) at l in omega arith)
-
-add-next : tie.Need-add-next
-add-next c = search needs
 
 standing-in-requires : tie.Need-standing-in-requires
 standing-in-requires c κs = search needs
@@ -43,11 +46,8 @@ no-lead-requires-2 c κs = search needs
 returns-2 : tie.Need-returns-2
 returns-2 c = λ l. absurd (let y = rw (c .no-lead2 .ensures) at l in omega arith)
 
-sub-t9 : tie.Need-sub-t9
-sub-t9 c = within-in 48 10 _ (found c) .0
-
-add-t10 : tie.Need-add-t10
-add-t10 c = search needs
+sub-t10 : tie.Need-sub-t10
+sub-t10 c = within-in 48 10 _ (found c) .0
 
 returns-3 : tie.Need-returns-3
 returns-3 c = let p = start c .pre in let h = p .0 in λ l. sign-leads _ _ (omega arith) (p .1) (signs c) h (c .before .before .standing-in .ensures) (found c)
@@ -56,13 +56,13 @@ pub sign-lead-spec : {M : Type 1} → statement M
 sign-lead-spec =
     tie.close
     (tie.spec
+    add-next
+    add-end
     no-lead-requires
     returns
-    add-next
     standing-in-requires
     is-digit-requires
     no-lead-requires-2
     returns-2
-    sub-t9
-    add-t10
+    sub-t10
     returns-3)
