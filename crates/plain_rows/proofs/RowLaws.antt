@@ -18,7 +18,7 @@ use Rattle.table_lines.specs.Seen.{seen, behind, here}
 use Rattle.table_lines.specs.Heads.{Topped}
 use Rattle.table_spec.specs.ReadingLaws.{push-push}
 use Rattle.frame.specs.declared.Frame.{Frame}
-use Rattle.table_read.specs.Rows.{frame-rules, Between, LineSays}
+use Rattle.table_pass.specs.Rows.{frame-rules, Between, LineSays}
 use Rattle.table_values.specs.declared.Row.{Row}
 use Rattle.plain_spec.specs.Plain.{ordinates}
 use Rattle.plain_law.specs.Within.{Within, tokens-within}

@@ -6,7 +6,7 @@ ghost use Prim.Native.Nat.{_<_, _≤_};
 ghost use lib.ListN.{length};
 ghost use Rattle.frame.specs.Legal.{Sound};
 ghost use Rattle.table_lines.specs.Ends.{LineOpens};
-ghost use Rattle.table_read.specs.Rows.{frame-rules, Rests, LineSays};
+ghost use Rattle.table_pass.specs.Rows.{frame-rules, Rests, LineSays};
 ghost use Rattle.plain_values.specs.Means.{form-of, Right};
 ghost use Rattle.plain_rows.specs.Rows.{NextSays, Stands, Expands, after-head, after-rest, start-of, Fronts};
 use alphabet::MISSING;
@@ -28,7 +28,7 @@ use table_numbers::NumberRead;
 use table_numbers::number;
 use table_ordinates::put;
 use table_ordinates::repeat;
-use table_read::index_of;
+use table_pass::index_of;
 use table_values::LineRead;
 use table_values::Row;
 

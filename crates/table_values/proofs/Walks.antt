@@ -10,7 +10,7 @@ use Rattle.table_value.specs.States.{Sits, Went, Stepped}
 use Rattle.table_value.specs.declared.Cur.{Cur}
 use Rattle.table_value.specs.declared.Step.the-variants as step
 use Rattle.table_values.specs.declared.LineRead.the-variants as linewise
-use Rattle.table_runs.proofs.Walks.{gone-same, went-went}
+use Rattle.table_steps.proofs.Walks.{gone-same, went-went}
 use Rattle.table_values.proofs.Turns.{blank-clear, gone-done, gone-broken}
 
 -- ---- blanks

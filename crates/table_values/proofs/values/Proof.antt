@@ -5,7 +5,7 @@ use Prim.Native.Nat.{_-_}
 use lib.ListN.{length}
 use borrow.Author.Needs.{needs}
 use Rattle.table_value.specs.States.{Went}
-use Rattle.table_runs.proofs.Walks.{went-none, went-went}
+use Rattle.table_steps.proofs.Walks.{went-none, went-went}
 use Rattle.table_values.proofs.Walks.{went-past, first-state, went-line, went-refused}
 use Rattle.table_values.proofs.values.Statement.{statement}
 use Rattle.table_values.proofs.values.Tie as tie
