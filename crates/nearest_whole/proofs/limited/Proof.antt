@@ -1,8 +1,8 @@
 -- `limited` meets its contract: the answer that a nearest number gives, and exact where nothing is left. Assumes nothing.
-use Rattle.quotient.proofs.Division.{over-limit, zero-by-rest, signed-by-rest}
+use Rattle.nearest_whole.proofs.Rests.{over-limit, zero-by-rest, signed-by-rest}
 use borrow.Author.Needs.{needs}
-use Rattle.quotient.proofs.limited.Statement.{statement}
-use Rattle.quotient.proofs.limited.Tie as tie
+use Rattle.nearest_whole.proofs.limited.Statement.{statement}
+use Rattle.nearest_whole.proofs.limited.Tie as tie
 
 nearest-requires : tie.Need-nearest-requires
 nearest-requires c κs = search needs

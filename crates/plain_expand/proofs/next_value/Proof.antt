@@ -1,15 +1,15 @@
--- `plain_rows::next_value` meets its contract: past blanks, a line's end, a missing ordinate, or what the number stands for.
+-- `plain_expand::next_value` meets its contract: past blanks, a line's end, a missing ordinate, or what the number stands for.
 use mathlib.Core.Path.{sym, _∙_}
 use mathlib.Core.Logic.{_⊎_}
 use Prim.Native.Nat.{_<_, _≤_}
 use native.Mathlib.Omega.{arith}
 use Rattle.table_numbers.proofs.NumberLaws.{gap-token, kinds}
-use Rattle.plain_rows.proofs.GrowLaws.{next-end, next-fault, next-not, next-gives}
+use Rattle.plain_expand.proofs.GrowLaws.{next-end, next-fault, next-not, next-gives}
 use Rattle.plain_values.specs.Means.{form-of}
 use Rattle.plain_values.proofs.ValueLaws.{gap-is}
 use borrow.Author.Needs.{needs}
-use Rattle.plain_rows.proofs.next_value.Statement.{statement}
-use Rattle.plain_rows.proofs.next_value.Tie as tie
+use Rattle.plain_expand.proofs.next_value.Statement.{statement}
+use Rattle.plain_expand.proofs.next_value.Tie as tie
 
 -- where the entry past the blanks is read
 abbrev start : tie.After-entry-at → tie.Start

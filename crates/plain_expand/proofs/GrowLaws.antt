@@ -22,10 +22,10 @@ use Rattle.plain_law.specs.Growing.{hold, fault-of, Grown, grown-none, grown-th
 use Rattle.plain_values.specs.Means.{form-of, points-of, Means}
 use Rattle.plain_values.specs.declared.Points.{Points}
 use Rattle.plain_values.specs.declared.Meant.the-variants as meant
-use Rattle.plain_rows.specs.Rows.{NextSays, Stands, rest-of, ExpandSays}
-use Rattle.plain_rows.specs.declared.Grows.{Grows}
-use Rattle.plain_rows.specs.declared.Next.the-variants as next
-use Rattle.plain_rows.specs.declared.Expanded.the-variants as expanded
+use Rattle.plain_expand.specs.Grows.{NextSays, Stands, rest-of, ExpandSays}
+use Rattle.plain_expand.specs.declared.Grows.{Grows}
+use Rattle.plain_expand.specs.declared.Next.the-variants as next
+use Rattle.plain_expand.specs.declared.Expanded.the-variants as expanded
 
 -- ---- what stands next
 

@@ -1,10 +1,10 @@
--- `nearest` meets its contract: the nearest number by quotient and remainder; the laws are of Division. Assumes nothing.
+-- `nearest` meets its contract: the nearest number by quotient and remainder; the laws are of Rests. Assumes nothing.
 use native.Mathlib.Omega.{arith}
 use native.Mathlib.Nat.{mod-lt, div-le-self}
-use Rattle.quotient.proofs.Division.{past-half, before-half, half-up, half-down}
+use Rattle.nearest_whole.proofs.Rests.{past-half, before-half, half-up, half-down}
 use borrow.Author.Needs.{needs}
-use Rattle.quotient.proofs.nearest.Statement.{statement}
-use Rattle.quotient.proofs.nearest.Tie as tie
+use Rattle.nearest_whole.proofs.nearest.Statement.{statement}
+use Rattle.nearest_whole.proofs.nearest.Tie as tie
 
 div-q : tie.Need-div-q
 div-q c = search needs

@@ -1,11 +1,11 @@
--- `plain_rows::expand` meets its contract: the row grows value by value, and is laid.
+-- `plain_expand::expand` meets its contract: the row grows value by value, and is laid.
 use Prim.Native.Nat.{_-_}
 use native.Mathlib.Omega.{arith}
 use lib.ListN.{length}
 use borrow.Author.Needs.{needs}
-use Rattle.plain_rows.proofs.GrowLaws.{Growing, growing-none, grow-over, grow-on, grow-bad, grow-end}
-use Rattle.plain_rows.proofs.expand.Statement.{statement}
-use Rattle.plain_rows.proofs.expand.Tie as tie
+use Rattle.plain_expand.proofs.GrowLaws.{Growing, growing-none, grow-over, grow-on, grow-bad, grow-end}
+use Rattle.plain_expand.proofs.expand.Statement.{statement}
+use Rattle.plain_expand.proofs.expand.Tie as tie
 
 abbrev Inv-loop : tie.InvT-loop
 Inv-loop s points out₀ r₀ out r = Growing points s r₀ out₀ out r
