@@ -1,4 +1,3 @@
 pub mod Standing
-pub mod Ranged
 pub mod Ran
 pub mod Unique

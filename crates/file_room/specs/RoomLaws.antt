@@ -18,8 +18,8 @@ use Rattle.file_write_spec.specs.declared.FileLength.{FileLength}
 use Rattle.file_write_spec.specs.declared.FileWritten.{FileWritten}
 use Rattle.file_write_spec.specs.File.{title-legal, scales-legal, first-quotient, last-quotient, first-of, last-of, limited, firsty-agrees, file-exact, file-text, byFrame, writeFile}
 use Rattle.file_write_law.specs.Accepted.{Limited, written-most}
-use Rattle.table_write.specs.Room.{ByRoom, refuses, writes}
-use Rattle.table_write.specs.RoomLaws.{fits-most, room-holds, room-lacks, room-refuses, room-most, never-15, Text, Number}
+use Rattle.table_room.specs.Room.{ByRoom, refuses, writes}
+use Rattle.table_room.specs.RoomLaws.{fits-most, room-holds, room-lacks, room-refuses, room-most, never-15, Text, Number}
 use Rattle.file_write.specs.Answers.{told-file, FileTells}
 use Rattle.file_write.specs.Room.{enough, FileMeasured}
 

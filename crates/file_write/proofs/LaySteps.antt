@@ -19,7 +19,7 @@ use Rattle.table_spec.specs.declared.Style.the-variants.{Difdup}
 use Rattle.table_spec.specs.Writing.{declined, wrote, fitted, writeTable, laid}
 use Rattle.table_write_law.specs.ReadBack.{wrote-body, wrote-most}
 use Rattle.table_write.specs.Room.{enough, Measured}
-use Rattle.table_write.specs.RoomLaws.{fits-most}
+use Rattle.table_room.specs.RoomLaws.{fits-most}
 use Rattle.table_text.specs.Answers.{told, Tells}
 use Rattle.table_text.specs.Pieces.{Put}
 use Rattle.file_spec.specs.declared.Numbers.{Numbers}

@@ -11,7 +11,7 @@ use Rattle.file_spec.specs.declared.Exactness.{Exactness}
 use Rattle.file_write_spec.specs.declared.Scales.{Scales}
 use Rattle.file_write_spec.specs.declared.FileWritten.{FileWritten}
 use Rattle.file_write_spec.specs.File.{file-exact, writeFile}
-use Rattle.table_write.specs.RoomLaws.{fits-most}
+use Rattle.table_room.specs.RoomLaws.{fits-most}
 use Rattle.file_write_law.specs.Accepted.{written-most}
 use Rattle.file_plan.specs.declared.Plan.{Plan}
 use Rattle.file_plan.specs.Stages.{laidOut, bodyOf, Planning}

@@ -1,2 +1,1 @@
-pub mod GrowLaws
 pub mod RowLaws

@@ -18,21 +18,22 @@ use Rattle.table_lines.specs.Seen.{seen, behind, here}
 use Rattle.table_lines.specs.Heads.{Topped}
 use Rattle.table_spec.specs.ReadingLaws.{push-push}
 use Rattle.frame.specs.declared.Frame.{Frame}
-use Rattle.table_read.specs.Rows.{frame-rules, Between, LineSays}
+use Rattle.table_pass.specs.Rows.{frame-rules, Between, LineSays}
 use Rattle.table_values.specs.declared.Row.{Row}
 use Rattle.plain_spec.specs.Plain.{ordinates}
 use Rattle.plain_law.specs.Within.{Within, tokens-within}
 use Rattle.plain_law.specs.Rowwise.{spot-of, spot-dif, after-row, beyond-line, row-says, Headed, row-bare, row-checked, row-opened}
 use Rattle.plain_law.specs.Growing.{values-first, first-one}
 use Rattle.plain_values.specs.Means.{form-of, Right, points-of}
-use Rattle.plain_rows.specs.Rows.{NextSays, rest-of, Done, ExpandSays, Expands, after-head, after-rest}
+use Rattle.plain_expand.specs.Grows.{NextSays, rest-of, Done, ExpandSays, Expands}
+use Rattle.plain_rows.specs.Rows.{after-head, after-rest}
 use Rattle.plain_values.specs.declared.Form.{Form as Kept}
 use Rattle.plain_values.specs.declared.Form.the-variants as form
 use Rattle.plain_values.specs.declared.Points.{Points}
-use Rattle.plain_rows.specs.declared.Grows.{Grows}
-use Rattle.plain_rows.specs.declared.Next.the-variants as next
-use Rattle.plain_rows.specs.declared.Expanded.{Expanded}
-use Rattle.plain_rows.specs.declared.Expanded.the-variants as expanded
+use Rattle.plain_expand.specs.declared.Grows.{Grows}
+use Rattle.plain_expand.specs.declared.Next.the-variants as next
+use Rattle.plain_expand.specs.declared.Expanded.{Expanded}
+use Rattle.plain_expand.specs.declared.Expanded.the-variants as expanded
 
 here-within : (s : List ℕ) (b : ℕ) → Within (here s b)
 unfolding seen

@@ -1,11 +1,13 @@
 // The rounded quotient of two decimals (01, The file: "from a table of powers of ten"), for F, L and FIRSTY, and whether it is exact (02, T-08).
 // An inner function: mantissas are below 10^9, and the divisor is above 0.
 ghost use mathlib.Core.Path.{_≡_};
-ghost use Prim.Native.Nat.{_+_, _-_, _*_, _<_, _≤_, _^_};
+ghost use Prim.Native.Nat.{_-_, _*_, _<_, _^_};
 ghost use Rattle.decimal_spec.specs.Number.{bound};
-ghost use Rattle.decimal_spec.specs.Quotient.{Nearest, IsQuotient, quotientOf, zero-quotient, beyond-quotient};
+ghost use Rattle.decimal_spec.specs.Quotient.{quotientOf};
 use decimal_spec::Quotient;
-use decimal_spec::Rounded;
+use nearest_whole::beyond;
+use nearest_whole::limited;
+use nearest_whole::zero;
 
 // The table of powers of ten, from ten to the 0 on.
 const POWERS: [u64; 19] = [
@@ -36,66 +38,6 @@ fn power(n: usize) -> u64
     ensures { λ r. ⌜ r ≡ 10 ^ n ⌝ }
 {
     POWERS[n]
-}
-
-// The size of the whole number nearest to a / b, halves to the larger. Twice the rest is formed, since twice a may not fit.
-fn nearest(minus: bool, a: u64, b: u64) -> u64
-    requires { ⌜ (0 < b) × (b ≤ 1000000000000000000) × (a < 10000000000000000000) ⌝ }
-    ensures { λ r. ⌜ Nearest minus a b r ⌝ }
-{
-    let q = a / b;
-    let rest = a % b;
-    let twice = 2 * rest;
-    let more = q + 1;
-    if twice > b {
-        return more;
-    }
-    if twice < b {
-        return q;
-    }
-    if minus { q } else { more }
-}
-
-// Zero, exact or not.
-fn zero(exact: bool) -> Quotient
-    ensures { λ r. ⌜ r ≡ zero-quotient exact ⌝ }
-{
-    Quotient {
-        rounded: Rounded::Whole {
-            minus: false,
-            size: 0,
-        },
-        exact,
-    }
-}
-
-// What lies beyond the limit.
-fn beyond() -> Quotient
-    ensures { λ r. ⌜ r ≡ beyond-quotient ⌝ }
-{
-    Quotient {
-        rounded: Rounded::Beyond,
-        exact: false,
-    }
-}
-
-// The same held to the limit, with no sign for zero; exact if nothing is left.
-fn limited(minus: bool, a: u64, b: u64, limit: u64) -> Quotient
-    requires { ⌜ (0 < b) × (b ≤ 1000000000000000000) × (a < 10000000000000000000) ⌝ }
-    ensures { λ r. ⌜ IsQuotient limit minus a b r ⌝ }
-{
-    let q = nearest(minus, a, b);
-    if q > limit {
-        return beyond();
-    }
-    let exact = a % b == 0;
-    if q == 0 {
-        return zero(exact);
-    }
-    Quotient {
-        rounded: Rounded::Whole { minus, size: q },
-        exact,
-    }
 }
 
 // The quotient of two decimals, m1 times ten to the e1 by m2 times ten to the e2, as a file's F, L and first ordinate ask it: for all

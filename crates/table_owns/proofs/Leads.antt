@@ -12,7 +12,7 @@ use Rattle.terms.specs.Logic.{by-case}
 use Rattle.alphabet_spec.specs.Bytes.{kind}
 use Rattle.alphabet_spec.specs.Digits.{within}
 use Rattle.alphabet_spec.specs.Entries.{entry, entryAt}
-use Rattle.alphabet.specs.Ranged.{ruled}
+use Rattle.byte_entry.specs.Ranged.{ruled}
 use Rattle.alphabet.specs.Standing.{standing, entry-stands, within-in, digit-stands}
 use Rattle.alphabet.specs.Ran.{Ran, start, taken, joined}
 use Rattle.table_numbers.specs.Numbers.{NumberAt}

@@ -18,11 +18,11 @@ use Rattle.table_spec.specs.Frame.{Rules, frame-legal, longest-body, entry-for}
 use Rattle.table_spec.specs.Reading.{Answer, refuse, accept, readLines, LongLine, all-short, long-at, longLine, sooner, read, readTable, stored}
 use Rattle.frame.specs.declared.Frame.{Frame}
 use Rattle.frame.specs.FrameLaws.{Framing}
-use Rattle.table_read.specs.Rows.{frame-rules, passedOf, PassSays}
+use Rattle.table_pass.specs.Rows.{frame-rules, passedOf, PassSays}
 use Rattle.table_read.specs.Answers.{told, toldFirst, soonerOf, Accepts, TableSays}
 use Rattle.table_lengths.specs.Lengths.{shownLong}
-use Rattle.table_read.specs.declared.Passed.{Passed}
-use Rattle.table_read.specs.declared.Passed.the-variants as passed
+use Rattle.table_pass.specs.declared.Passed.{Passed}
+use Rattle.table_pass.specs.declared.Passed.the-variants as passed
 use Rattle.table_read.specs.declared.Checked.the-variants as checks
 
 -- ---- what a pass answered

@@ -18,13 +18,11 @@ use table_numbers::NumberRead;
 use table_numbers::number;
 use table_owns::owns;
 use table_runs::differences;
+use table_shorts::PERCENT;
 use table_value::Cur;
 use table_value::Step;
 use table_value::missing;
 use table_value::value;
-
-// The byte of `%`, the difference 0.
-const PERCENT: u64 = 37;
 
 // Between lines: the place, how many points, the last ordinate (0: missing, or none on that line), and whether the line before ended in DIF form.
 pub struct Row {

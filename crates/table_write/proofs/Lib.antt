@@ -1,2 +1,1 @@
-pub mod FormSteps
 pub mod RoomSteps

@@ -6,7 +6,7 @@ use lib.IntN.{ℤ}
 use lib.ListN.{length}
 use Rattle.terms.specs.declared.TableWritten.{TableWritten}
 use Rattle.table_spec.specs.declared.Style.{Style}
-use Rattle.table_spec.specs.Writing.{Outcome, declined, fitted, writeTable}
+use Rattle.table_spec.specs.Writing.{declined, writeTable}
 use Rattle.frame.specs.declared.Framed.the-variants.{Legal}
 use Rattle.frame.specs.Legal.{framed}
 use Rattle.table_text.specs.Answers.{told}
@@ -15,10 +15,6 @@ use Rattle.table_write.specs.declared.Checked.{Checked}
 -- bytes that are enough for the text of N points in each of the four forms
 abbrev pub enough : ℕ → ℕ
 enough n = 15 * n + 44
-
--- the ceiling of document 02 for DIFDUP: "never more than 34·N + 24 bytes, line ends counted"
-abbrev pub ceiling : ℕ → ℕ
-ceiling n = 34 * n + 24
 
 -- the length of a text, or the refusal: what writing it into enough room answers
 abbrev pub Measured : Style → ℤ → ℤ → ℕ → List ℤ → TableWritten → Type 0
@@ -31,8 +27,3 @@ length-unique st f l n ys x y = x ∙ sym y
 abbrev pub Checks : ℤ → ℤ → ℕ → List ℤ → Checked → Type 0
 Checks f l n ys (Checked.Taken fr) = (framed f l n ≡ Legal fr) × (n ≤ length ys)
 Checks f l n ys (Checked.Refused k) = (st : Style) (space : ℕ) → writeTable st f l n ys space ≡ declined k
-
--- what writing answers in each room: one refusal in all, which is not 15; or one text of at most so many bytes, and 15 where the room is less than the text
-pub data ByRoom : (ℕ → Outcome) → ℕ → Type 0 where
-  refuses : {x : ℕ → Outcome} {most : ℕ} (k : ℕ) → (k ≡ 15 → ⊥) → ((space : ℕ) → x space ≡ declined k) → ByRoom x most
-  writes : {x : ℕ → Outcome} {most : ℕ} (t : List ℕ) → length t ≤ most → ((space : ℕ) → x space ≡ fitted space t) → ByRoom x most

@@ -6,7 +6,7 @@ use Rattle.terms.specs.Refusals.{fault-at}
 use Rattle.table_spec.specs.Reading.{read, readTable, stored}
 use Rattle.frame.specs.declared.Frame.{Frame}
 use Rattle.frame.specs.FrameLaws.{Framing, framed-outside, framed-legal}
-use Rattle.table_read.specs.Rows.{frame-rules}
+use Rattle.table_pass.specs.Rows.{frame-rules}
 use Rattle.table_read.specs.Answers.{toldFirst, Accepts}
 use Rattle.table_read.proofs.AnswerLaws.{body-long, frame-outside, no-room, body-read, read-refused, first-accepts, read-accepted}
 use borrow.Author.Needs.{needs}

@@ -3,8 +3,8 @@ use Prim.Native.Nat.{_-_}
 use native.Mathlib.Omega.{arith}
 use borrow.Author.Needs.{needs}
 use lib.ListN.{length}
-use Rattle.table_read.specs.Rows.{frame-rules}
-use Rattle.table_read.proofs.PassLaws.{Reached, reached-same, reached-start, reached-next, reached-fault, reached-refused, reached-end}
+use Rattle.table_pass.specs.Rows.{frame-rules}
+use Rattle.table_pass.proofs.PassLaws.{Reached, reached-same, reached-start, reached-next, reached-fault, reached-refused, reached-end}
 use Rattle.plain_read.proofs.rows.Statement.{statement}
 use Rattle.plain_read.proofs.rows.Tie as tie
 

@@ -9,7 +9,7 @@ use Rattle.table_spec.specs.Frame.{passes}
 use Rattle.table_spec.specs.Values.{index}
 use Rattle.table_lines.specs.Heads.{Topped}
 use Rattle.table_values.specs.declared.Row.{Row}
-use Rattle.table_read.proofs.LineLaws.{line-four, index-small}
+use Rattle.table_pass.proofs.LineLaws.{line-four, index-small}
 use Rattle.plain_rows.proofs.RowLaws.{bare-line, bad-line}
 use borrow.Author.Needs.{needs}
 use Rattle.plain_rows.proofs.plain_line.Statement.{statement}

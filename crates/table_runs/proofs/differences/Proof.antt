@@ -6,9 +6,9 @@ use native.Mathlib.Omega.{arith}
 use lib.ListN.{length}
 use borrow.Author.Needs.{needs}
 use borrow.Author.Tests.{not-false, ltb-false}
-use Rattle.table_runs.specs.Ways.{Safe, Been}
+use Rattle.table_steps.specs.Ways.{Safe, Been}
 use Rattle.table_value.proofs.Walks.{went-none}
-use Rattle.table_runs.proofs.Ways.{onward-end}
+use Rattle.table_steps.proofs.Ways.{onward-end}
 use Rattle.table_runs.proofs.differences.Statement.{statement}
 use Rattle.table_runs.proofs.differences.Tie as tie
 
