@@ -30,7 +30,7 @@ use Rattle.compound_spec.specs.Answers.{entries, laid}
 use Rattle.compound_law.specs.Plain.{Promised}
 use Rattle.compound_law.specs.Found.{found}
 use Rattle.compound_law.specs.Flat.{plain, flat, flat-is}
-use Rattle.compound_walk.specs.Told.{ownOf, told, Surveys}
+use Rattle.compound_survey.specs.Told.{ownOf, told, Surveys}
 use Rattle.compound_find.specs.declared.Whole.{Whole}
 use Rattle.compound_find.specs.Answers.{FindsBlocks, countedBy, blocksOn, judgedBy, Stores}
 

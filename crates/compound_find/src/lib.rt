@@ -11,7 +11,7 @@ use compound_blocks::store_blocks;
 use compound_spec::BlocksFound;
 use compound_spec::Own;
 use compound_spec::Surveyed;
-use compound_walk::survey;
+use compound_survey::survey;
 use decimal_spec::Count;
 use file_spec::Span;
 use file_texts::count_in;

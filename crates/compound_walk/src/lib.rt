@@ -1,4 +1,4 @@
-// The walk over the blocks of a file (02, T-07): 20, 22, 23, 24 and 33, what the outermost block's own labels say, and how many data blocks there are.
+// The walk over the blocks of a file (02, T-07): 20, 22, 23, 24 and 33, what a block's own labels say, and how many data blocks stand in it.
 ghost use mathlib.Core.Path.{_≡_};
 ghost use Prim.Native.Nat.{_+_, _<_};
 ghost use lib.ListN.{length};
@@ -6,11 +6,8 @@ ghost use Rattle.terms.specs.Logic.{both};
 ghost use Rattle.terms.specs.Refusals.{fault-at};
 ghost use Rattle.compound_walk.specs.declared.Closed.{Closed};
 ghost use Rattle.compound_walk.specs.Turns.{counted, Closes};
-ghost use Rattle.compound_walk.specs.Told.{Surveys};
 use compound_names::own_clash;
-use compound_spec::Block;
 use compound_spec::Own;
-use compound_spec::Surveyed;
 use compound_words::note;
 use label_lines::next_label;
 use label_lines::next_mark;
@@ -18,15 +15,10 @@ use label_names::is_end;
 use label_names::is_title;
 use label_spec::Found;
 use label_spec::Label;
-use label_spec::Opened;
-use label_walk::open_title;
 use terms::Fault;
 
-// The most bytes of a file.
-const LONGEST_FILE: usize = 1048576;
-
 // Where the walk over a block ends: at its END, whose `##` and `=` stand at these places, with what its own labels said and how many data blocks stand in it; or at the first fault.
-enum Closed {
+pub enum Closed {
     Ended {
         end: usize,
         last: usize,
@@ -51,7 +43,7 @@ fn is_both(a: bool, b: bool) -> bool
 }
 
 // The data blocks of an inner block after those before it; itself among them, if it is not LINK.
-fn count_more(link: bool, before: usize, within: usize) -> usize
+pub fn count_more(link: bool, before: usize, within: usize) -> usize
     requires { ⌜ before + within < 9223372036854775807 ⌝ }
     ensures { λ r. ⌜ r ≡ counted link before within ⌝ }
 {
@@ -64,7 +56,7 @@ fn count_more(link: bool, before: usize, within: usize) -> usize
 
 // The walk over the labels of a block from after its TITLE's `=`, up to its END or to the first of 20, 22, 23, 24, 33.
 // "Each inner block may hold blocks of its own": the walk calls itself at an inner TITLE, and the depth left falls at each call.
-fn walk_block(s: &[u8], title: usize, eq: usize, left: usize) -> Closed
+pub fn walk_block(s: &[u8], title: usize, eq: usize, left: usize) -> Closed
     requires { ⌜ (eq < length (now s)) × (left < 8) ⌝ }
     ensures { λ r. ⌜ Closes (now (s .entry)) title eq left r ⌝ }
 {
@@ -132,39 +124,5 @@ fn walk_block(s: &[u8], title: usize, eq: usize, left: usize) -> Closed
                 }
             }
         }
-    }
-}
-
-// The survey of a file's blocks: 19, 21, then 20, 22, 23, 24, 33 in one walk; or the outermost block, what its own labels say, and how many data blocks there are.
-pub fn survey(file: &[u8]) -> Surveyed
-    ensures { λ r. ⌜ Surveys (now (file .entry)) r ⌝ }
-{
-    if file.len() > LONGEST_FILE {
-        return Surveyed::Refused(Fault::new(19, 0));
-    }
-    match open_title(file) {
-        Opened::Refused(r) => Surveyed::Refused(r),
-        Opened::Title { mark, eq } => match walk_block(file, mark, eq, 7) {
-            Closed::Refused(r) => Surveyed::Refused(r),
-            Closed::Ended {
-                end,
-                last,
-                own,
-                count: within,
-            } => {
-                let count = count_more(own.link, 0, within);
-                let outermost = Block {
-                    title: mark,
-                    eq,
-                    end,
-                    last,
-                };
-                Surveyed::Ended {
-                    outermost,
-                    own,
-                    count,
-                }
-            }
-        },
     }
 }

@@ -12,7 +12,7 @@ use Rattle.terms.specs.declared.Fault.{Fault}
 use Rattle.signed.specs.Scale.{lift-lower}
 use Rattle.table_spec.specs.Frame.{entry-for, ordinate-of, zero-ordinate}
 use Rattle.table_spec.specs.Reading.{Answer, refuse, accept, readTable, stored}
-use Rattle.table_law.specs.Places.{LowAnswer, table-place}
+use Rattle.line_law.specs.Places.{LowAnswer, table-place}
 use Rattle.table_read.specs.Answers.{toldFirst}
 use Rattle.table_read.specs.declared.Checked.the-variants as checks
 use Rattle.file_spec.specs.declared.Span.{Span}

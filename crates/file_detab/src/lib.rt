@@ -1,11 +1,11 @@
 // The converter of old files (02, T-13): in the lent bytes, each tab in the body of the table, outside comments, becomes a space, and every other byte stays.
 ghost use mathlib.Core.Path.{_≡_};
 ghost use lib.ListN.{length};
-ghost use Rattle.file_records.specs.Bounds.{AllWithin};
+ghost use Rattle.file_gather.specs.Bounds.{AllWithin};
 ghost use Rattle.file_spec.specs.Texts.{textIn, listedIn};
 ghost use Rattle.file_spec.specs.Places.{foundAt, foundBody};
 ghost use Rattle.file_detab.specs.Answers.{foundWithin, FileDetabs};
-use file_records::gather;
+use file_gather::gather;
 use file_spec::FoundBody;
 use file_spec::Gathered;
 use file_spec::Listed;

@@ -1,30 +1,13 @@
--- Bounds of the seven records and of the six numbers, which callers need. Assumes nothing.
+-- Bounds of the six numbers, which callers need. Assumes nothing.
 use Prim.Native.Nat.{ℕ, _<_}
 use Rattle.decimal_spec.specs.Number.{bound}
 use Rattle.figure.specs.Bounds.{Small, Factor}
-use Rattle.file_texts.specs.Spans.{Within}
 use Rattle.file_spec.specs.declared.Decimal.{Decimal}
 use Rattle.file_spec.specs.declared.Needed.{Needed}
-use Rattle.file_spec.specs.declared.Gathered.{Gathered}
-use Rattle.file_spec.specs.declared.Gathered.the-variants as gathered
 use Rattle.file_spec.specs.declared.Numbers.{Numbers}
 use Rattle.file_spec.specs.declared.Figures.{Figures}
 use Rattle.file_spec.specs.declared.Figures.the-variants as figures
-
--- each of the seven texts lies in the file
-pub record AllWithin (len : ℕ) (t : Needed) : Type 0 where
-  pub xfactor : Within len (t .xfactor)
-  pub yfactor : Within len (t .yfactor)
-  pub firstx : Within len (t .firstx)
-  pub lastx : Within len (t .lastx)
-  pub npoints : Within len (t .npoints)
-  pub firsty : Within len (t .firsty)
-  pub xydata : Within len (t .xydata)
-
--- where none is lacking
-abbrev pub gatheredIn : ℕ → Gathered → Type 0
-gatheredIn len (gathered.All t) = AllWithin len t
-gatheredIn len gathered.Lacking = Unit
+use Rattle.file_gather.specs.Bounds.{AllWithin}
 
 -- the numbers after the factors can be read: each text lies in the file, and the factors are as they can be spelled
 pub record FactorsRead (len : ℕ) (x : Needed) (xf yf : Decimal) : Type 0 where

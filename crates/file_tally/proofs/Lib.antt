@@ -1,4 +1,3 @@
-pub mod TallyLaws
 pub mod MeanLaws
 pub mod ReportLaws
 pub mod Widths

@@ -1,18 +1,35 @@
 -- What the code adds up is what the plain definition over the list of ordinates says. No place of the code is named here. Assumes nothing.
 use mathlib.Core.Path.{_≡_, refl, sym, ap, _∙_}
+use mathlib.Core.Bool.{Bool, true, false}
 use mathlib.Core.List.{List, [], _∷_}
-use Prim.Native.Nat.{ℕ, suc, _+_, _-_, _*_, _≤_, _<_}
+use Prim.Native.Nat.{ℕ, zero, suc, _+_, _-_, _*_, _≤_, _<_}
 use native.Mathlib.Omega.{arith}
 use lib.Dec.{ltb, eqb}
 use lib.IntN.{ℤ, pos, subℕ, negℤ, _+ℤ_, _-ℤ_, +ℤ-assoc, +ℤ-comm, negℤ-+ℤ}
 use lib.ListN.{length}
-use borrow.Author.Tests.{le-ltb, eqb-false, eq-eqb, ne-eqb}
+use lib.Signed.{mag}
+use mir.Syntax.{w64}
+use mir.Val.{SFits}
+use borrow.Author.Tests.{ltb-true, ltb-false, le-ltb, eqb-false, eq-eqb, ne-eqb}
 use Rattle.terms.specs.Logic.{pick, by-case}
 use Rattle.table_spec.specs.Frame.{zero-ordinate, entry-for, apart}
 use Rattle.night_spec.specs.Report.{given, missing, magnitudes, Some, none, some, lesser, least, greater, greatest, sumOf, ordinate-level, size-level, accountOf}
-use Rattle.file_tally.specs.declared.Tally.{Tally}
-use Rattle.file_tally.specs.Tally.{lessOf, greatOf, faintOf, with-given, with-ordinate, tallyOf, levelFrom, accountFrom}
-use Rattle.file_tally.proofs.TallyLaws.{minus-is}
+use Rattle.ordinate_tally.specs.declared.Tally.{Tally}
+use Rattle.ordinate_tally.specs.Tally.{lessOf, greatOf, faintOf, with-given, with-ordinate, tallyOf}
+use Rattle.file_tally.specs.Account.{levelFrom, accountFrom}
+
+-- ---- a sum of ordinates, each as y + 2^31, as a sum with its sign
+
+pub minus-is : (a b : ℕ) → pos a -ℤ pos b ≡ subℕ a b
+minus-is a zero = rw (le-ltb a 0 (omega arith)) (ap pos (omega arith))
+minus-is a (suc b) = refl
+
+sub-small-case : (a b m : ℕ) (q : Bool) → ltb a b ≡ q → a < m → b < m → mag (subℕ a b) < m
+sub-small-case a b m true e h k = rw e (omega (arith, ltb-true a b e))
+sub-small-case a b m false e h k = rw e (omega (arith, ltb-false a b e))
+
+pub sub-fits : (a b : ℕ) → a < 9223372036854775808 → b < 9223372036854775808 → SFits w64 (subℕ a b)
+sub-fits a b h k = record { sfits = sub-small-case a b 9223372036854775808 (ltb a b) refl h k }
 
 -- ---- differences add up
 

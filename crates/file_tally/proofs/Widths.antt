@@ -13,9 +13,9 @@ use Rattle.file_spec.specs.File.{FileAnswer, refuse-file, accept-file, readFile
 use Rattle.file_law.specs.Accepted.{Good, good-file}
 use Rattle.night_spec.specs.Report.{given, missing, sumOf, accountOf, reportOf}
 use Rattle.night_spec.specs.Night.{reportAs}
-use Rattle.file_tally.specs.Tally.{tallyOf, Bounded}
+use Rattle.ordinate_tally.specs.Tally.{tallyOf, Bounded}
 use Rattle.file_tally.specs.Bounds.{ReportIn}
-use Rattle.file_tally.proofs.TallyLaws.{bounded-more}
+use Rattle.ordinate_tally.proofs.TallyLaws.{bounded-more}
 use Rattle.file_tally.proofs.MeanLaws.{means, missing-given}
 
 tally-bounded : (ys : List ℕ) → Small ys → Bounded (length ys) (tallyOf ys)

@@ -1,3 +1,3 @@
-pub mod Tally
+pub mod Account
 pub mod Bounds
 pub mod Says

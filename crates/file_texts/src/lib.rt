@@ -13,7 +13,7 @@ use file_spec::Decimal;
 use file_spec::Given;
 use file_spec::Listed;
 use file_spec::Span;
-use label_walk::past_space;
+use label_space::past_space;
 use text::byte_at;
 
 // A blank, LF, or CR before LF: b, with c after it.

@@ -3,7 +3,7 @@ use mathlib.Core.Path.{_≡_, ap, _∙_}
 use mathlib.Core.List.{List}
 use Prim.Native.Nat.{ℕ}
 use lib.IntN.{ℤ}
-use Rattle.night_report.specs.Says.{NextSays}
+use Rattle.night_step.specs.Says.{NextSays}
 use Rattle.night_spec.specs.declared.Reported.{Reported}
 use Rattle.host_numbers.specs.Numbers.{refusedOf}
 use Rattle.host_night.specs.Numbers.{progressOf, keptBy, stepAnswer}

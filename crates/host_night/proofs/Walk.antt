@@ -18,7 +18,7 @@ use Rattle.night_spec.specs.declared.Reported.the-variants as reported
 use Rattle.file_tally.proofs.Widths.{report-in}
 use Rattle.night_totals.proofs.SizeLaws.{size-fits}
 use Rattle.night_totals.proofs.TotalLaws.{more-in}
-use Rattle.night_report.proofs.StepLaws.{legal-in}
+use Rattle.night_step.proofs.StepLaws.{legal-in}
 use Rattle.host_night.specs.Numbers.{numbersOf, progressOf}
 use Rattle.host_night.proofs.BitLaws.{kept-whole}
 

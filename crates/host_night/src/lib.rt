@@ -145,7 +145,7 @@ pub extern "C" fn lastarunc_next_report(
     ensures { λ r. ⌜ StepTold (now (spool .entry)) (now (out .entry)) (now (out .exit)) (now (progress .entry)) (now (progress .exit)) (now (answer .exit)) r ⌝ }
 {
     let p = progress_of(progress);
-    match night_report::report_next(spool, p, out) {
+    match night_step::report_next(spool, p, out) {
         Reported::Strange => tell_end(NO_WALK, 0, answer),
         Reported::Over(_) => tell_end(0, 0, answer),
         Reported::Refused { why, totals: _ } => tell_end(why.number, why.place as u64, answer),

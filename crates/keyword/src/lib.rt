@@ -4,7 +4,7 @@ ghost use Prim.Native.Nat.{_≤_};
 ghost use lib.ListN.{length};
 ghost use Rattle.keyword_spec.specs.Keywords.{isWord};
 ghost use Rattle.keyword.specs.Post.{Worded};
-use label_walk::past_space;
+use label_space::past_space;
 
 // Does the word stand at a place of a text, byte for byte?
 fn word_at(t: &[u8], p: usize, w: &[u8]) -> bool

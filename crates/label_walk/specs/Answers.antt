@@ -6,16 +6,9 @@ use Prim.Native.Nat.{ℕ, _+_, _<_, _≤_}
 use lib.ListN.{length}
 use Rattle.label_spec.specs.Names.{nameIn, TITLE}
 use Rattle.label_spec.specs.Labels.{label, from}
-use Rattle.label_spec.specs.Space.{pastSpace}
 use Rattle.label_spec.specs.declared.Opened.{Opened}
 use Rattle.label_spec.specs.declared.Walked.{Walked}
 use Rattle.label_spec.specs.declared.Labelled.{Labelled}
-
--- r is the place after blanks, line ends and comments.
-pub record Passed (s : List ℕ) (at r : ℕ) : Type 0 where
-  pub low : at ≤ r
-  pub high : r ≤ length s
-  pub is : r ≡ pastSpace s at
 
 -- TITLE's label stands there, first on its line, with `##` at m and `=` at e.
 pub record TitleAt (s : List ℕ) (m e : ℕ) : Type 0 where

@@ -8,11 +8,9 @@ ghost use Rattle.label_spec.specs.Names.{nameIn};
 ghost use Rattle.label_spec.specs.Labels.{from, hashed};
 ghost use Rattle.terms.specs.Refusals.{fault-at};
 ghost use Rattle.label_spec.specs.File.{openedAt, opened, judged, labelled};
-ghost use Rattle.label_walk.specs.Answers.{Passed, openIn, walkedIn, labelledIn};
+ghost use Rattle.label_walk.specs.Answers.{openIn, walkedIn, labelledIn};
 ghost use Rattle.label_names.specs.Post.{firstOf};
 ghost use Rattle.label_walk.specs.Post.{Alike, Told};
-use crate::space::is_opening;
-use crate::space::is_space;
 use label_lines::is_hashed;
 use label_lines::label_here;
 use label_lines::name_end;
@@ -24,13 +22,12 @@ use label_names::is_empty;
 use label_names::is_end;
 use label_names::is_title;
 use label_names::same_name;
+use label_space::past_space;
 use label_spec::Label;
 use label_spec::Labelled;
 use label_spec::Opened;
 use label_spec::Walked;
 use terms::Fault;
-
-mod space;
 
 // The most bytes of a file.
 const LONGEST_FILE: usize = 1048576;
@@ -46,30 +43,6 @@ enum Judged {
         start: usize,
         eq: usize,
     },
-}
-
-// The place after blanks, line ends and comments.
-pub fn past_space(s: &[u8], at: usize) -> usize
-    requires { ⌜ at ≤ length (now s) ⌝ }
-    ensures { λ r. ⌜ Passed (now (s .entry)) at r ⌝ }
-{
-    let mut i = at;
-    let mut inside = false;
-    while i < s.len() {
-        let next = i + 1;
-        if inside {
-            inside = s[i] != b'\n';
-            i = next;
-        } else if is_space(s[i]) {
-            i = next;
-        } else if is_opening(s, i) {
-            inside = true;
-            i = next;
-        } else {
-            return i;
-        }
-    }
-    i
 }
 
 // TITLE is not first: another byte stands there, or the end (21).

@@ -26,7 +26,7 @@ fn walk(spool: &[u8], out: &mut [i32]) {
     while steps > 0 {
         steps -= 1;
         let at = p.at;
-        match night_report::report_next(spool, p, out) {
+        match night_step::report_next(spool, p, out) {
             Reported::Strange => {
                 return;
             }

@@ -1,4 +1,2 @@
 pub mod WalkLaws
-pub mod StepLaws
 pub mod Widths
-pub mod Steps

@@ -8,7 +8,7 @@ use Rattle.alphabet_spec.specs.SpelledDigits.{SpelledDigits, none, more}
 use Rattle.table_spec.specs.Values.{Value}
 use Rattle.table_law.specs.Spelling.{Magnitude, whole, pointed, Head, unsigned, positive, negative, Spelled, plus, minus, plain, sqz-zero, sqz-more, dif-zero, dif-more, dup-more, missing}
 use Rattle.table_law.specs.Spelling.{Comment, cut, ends, any, LineEnd, over, lf, cr-lf, comment}
-use Rattle.table_law.specs.Linewise.{NoLf}
+use Rattle.line_law.specs.Linewise.{NoLf}
 
 -- t is some bytes and then s, and they are spelled so before any other text
 pub record Front (P : List ℕ → List ℕ → Type 0) (t s : List ℕ) : Type 0 where

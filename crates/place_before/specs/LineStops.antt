@@ -22,8 +22,8 @@ use Rattle.table_law.specs.Heads.{HeadIs, unsigned-is, signed-is as signed-head
 use Rattle.table_law.specs.Tokens.{EndIs, ending-is, ValueIs, packed-is, plain-is, signed-is}
 use Rattle.table_law.specs.Meaning.{Said, said}
 use Rattle.table_law.specs.Sound.{ends as form-ends, belongs}
-use Rattle.table_law.specs.Linewise.{NoLf}
-use Rattle.table_law.specs.WholeLine.{Done, refused, went, add, takes, does}
+use Rattle.line_law.specs.Linewise.{NoLf}
+use Rattle.line_law.specs.WholeLine.{Done, refused, went, add, takes, does}
 use Rattle.plain_law.specs.Single.{Single, single-tail, EndAll, lf-last, cr-all, dollar-all, all-passed}
 use Rattle.place_on.specs.HeadOnly.{Blanks, no-blank, one-blank, HeadOnly, after-blank, a-head}
 use Rattle.place_before.specs.Before.{AfterHead}

@@ -14,8 +14,8 @@ use Rattle.table_spec.specs.Reading.{Tokens, over, fault, head, value, line, fr
 use Rattle.table_spec.specs.ReadingLaws.{no-accept, push-none, push-push}
 use Rattle.table_law.specs.Spelling.{Ordinate}
 use Rattle.table_law.specs.Meaning.{Said, said}
-use Rattle.table_law.specs.Linewise.{NoLf}
-use Rattle.table_law.specs.WholeLine.{Done, refused, went, add, resume, takes, does, line-does, reading, line-then, last-line}
+use Rattle.line_law.specs.Linewise.{NoLf}
+use Rattle.line_law.specs.WholeLine.{Done, refused, went, add, resume, takes, does, line-does, reading, line-then, last-line}
 use Rattle.plain_law.specs.Single.{Single}
 use Rattle.plain_law.specs.Lines.{Cut, no-line, end-line, whole-line, single-whole, single-last}
 use Rattle.place_on.specs.On.{push-refuse}

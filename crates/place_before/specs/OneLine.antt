@@ -9,7 +9,7 @@ use lib.ListN.{length}
 use borrow.Author.Tests.{eqb-true}
 use Rattle.terms.specs.Logic.{both, by-case, no-way}
 use Rattle.table_spec.specs.Reading.{starts, lineLength}
-use Rattle.table_law.specs.Linewise.{NoLf}
+use Rattle.line_law.specs.Linewise.{NoLf}
 use Rattle.plain_law.specs.Single.{Single, single-tail}
 
 -- nothing stands behind its LF

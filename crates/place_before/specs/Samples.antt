@@ -20,7 +20,7 @@ use Rattle.table_spec.specs.Reading.{Answer, refuse, accept, read, judge, token
 use Rattle.table_spec.specs.Reading.{again, says, push, took, checked, finish, readLines, lineLength, longLine, sooner}
 use Rattle.table_spec.specs.Samples.{padded}
 use Rattle.table_law.specs.Spelling.{Head, ones, whole, unsigned}
-use Rattle.table_law.specs.WholeLine.{does, reading, line-then}
+use Rattle.line_law.specs.WholeLine.{does, reading, line-then}
 use Rattle.place_on.specs.HeadOnly.{Blanks, no-blank, one-blank, a-head}
 use Rattle.place_on.specs.Stuck.{none-after-full, none-after-narrow}
 use Rattle.place_before.specs.Before.{last-lf, NoneBegins}

@@ -17,7 +17,7 @@ use Rattle.table_law.specs.Spelling.{missing, Ordinate, check, gap-first, lf, d
 use Rattle.table_law.specs.LineLengths.{spelled-short, short-spelled, sooner-accept}
 use Rattle.table_law.specs.Complete.{body-read, complete}
 use Rattle.table_law.specs.Sound.{push-accept, body-sound, read-sound}
-use Rattle.table_law.specs.WholeLine.{Done, reading, read-is}
+use Rattle.line_law.specs.WholeLine.{Done, reading, read-is}
 use Rattle.plain_law.specs.Single.{Single}
 use Rattle.plain_law.specs.Lines.{cut}
 use Rattle.place_on.specs.HeadOnly.{HeadOnly}

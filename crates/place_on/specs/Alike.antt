@@ -13,9 +13,9 @@ use Rattle.alphabet_spec.specs.Bytes.{Byte, digit, lead, sign, quest, blank, po
 use Rattle.table_spec.specs.Values.{Value, own, room, valueOf}
 use Rattle.table_spec.specs.Reading.{Tokens, over, fault, head, value, line, HeadDigits, no-head, sized, comment, Ending, ends, none, ending}
 use Rattle.table_spec.specs.Reading.{Mode, fresh, inner, Rest, ended, headed, valued, opening, inside, step, tokens, bare}
-use Rattle.table_law.specs.Every.{every}
-use Rattle.table_law.specs.Places.{Placed, placed-from}
-use Rattle.table_law.specs.Ahead.{Lengthens, RunSame, run-in, run-out, digits-reach, some-reach, HeadSame, within-them, beyond-them, head-reach}
+use Rattle.line_law.specs.Every.{every}
+use Rattle.line_law.specs.Places.{Placed, placed-from}
+use Rattle.line_law.specs.Ahead.{Lengthens, RunSame, run-in, run-out, digits-reach, some-reach, HeadSame, within-them, beyond-them, head-reach}
 
 -- a head, or a first token that is none, after which all stands behind l bytes
 abbrev pub HeadLast : ℕ → ℕ → Tokens → Type 0

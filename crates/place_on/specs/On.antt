@@ -22,8 +22,8 @@ use Rattle.table_spec.specs.Reading.{readLines, longLine, read, readTable}
 use Rattle.table_spec.specs.ReadingLaws.{no-accept}
 use Rattle.table_law.specs.Spelling.{Spells}
 use Rattle.table_law.specs.LineLengths.{sooner-accept}
-use Rattle.table_law.specs.Places.{AnswerIn, judge-in}
-use Rattle.table_law.specs.Ahead.{Lengthens, by-digit, by-point}
+use Rattle.line_law.specs.Places.{AnswerIn, judge-in}
+use Rattle.line_law.specs.Ahead.{Lengthens, by-digit, by-point}
 use Rattle.table_law.specs.Complete.{complete}
 use Rattle.table_law.specs.Sound.{push-accept, checked-accept}
 use Rattle.table_law.specs.Outcome.{allowed-read, refused-allowed}

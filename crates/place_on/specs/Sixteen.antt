@@ -13,9 +13,9 @@ use Rattle.table_spec.specs.Values.{Value, own, gap, by, times, Form, Own, Gap,
 use Rattle.table_spec.specs.Reading.{Tokens, over, fault, head, value, line, fresh, tokens, Says, adds, refuses, inRange, allIn, again, says, Answer, refuse, accept, push, bare, difBefore}
 use Rattle.table_spec.specs.Reading.{took, checked, finish, judge, readLines, starts, lineLength, LongLine, all-short, long-at, longLine, sooner, read}
 use Rattle.table_spec.specs.ReadingLaws.{no-accept}
-use Rattle.table_law.specs.Every.{every}
-use Rattle.table_law.specs.Places.{LongIn, long-in}
-use Rattle.table_law.specs.Ahead.{starts-same}
+use Rattle.line_law.specs.Every.{every}
+use Rattle.line_law.specs.Places.{LongIn, long-in}
+use Rattle.line_law.specs.Ahead.{starts-same}
 
 -- ---- lines, however long they are, are never refused with 16
 

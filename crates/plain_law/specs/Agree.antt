@@ -13,7 +13,7 @@ use Rattle.table_spec.specs.Values.{Own, Spot, first, after, lastOr, index}
 use Rattle.table_spec.specs.Reading.{Tokens, over, fault, head, value, line, fresh, stop, tokens, Answer, refuse, accept, push, bare, difBefore, finish, judge, longLine, lineLength, sooner, read}
 use Rattle.table_spec.specs.Reading.{readTable, stored}
 use Rattle.table_spec.specs.ReadingLaws.{push-none}
-use Rattle.table_law.specs.WholeLine.{refused, resume, does, line-does, reading, read-is, line-then, last-line}
+use Rattle.line_law.specs.WholeLine.{refused, resume, does, line-does, reading, read-is, line-then, last-line}
 use Rattle.plain_spec.specs.Rows.{lines, Row, point, done, bad, Line, unread, row-of, expand, alone, expanded}
 use Rattle.plain_spec.specs.Plain.{ordinates, inDif, new, Verdict, fine, wrong, then, meets, fits, onward, checks, laid, answer, plain, plainTable}
 use Rattle.plain_law.specs.Along.{met, shift, Inside, After, goes, row-go}

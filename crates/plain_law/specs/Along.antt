@@ -12,7 +12,7 @@ use Rattle.table_spec.specs.Frame.{Rules}
 use Rattle.table_spec.specs.Values.{Value, own, gap, by, times, Form, Own, Gap, Spot, first, after, ordinate, lastOr}
 use Rattle.table_spec.specs.Reading.{Tokens, over, fault, head, value, line, Says, adds, refuses, says, Answer, refuse, accept, push, bare, difBefore}
 use Rattle.table_spec.specs.ReadingLaws.{push-none}
-use Rattle.table_law.specs.WholeLine.{Done, refused, add, resume, takes, does, push-add, resume-pick}
+use Rattle.line_law.specs.WholeLine.{Done, refused, add, resume, takes, does, push-add, resume-pick}
 use Rattle.plain_spec.specs.Rows.{Row, point, done, bad, points, given, values, row-of}
 use Rattle.plain_spec.specs.Plain.{new, Verdict, fine, wrong, meets}
 

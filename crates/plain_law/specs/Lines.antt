@@ -8,7 +8,7 @@ use lib.Dec.{eqb}
 use lib.ListN.{length}
 use borrow.Author.Tests.{eqb-true}
 use Rattle.terms.specs.Logic.{by-case}
-use Rattle.table_law.specs.Linewise.{NoLf}
+use Rattle.line_law.specs.Linewise.{NoLf}
 use Rattle.plain_spec.specs.Rows.{lines}
 use Rattle.plain_law.specs.Single.{Single}
 

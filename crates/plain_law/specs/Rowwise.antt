@@ -12,7 +12,7 @@ use Rattle.table_spec.specs.Frame.{Rules}
 use Rattle.table_spec.specs.Values.{Value, Form, Own, Dup, Spot, first, after, lastOr, index}
 use Rattle.table_spec.specs.Reading.{Tokens, over, fault, head, value, line, adds, refuses, says, Answer, refuse, accept, push, bare, difBefore, checked, judge}
 use Rattle.table_spec.specs.ReadingLaws.{push-none}
-use Rattle.table_law.specs.WholeLine.{Starts, refused, resume, does, resume-pick, goes-on}
+use Rattle.line_law.specs.WholeLine.{Starts, refused, resume, does, resume-pick, goes-on}
 use Rattle.plain_spec.specs.Rows.{Row, point, done, bad, values, row-of}
 use Rattle.plain_spec.specs.Plain.{ordinates, inDif, new, Verdict, fine, wrong, meets}
 use Rattle.plain_law.specs.Within.{beyond, Within, starts-beyond, to-end, end-beyond, end-inside, end-closed, end-row}

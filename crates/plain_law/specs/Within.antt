@@ -7,9 +7,9 @@ use native.Mathlib.Omega.{arith}
 use lib.ListN.{length}
 use Rattle.table_spec.specs.Values.{Form, Spot, after, lastOr}
 use Rattle.table_spec.specs.Reading.{Tokens, over, fault, head, value, line, inner, tokens, Says, adds, refuses, says, bare}
-use Rattle.table_law.specs.Every.{every}
-use Rattle.table_law.specs.Linewise.{and-then}
-use Rattle.table_law.specs.WholeLine.{Closed, HeadsClosed, Starts}
+use Rattle.line_law.specs.Every.{every}
+use Rattle.line_law.specs.Linewise.{and-then}
+use Rattle.line_law.specs.WholeLine.{Closed, HeadsClosed, Starts}
 use Rattle.plain_spec.specs.Rows.{Row, points, given, values, row-of}
 use Rattle.plain_law.specs.Along.{Inside}
 

@@ -11,7 +11,7 @@ ghost use Rattle.profile_spec.specs.Wanted.{kth};
 ghost use Rattle.profile_spec.specs.Profile.{judged, numbers};
 ghost use Rattle.profile_find.specs.Post.{locatedIn};
 ghost use Rattle.profile_records.specs.Post.{judgedIn, after, Surveys};
-use label_walk::past_space;
+use label_space::past_space;
 use profile_find::find_kth;
 use profile_spec::Located;
 use profile_spec::Profiled;

@@ -13,7 +13,7 @@ use Rattle.table_spec.specs.Values.{Form, Own, isDif, after}
 use Rattle.table_spec.specs.Reading.{fresh, tokens, Answer, refuse, accept, push, judge, longLine, sooner, read, readTable, stored}
 use Rattle.table_law.specs.LineLengths.{sooner-accept, short-spelled, spelled-short}
 use Rattle.table_law.specs.Outcome.{Allowed, accepted-allowed, allowed-read}
-use Rattle.table_law.specs.WholeLine.{went, reading, read-is, line-starts}
+use Rattle.line_law.specs.WholeLine.{went, reading, read-is, line-starts}
 use Rattle.table_read.specs.Answers.{told, TableSays}
 use Rattle.table_damage.specs.Moved.{alike-tokens}
 use Rattle.table_damage.specs.Lines.{onto, Whole, place-after, lines-do, lines-then, push-accept, Stands, at, first-value, Caught, next-fails}

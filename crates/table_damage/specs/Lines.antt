@@ -11,8 +11,8 @@ use Rattle.table_spec.specs.Frame.{Rules}
 use Rattle.table_spec.specs.Values.{Value, own, gap, by, times, Form, Own, isDif, Spot, first, after, ordinate, index}
 use Rattle.table_spec.specs.Reading.{Tokens, over, fault, head, value, line, adds, refuses, says, Answer, refuse, accept, push, bare, took, checked, finish, judge}
 use Rattle.table_spec.specs.ReadingLaws.{no-accept, push-none}
-use Rattle.table_law.specs.Linewise.{NoLf}
-use Rattle.table_law.specs.WholeLine.{Done, refused, went, add, resume, reading, line-does, Closed, HeadsClosed, Starts, push-add, line-then}
+use Rattle.line_law.specs.Linewise.{NoLf}
+use Rattle.line_law.specs.WholeLine.{Done, refused, went, add, resume, reading, line-does, Closed, HeadsClosed, Starts, push-add, line-then}
 use Rattle.table_damage.specs.Moved.{Alike, overs, faults, heads, values, lines}
 
 -- ---- lines

@@ -11,7 +11,7 @@ use Rattle.table_spec.specs.Frame.{Rules, rules, abscissa, frame-legal, passes,
 use Rattle.table_spec.specs.Values.{Own, By, after}
 use Rattle.table_spec.specs.Reading.{Answer, refuse, accept, readTable, read, judge, tokens, comment, ending, scaled, pointed, thousandths, opening, inside, step, stop}
 use Rattle.table_spec.specs.Reading.{again, says, push, took, checked, finish, readLines, lineLength, longLine, sooner}
-use Rattle.table_law.specs.WholeLine.{Done, went, does}
+use Rattle.line_law.specs.WholeLine.{Done, went, does}
 use Rattle.table_damage.specs.Lines.{onto, lines-do}
 
 abbrev R : Rules

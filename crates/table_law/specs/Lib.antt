@@ -8,8 +8,3 @@ pub mod Complete
 pub mod Sound
 pub mod Small
 pub mod Outcome
-pub mod Every
-pub mod Places
-pub mod Ahead
-pub mod Linewise
-pub mod WholeLine

@@ -4,36 +4,16 @@ ghost use lib.ListN.{length};
 ghost use Rattle.table_spec.specs.declared.Style.the-variants.{Difdup};
 ghost use Rattle.frame.specs.Legal.{Sound};
 ghost use Rattle.table_text.specs.Answers.{Answered, FramedAnswer};
-ghost use Rattle.table_write.specs.Room.{Measured, Checks};
+ghost use Rattle.table_write.specs.Room.{Measured};
 use frame::Frame;
-use frame::Framed;
+use table_given::Checked;
+use table_given::check;
 use table_spec::Style;
 use table_text::refused;
 use terms::TableWritten;
 use text_forms::fits;
 use text_forms::lay;
 use text_forms::length_of;
-
-// What the tests before writing answer: a legal frame, with an ordinate for each of its points, or the number of a refusal.
-pub enum Checked {
-    Taken(Frame),
-    Refused(u64),
-}
-
-// The tests before writing: a legal frame (1), then as many ordinates as points (2).
-fn check(first: i64, last: i64, points: usize, ordinates: &[i32]) -> Checked
-    ensures { λ r. ⌜ Checks first last points (now (ordinates .entry)) r ⌝ }
-{
-    match Frame::new(first, last, points) {
-        Framed::Outside => Checked::Refused(1),
-        Framed::Legal(fr) => {
-            if ordinates.len() < points {
-                return Checked::Refused(2);
-            }
-            Checked::Taken(fr)
-        }
-    }
-}
 
 // Writing in a legal frame, with an ordinate for each point: refusal 15, or the text.
 fn write_framed(style: Style, fr: Frame, ordinates: &[i32], text: &mut [u8]) -> TableWritten

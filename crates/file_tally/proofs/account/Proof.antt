@@ -3,8 +3,8 @@ use mathlib.Core.Path.{ap, _∙_}
 use mathlib.Core.List.{map}
 use lib.ListN.{take}
 use Rattle.table_spec.specs.Frame.{ordinate-of}
-use Rattle.file_tally.specs.Tally.{accountFrom}
-use Rattle.file_tally.proofs.TallyLaws.{front-length}
+use Rattle.file_tally.specs.Account.{accountFrom}
+use Rattle.ordinate_tally.proofs.TallyLaws.{front-length}
 use Rattle.file_tally.proofs.MeanLaws.{account-is}
 use borrow.Author.Needs.{needs}
 use Rattle.file_tally.proofs.account.Statement.{statement}

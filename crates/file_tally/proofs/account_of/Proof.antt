@@ -3,7 +3,7 @@ use mir.Syntax.{w64}
 use mir.Facts.{toZ-ofZ}
 use borrow.Author.Needs.{sfits-of}
 use mathlib.Core.Path.{refl}
-use Rattle.file_tally.specs.Tally.{accountFrom}
+use Rattle.file_tally.specs.Account.{accountFrom}
 use borrow.Author.Needs.{needs}
 use Rattle.file_tally.proofs.account_of.Statement.{statement}
 use Rattle.file_tally.proofs.account_of.Tie as tie

@@ -3,7 +3,7 @@ use Prim.Native.Nat.{_*_}
 use native.Mathlib.Omega.{arith}
 use mir.Syntax.{w64}
 use mir.Facts.{toZ-pos, toZ-ofZ}
-use Rattle.file_tally.proofs.TallyLaws.{minus-is, sub-fits}
+use Rattle.file_tally.proofs.MeanLaws.{minus-is, sub-fits}
 use borrow.Author.Needs.{needs}
 use Rattle.file_tally.proofs.lowered.Statement.{statement}
 use Rattle.file_tally.proofs.lowered.Tie as tie

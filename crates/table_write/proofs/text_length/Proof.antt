@@ -3,8 +3,8 @@ use mathlib.Core.Path.{sym, ap, _∙_}
 use mir.Facts.{toZ-ofZ}
 use Rattle.frame.specs.FrameLaws.{framed-legal}
 use Rattle.table_text.specs.Answers.{told}
-use Rattle.table_write.specs.Room.{Checks}
-use Rattle.table_write.specs.declared.Checked.{Checked}
+use Rattle.table_given.specs.Checks.{Checks}
+use Rattle.table_given.specs.declared.Checked.{Checked}
 use Rattle.table_write.proofs.RoomSteps.{as-many, measured}
 use borrow.Author.Needs.{needs}
 use Rattle.table_write.proofs.text_length.Statement.{statement}

@@ -2,8 +2,8 @@
 use mir.Facts.{toZ-ofZ}
 use Rattle.frame.specs.FrameLaws.{framed-legal}
 use Rattle.table_text.proofs.AnswerSteps.{inside}
-use Rattle.table_write.specs.Room.{Checks}
-use Rattle.table_write.specs.declared.Checked.{Checked}
+use Rattle.table_given.specs.Checks.{Checks}
+use Rattle.table_given.specs.declared.Checked.{Checked}
 use Rattle.table_write.proofs.RoomSteps.{refused-tells, enough-ordinates}
 use borrow.Author.Needs.{needs}
 use Rattle.table_write.proofs.write_form.Statement.{statement}
