@@ -1,1 +1,2 @@
 pub mod CountSteps
+pub mod PointSteps
