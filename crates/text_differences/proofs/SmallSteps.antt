@@ -8,13 +8,13 @@ use native.Mathlib.Numerals.{add-one}
 use lib.Dec.{ltb, lit≤}
 use lib.ListN.{length, set, getD, length-append}
 use lib.Seq.{sets, set-set}
-use borrow.Author.Tests.{ltb-true, ltb-false, lt-ltb, le-ltb, eq-eqb, ne-eqb}
+use borrow.Author.Tests.{ltb-true, ltb-false, lt-ltb, le-ltb}
 use Rattle.terms.specs.Logic.{pick, by-case}
 use Rattle.table_spec.specs.Numerals.{top, low}
 use Rattle.table_text.specs.Digits.{further}
 use Rattle.table_text.specs.DigitLaws.{count-none, count-two, count-three, count-four, count-end}
 use Rattle.table_text.specs.Pieces.{Ahead, number, sets-append, set-sets}
-use Rattle.text_differences.specs.Small.{scales, four, Over, lead-of}
+use Rattle.text_differences.specs.Small.{scales, four, Over}
 
 -- ---- how many digits, by ranges
 
@@ -160,18 +160,3 @@ ahead-over {o = o} {at = at} {g = g} s v l a =
       whole = rw (v .stored, sets-append o at g (v .rest), sets-over (sets o at g) (at + length g) (v .rest) s (omega arith)) (sym (sets-append o at g s) ∙ a .whole);
       ends = omega (arith, a .ends, length-append g s);
     }
-
--- ---- the lead
-
-module _ (p y : ℕ) where
-  pub lead-down : y < p → 105 ≡ lead-of p y
-  unfolding lead-of
-  lead-down h = rw (lt-ltb y p h) refl
-
-  pub lead-same : y ≡ p → 37 ≡ lead-of p y
-  unfolding lead-of
-  lead-same e = rw (le-ltb y p (omega arith), eq-eqb y p e) refl
-
-  pub lead-up : p < y → 73 ≡ lead-of p y
-  unfolding lead-of
-  lead-up h = rw (le-ltb y p (omega arith), ne-eqb y p (λ e. omega arith)) refl

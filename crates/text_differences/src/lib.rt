@@ -12,17 +12,15 @@ ghost use Rattle.table_text.specs.Pieces.{number, ordinates};
 ghost use Rattle.text_digits.specs.Pairs.{pairs};
 ghost use Rattle.text_groups.specs.Tokens.{lone};
 ghost use Rattle.text_lines.specs.Lines.{Countable, difference-state};
-ghost use Rattle.text_differences.specs.Small.{scales, four, Over, lead-of, Scales};
+ghost use Rattle.text_differences.specs.Small.{scales, four, Over, Scales};
 ghost use Rattle.text_differences.specs.Stored.{Stored};
 use frame::Frame;
 use frame::distance;
 use signed::ordinate_at;
-use table_text::digits::DIF;
-use table_text::digits::DIF_MINUS;
-use table_text::digits::DIF_ZERO;
 use table_text::digits::DIGIT;
 use text_digits::ones;
 use text_digits::tens;
+use text_groups::base_of;
 use text_lines::State;
 
 // What makes a number of one digit, of two, three or four one of four digits. Lent as the pairs of digits are.
@@ -64,19 +62,6 @@ fn quick_width(p: u64, y: u64, z: u64, v: u64) -> usize
         return 81;
     }
     1 + small_further(v)
-}
-
-// What the first digit of the DIF for y after p is added to.
-fn base_of(p: u64, y: u64) -> u64
-    ensures { λ r. ⌜ (r ≡ lead-of p y) × (r ≤ 105) ⌝ }
-{
-    if y < p {
-        return DIF_MINUS;
-    }
-    if y == p {
-        return DIF_ZERO;
-    }
-    DIF
 }
 
 // Four digits, the first written as `base` plus the digit.

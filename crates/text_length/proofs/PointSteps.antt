@@ -19,7 +19,7 @@ use Rattle.table_text.specs.Pieces.{ordinates}
 use Rattle.table_text.specs.DigitLaws.{further-le, count-none, count-two, count-end}
 use Rattle.table_text.proofs.NumberSteps.{dup-none, dup-length}
 use Rattle.text_groups.specs.Tokens.{again, TokenFor, Found}
-use Rattle.text_groups.proofs.TokenSteps.{found, again-not, again-so, dif-up, dif-same, dif-down, Copies, copies-start, copies-more, copies-stop}
+use Rattle.text_groups.proofs.TokenSteps.{found, again-not, again-so, dif-either, Copies, copies-start, copies-more, copies-stop}
 use Rattle.text_lines.specs.Lines.{Started, Countable, Counted, difference-state}
 use Rattle.text_differences.proofs.LoneSteps.{counted-none, counted-then, counted-group, lone-start}
 use Rattle.text_length.specs.Points.{Opens}
@@ -66,12 +66,7 @@ record DifToken (p y : ℕ) : Type 0 where
   leads : p + token .up ≡ y + token .down
 
 dif-token : (p y : ℕ) → 0 < p → p < 4294967296 → 0 < y → y < 4294967296 → DifToken p y
-dif-token p y h a k b =
-    by-case (λ _. DifToken p y) (ltb y p)
-    (λ c. let g = ltb-true y p c in record { token = _; for = dif-down p y h a k b g; size-is = omega arith; dif-is = refl; leads = omega arith })
-    (λ c. let f = ltb-false y p c in by-case (λ _. DifToken p y) (ltb p y)
-    (λ d. let g = ltb-true p y d in record { token = _; for = dif-up p y h a k b g; size-is = omega arith; dif-is = refl; leads = omega arith })
-    (λ d. let g : y ≡ p = omega (arith, ltb-false p y d) in record { token = _; for = dif-same p y h a k b g; size-is = omega arith; dif-is = refl; leads = omega arith }))
+dif-token p y h a k b = record { token = _; for = dif-either p y h a k b; size-is = omega arith; dif-is = refl; leads = omega arith }
 
 pub pick-most : (r : Bool) (a b : ℕ) → a ≤ 81 → b ≤ 10 → pick r a b ≤ 81
 pick-most true a b h k = h
