@@ -16,7 +16,8 @@ use Rattle.text_groups.specs.declared.Group.{Group}
 use Rattle.text_lines.specs.declared.State.{State}
 use Rattle.table_text.specs.Digits.{further}
 use Rattle.table_text.specs.Pieces.{ordinates}
-use Rattle.table_text.specs.DigitLaws.{further-le, count-none, count-two, count-end}
+use Rattle.table_text.specs.DigitLaws.{further-le}
+use Rattle.table_text.proofs.SmallSteps.{further-one, further-two}
 use Rattle.table_text.proofs.NumberSteps.{dup-none, dup-length}
 use Rattle.text_groups.specs.Tokens.{again, TokenFor, Found}
 use Rattle.text_groups.proofs.TokenSteps.{found, again-not, again-so, dif-either, Copies, copies-start, copies-more, copies-stop}
@@ -26,17 +27,11 @@ use Rattle.text_length.specs.Points.{Opens}
 
 -- ---- the bytes of a DUP
 
-few-one : (v : ℕ) → v < 10 → 0 ≡ further 9 v
-few-one v h = count-end v 0 10 (count-none v) h .0
-
-few-two : (v : ℕ) → 10 ≤ v → v < 100 → 1 ≡ further 9 v
-few-two v l h = count-end v 1 100 (count-two v (omega arith) l) h .0
-
 dup-one : (m : ℕ) → 0 < m → m < 9 → 1 ≡ length (dupText m)
-dup-one m l h = dup-length m 0 (λ e. omega arith) (few-one (m + 1) (omega arith))
+dup-one m l h = dup-length m 0 (λ e. omega arith) (sym (further-one (m + 1) (omega arith)))
 
 dup-two : (m : ℕ) → 9 ≤ m → m < 99 → 2 ≡ length (dupText m)
-dup-two m l h = dup-length m 1 (λ e. omega arith) (few-two (m + 1) (omega arith) (omega arith))
+dup-two m l h = dup-length m 1 (λ e. omega arith) (sym (further-two (m + 1) (omega arith) (omega arith)))
 
 pub dup-first : (m : ℕ) → m ≡ 0 → length (dupText (m + 1)) ≡ length (dupText m) + 1
 dup-first m e = omega (arith, ap length (dup-none m e), dup-one (m + 1) (omega arith) (omega arith))

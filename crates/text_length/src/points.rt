@@ -14,20 +14,15 @@ use frame::Frame;
 use frame::distance;
 use signed::ordinate_at;
 use table_text::digits::further_digits;
-use text_differences::small_further;
 use text_differences::state_after;
 use text_lines::State;
 
-// The bytes of the DIF for y after p, up to four digits of it counted without a jump.
+// The bytes of the DIF for y after p.
 pub fn dif_width(p: u64, y: u64) -> usize
     requires { ⌜ (p < 4294967296) × (y < 4294967296) ⌝ }
     ensures { λ r. ⌜ (r ≡ 1 + further 9 (apart p y)) × (r ≤ 10) ⌝ }
 {
     let v = distance(p, y);
-    if v < 10000 {
-        let few = small_further(v);
-        return 1 + few;
-    }
     let further = further_digits(v);
     1 + further
 }
