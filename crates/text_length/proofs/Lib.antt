@@ -1,2 +1,1 @@
 pub mod CountSteps
-pub mod PointSteps

@@ -9,8 +9,6 @@ ghost use Rattle.text_groups.specs.Tokens.{Found, lone};
 ghost use Rattle.frame.specs.Legal.{Sound};
 ghost use Rattle.table_text.specs.Pieces.{headOf, ordinates};
 ghost use Rattle.text_lines.specs.Lines.{from, PointsLeft, Countable, Wrote, Counted, Full};
-use crate::points::count_repeated;
-use crate::points::dif_width;
 use frame::Frame;
 use signed::ordinate_at;
 use text_differences::state_after;
@@ -20,8 +18,8 @@ use text_lines::State;
 use text_lines::begin;
 use text_lines::finish;
 use text_lines::new_line;
-
-mod points;
+use text_points::count_repeated;
+use text_points::dif_width;
 
 // The bytes of the DIF for y after p, if it stands alone before z; else more than a line has: y is missing, or z may have the same DIF.
 fn lone_width(p: u64, y: u64, z: u64) -> usize

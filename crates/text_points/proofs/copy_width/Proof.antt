@@ -1,9 +1,9 @@
--- `text_length::points::copy_width` meets its contract: the bytes that one point more adds to a group.
+-- `text_points::copy_width` meets its contract: the bytes that one point more adds to a group.
 use native.Mathlib.Omega.{arith}
-use Rattle.text_length.proofs.PointSteps.{dup-first, dup-second, dup-same}
+use Rattle.text_points.proofs.PointSteps.{dup-first, dup-second, dup-same}
 use borrow.Author.Needs.{needs}
-use Rattle.text_length.proofs.points.copy_width.Statement.{statement}
-use Rattle.text_length.proofs.points.copy_width.Tie as tie
+use Rattle.text_points.proofs.copy_width.Statement.{statement}
+use Rattle.text_points.proofs.copy_width.Tie as tie
 
 returns : tie.Need-returns
 returns c = search needs

@@ -23,7 +23,7 @@ use Rattle.text_groups.specs.Tokens.{again, TokenFor, Found}
 use Rattle.text_groups.proofs.TokenSteps.{found, again-not, again-so, dif-either, Copies, copies-start, copies-more, copies-stop}
 use Rattle.text_lines.specs.Lines.{Started, Countable, Counted, difference-state}
 use Rattle.text_differences.proofs.LoneSteps.{counted-none, counted-then, counted-group, lone-start}
-use Rattle.text_length.specs.Points.{Opens}
+use Rattle.text_points.specs.Points.{Opens}
 
 -- ---- the bytes of a DUP
 

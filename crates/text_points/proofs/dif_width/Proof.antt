@@ -1,11 +1,11 @@
--- `text_length::points::dif_width` meets its contract: the bytes of the DIF for y after p.
+-- `text_points::dif_width` meets its contract: the bytes of the DIF for y after p.
 use mathlib.Core.Path.{ap, _∙_}
 use Prim.Native.Nat.{ℕ, _+_}
 use native.Mathlib.Omega.{arith}
 use Rattle.table_text.specs.Digits.{further}
 use borrow.Author.Needs.{needs}
-use Rattle.text_length.proofs.points.dif_width.Statement.{statement}
-use Rattle.text_length.proofs.points.dif_width.Tie as tie
+use Rattle.text_points.proofs.dif_width.Statement.{statement}
+use Rattle.text_points.proofs.dif_width.Tie as tie
 
 distance-requires : tie.Need-distance-requires
 distance-requires c κs = search needs

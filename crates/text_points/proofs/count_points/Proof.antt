@@ -1,4 +1,4 @@
--- `text_length::points::count_points` meets its contract: the groups from a point on, point by point.
+-- `text_points::count_points` meets its contract: the groups from a point on, point by point.
 use mathlib.Core.Path.{refl}
 use Prim.Native.Nat.{_+_, _-_}
 use native.Mathlib.Omega.{arith}
@@ -7,9 +7,9 @@ use lib.Dec.{eqb}
 use lib.ListN.{length, length-map}
 use Rattle.table_spec.specs.Frame.{ordinate-of}
 use Rattle.table_text.specs.Pieces.{ordinates}
-use Rattle.text_length.proofs.PointSteps.{PointsTo, pick-most, points-start, points-reach, points-counted, points-next}
-use Rattle.text_length.proofs.points.count_points.Statement.{statement}
-use Rattle.text_length.proofs.points.count_points.Tie as tie
+use Rattle.text_points.proofs.PointSteps.{PointsTo, pick-most, points-start, points-reach, points-counted, points-next}
+use Rattle.text_points.proofs.count_points.Statement.{statement}
+use Rattle.text_points.proofs.count_points.Tie as tie
 
 abbrev Inv-loop : tie.InvT-loop
 Inv-loop ys s first wide n p₀ y₀ before₀ start₀ column₀ more₀ next₀ p y before start column more next = PointsTo (ordinates ys) s p y before start column more next

@@ -9,7 +9,7 @@ ghost use Rattle.table_spec.specs.Groups.{dupText};
 ghost use Rattle.table_text.specs.Digits.{further};
 ghost use Rattle.table_text.specs.Pieces.{ordinates};
 ghost use Rattle.text_lines.specs.Lines.{Countable, Counted};
-ghost use Rattle.text_length.specs.Points.{Opens};
+ghost use Rattle.text_points.specs.Points.{Opens};
 use frame::Frame;
 use frame::distance;
 use signed::ordinate_at;

@@ -1,8 +1,8 @@
--- `text_length::points::count_repeated` meets its contract: nothing is done where the next difference stands alone.
-use Rattle.text_length.proofs.PointSteps.{counted-here}
+-- `text_points::count_repeated` meets its contract: nothing is done where the next difference stands alone.
+use Rattle.text_points.proofs.PointSteps.{counted-here}
 use borrow.Author.Needs.{needs}
-use Rattle.text_length.proofs.points.count_repeated.Statement.{statement}
-use Rattle.text_length.proofs.points.count_repeated.Tie as tie
+use Rattle.text_points.proofs.count_repeated.Statement.{statement}
+use Rattle.text_points.proofs.count_repeated.Tie as tie
 
 add-next : tie.Need-add-next
 add-next c = search needs
