@@ -43,7 +43,7 @@ fn copy_width(more: usize) -> usize
     0
 }
 
-// One of two ordinates, and one of two numbers of bytes or points.
+// One of two ordinates: a choice that the compiler makes no jump of.
 fn ordinate_if(yes: bool, a: u64, b: u64) -> u64
     ensures { λ r. ⌜ r ≡ pick yes a b ⌝ }
 {
@@ -53,6 +53,7 @@ fn ordinate_if(yes: bool, a: u64, b: u64) -> u64
     b
 }
 
+// One of two numbers of bytes or of points.
 fn width_if(yes: bool, a: usize, b: usize) -> usize
     ensures { λ r. ⌜ r ≡ pick yes a b ⌝ }
 {
@@ -62,7 +63,7 @@ fn width_if(yes: bool, a: usize, b: usize) -> usize
     b
 }
 
-// The groups from a point y on whose DIF, alone on the line, ends at the column `wide`, as long as they fit. What is returned is the state before the last of them, which may go on.
+// The groups from the next point on, the ordinate `first`, whose DIF alone ends at the column `wide`, as long as they fit. The state before the last of them, which may go on.
 fn count_points(ys: &[i32], s: State, first: u64, wide: usize) -> State
     requires { ⌜ Countable (2 ^ 59) (now ys) s × (s .given < length (now ys)) × (s .dif ≡ true) × (0 < s .last) × Opens (ordinates (now ys)) s first wide ⌝ }
     ensures { λ r. ⌜ Counted (ordinates (now (ys .entry))) s r × (r .given < length (now (ys .entry))) ⌝ }
