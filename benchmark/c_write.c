@@ -116,6 +116,35 @@ ALWAYS_INLINE size_t put_row(const int32_t **next, const int32_t *end, uint8_t *
     return at;
 }
 
+/*
+ * Counts the groups of differences from *next on point by point, without a jump on whether a difference is the one
+ * before it: where differences repeat, no processor foresees which do. Leaves the last group, which may go on, does not
+ * fit in the line or is no common one, to the caller; returns the place before it.
+ */
+ALWAYS_INLINE size_t count_row(const int32_t **next, const int32_t *end, size_t at, size_t full)
+{
+    const int32_t *q = *next;
+    size_t start = at; /* the group's */
+    size_t more = 0;   /* its points after the first */
+    int64_t value = (int64_t)q[0] - q[-1];
+    at += digit_count(magnitude(value));
+    while (end - q >= 2 && at <= full && more < 98) {
+        int64_t after = (int64_t)q[1] - q[0];
+        uint32_t v = magnitude(after);
+        if ((uint64_t)(after + 9999) > 2 * 9999 || q[1] == MISSING_ORDINATE)
+            break;
+        const size_t again = -(size_t)(after == value); /* all bits or none: a choice by `?:` becomes a jump */
+        const size_t width = 1u + (v >= 10) + (v >= 100) + (v >= 1000), copy = (more == 0) + (more == 8);
+        start = (start & again) | (at & ~again);
+        at += (copy & again) | (width & ~again);
+        more = (more + 1) & again;
+        value = after;
+        q++;
+    }
+    *next = q - more;
+    return start;
+}
+
 /* Lays out the whole text in DIFDUP form, stores it if asked to, and returns its length. */
 ALWAYS_INLINE size_t lay_out_difdup(const struct frame *f, const int32_t *restrict y, bool storing,
                                     uint8_t *restrict text)
@@ -141,6 +170,9 @@ ALWAYS_INLINE size_t lay_out_difdup(const struct frame *f, const int32_t *restri
             if (form != GAP) {
                 const int32_t *before = next;
                 at = put_row(&next, end, text, at, full, storing);
+                if (!storing && end - next >= 2 && *next != MISSING_ORDINATE
+                    && (int64_t)next[1] - next[0] == (int64_t)next[0] - next[-1])
+                    at = count_row(&next, end, at, full);
                 if (next != before)
                     form = SLOPE;
             }

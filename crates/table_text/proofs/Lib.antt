@@ -1,3 +1,4 @@
 pub mod NumberSteps
 pub mod HeadSteps
 pub mod AnswerSteps
+pub mod SmallSteps

@@ -22,14 +22,14 @@ use Rattle.text_lines.specs.declared.State.{State}
 use Rattle.table_text.specs.Digits.{further}
 use Rattle.table_text.specs.Pieces.{Ahead, number}
 use Rattle.table_text.proofs.NumberSteps.{dup-none}
-use Rattle.text_groups.specs.Tokens.{run, TokenFor, Found, group-at, lone}
+use Rattle.text_groups.specs.Tokens.{run, lead-of, TokenFor, Found, group-at, lone}
 use Rattle.text_lines.specs.Lines.{from, next-state, after, opening, Started, Counted, Going, difference-state}
-use Rattle.text_groups.proofs.TokenSteps.{found, again-not, dif-up, dif-same, dif-down}
+use Rattle.text_groups.proofs.TokenSteps.{found, again-not, dif-up, dif-same, dif-down, lead-down, lead-same, lead-up}
 use Rattle.text_lines.proofs.TextSteps.{from-fits, from-break}
 use Rattle.table_write_law.specs.Tokens.{form-cases}
-use Rattle.text_differences.specs.Small.{Over, lead-of}
+use Rattle.text_differences.specs.Small.{Over}
 use Rattle.text_differences.specs.Stored.{Stored}
-use Rattle.text_differences.proofs.SmallSteps.{ahead-over, lead-down, lead-same, lead-up}
+use Rattle.text_differences.proofs.SmallSteps.{ahead-over}
 
 -- ---- what is left of a text has its line's end, and a byte more where points are left
 

@@ -2,10 +2,8 @@
 use mathlib.Core.Path.{_≡_}
 use mathlib.Core.List.{List, [], _∷_, _++_}
 use Prim.Native.Nat.{ℕ, _+_, _/_, _%_, _≤_}
-use lib.Dec.{ltb, eqb}
 use lib.ListN.{length}
 use lib.Seq.{sets}
-use Rattle.terms.specs.Logic.{pick}
 use Rattle.text_digits.specs.Pairs.{pairs}
 
 -- what makes a number with so many further digits one of four digits
@@ -26,7 +24,3 @@ pub record Over (o : List ℕ) (at : ℕ) (o' : List ℕ) (g : List ℕ) : Type 
   pub rest : List ℕ
   pub stored : o' ≡ sets o at (g ++ rest)
   pub few : length rest ≤ 3
-
--- what the first digit of the DIF for y after p is added to
-unfoldable pub lead-of : ℕ → ℕ → ℕ
-lead-of p y = pick (ltb y p) 105 (pick (eqb y p) 37 73)

@@ -2,52 +2,28 @@
 ghost use mathlib.Core.Path.{_≡_};
 ghost use mathlib.Core.Bool.{true};
 ghost use Prim.Native.Nat.{_+_, _-_, _*_, _^_, _≤_, _<_};
-ghost use lib.Dec.{ltb};
 ghost use lib.ListN.{length, getD};
 ghost use lib.Seq.{sets};
-ghost use Rattle.terms.specs.Logic.{pick};
 ghost use Rattle.table_spec.specs.Frame.{apart};
 ghost use Rattle.table_text.specs.Digits.{further};
 ghost use Rattle.table_text.specs.Pieces.{number, ordinates};
 ghost use Rattle.text_digits.specs.Pairs.{pairs};
 ghost use Rattle.text_groups.specs.Tokens.{lone};
 ghost use Rattle.text_lines.specs.Lines.{Countable, difference-state};
-ghost use Rattle.text_differences.specs.Small.{scales, four, Over, lead-of, Scales};
+ghost use Rattle.text_differences.specs.Small.{scales, four, Over, Scales};
 ghost use Rattle.text_differences.specs.Stored.{Stored};
 use frame::Frame;
 use frame::distance;
 use signed::ordinate_at;
-use table_text::digits::DIF;
-use table_text::digits::DIF_MINUS;
-use table_text::digits::DIF_ZERO;
 use table_text::digits::DIGIT;
+use table_text::digits::small_further;
 use text_digits::ones;
 use text_digits::tens;
+use text_groups::base_of;
 use text_lines::State;
 
 // What makes a number of one digit, of two, three or four one of four digits. Lent as the pairs of digits are.
 pub const SCALES: [u32; 4] = [1000, 100, 10, 1];
-
-// 1 if a number is past a limit, else 0.
-fn past(limit: u64, v: u64) -> usize
-    ensures { λ r. ⌜ (r ≡ pick (ltb limit v) 1 0) × (r ≤ 1) ⌝ }
-{
-    if limit < v {
-        return 1;
-    }
-    0
-}
-
-// How many digits follow the first one of a number of at most four: comparisons added up.
-pub fn small_further(v: u64) -> usize
-    requires { ⌜ v < 10000 ⌝ }
-    ensures { λ r. ⌜ (r ≡ further 9 v) × (r ≤ 3) ⌝ }
-{
-    let two = past(9, v);
-    let three = past(99, v);
-    let four = past(999, v);
-    two + three + four
-}
 
 // The bytes of the DIF for y after p, whose number is v, if it stands alone before z and has at most four digits; else more than a line has.
 fn quick_width(p: u64, y: u64, z: u64, v: u64) -> usize
@@ -64,19 +40,6 @@ fn quick_width(p: u64, y: u64, z: u64, v: u64) -> usize
         return 81;
     }
     1 + small_further(v)
-}
-
-// What the first digit of the DIF for y after p is added to.
-fn base_of(p: u64, y: u64) -> u64
-    ensures { λ r. ⌜ (r ≡ lead-of p y) × (r ≤ 105) ⌝ }
-{
-    if y < p {
-        return DIF_MINUS;
-    }
-    if y == p {
-        return DIF_ZERO;
-    }
-    DIF
 }
 
 // Four digits, the first written as `base` plus the digit.

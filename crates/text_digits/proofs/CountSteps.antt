@@ -3,7 +3,7 @@ use mathlib.Core.Path.{_≡_, refl}
 use mathlib.Core.Bool.{Bool, true, false}
 use Prim.Native.Nat.{ℕ, suc, _+_, _-_, _*_, _/_, _^_, _≤_, _<_}
 use native.Mathlib.Omega.{arith}
-use native.Mathlib.Nat.{pow-le-pow-right}
+use native.Mathlib.Nat.{pow-succ', pow-le-pow-right}
 use lib.Count.{leadingZeros, leading-le, leading-length}
 use lib.Dec.{T, eqb, leb, ltb, lit<}
 use lib.ListN.{getD}
@@ -79,11 +79,13 @@ record Bits (v k : ℕ) : Type 0 where
   pub up : 2 * v + 1 < 2 ^ k
   pub lo : 2 ^ k ≤ 2 * (2 * v + 1) + 1
 
-bits-are : (v : ℕ) → v < 2147483648 → Bits v (32 - leadingZeros 32 (2 * v + 1))
+-- they are one more than the bits of v
+bits-are : (v : ℕ) → v < 2147483648 → Bits v (33 - leadingZeros 32 v)
 bits-are v h =
-    let z = leading-length 32 (2 * v + 1) (omega arith) in
-    let e : 32 - leadingZeros 32 (2 * v + 1) ≡ z .0 = omega (arith, z .1) in
-    rw e (record { up = z .2; lo = z .3 })
+    let z = leading-length 32 v (omega arith) in
+    let e : 33 - leadingZeros 32 v ≡ suc (z .0) = omega (arith, z .1) in
+    let d = pow-succ' 2 (z .0) in
+    rw e (record { up = omega (arith, d, z .2); lo = omega (arith, d, z .3) })
 
 exponents : (k n : ℕ) → 2 ^ k < 2 ^ n → k < n
 exponents k n h =
@@ -118,19 +120,22 @@ module _ {v k : ℕ} (b : Bits v k) (h : v < 2147483648) where
       differ k v (b .lo) x (b .up) small some short (omega arith) (eqb-true (least x) (10 ^ (most x - 1)) (y .0)) (ltb-true 0 (most x - 1) (y' .0)) (y' .1))
       refl (r'' .1)
 
--- the entry by the zeros before the bits
+-- the entry by the zeros before the bits of v, one of which is there in any case
 module _ (v : ℕ) (h : v < 2147483648) where
   abbrev zeros : ℕ
-  zeros = leadingZeros 32 (2 * v + 1)
+  zeros = leadingZeros 32 v
 
-  pub zeros-in : zeros < 32
-  zeros-in = omega (arith, leading-le 32 (2 * v + 1), some-bits (bits-are v h) h)
+  pub zeros-some : 0 < zeros
+  zeros-some = omega (arith, bits-few (bits-are v h) h)
 
-  place : 32 - (32 - zeros) ≡ zeros
-  place = omega (arith, zeros-in)
+  pub zeros-in : zeros - 1 < 32
+  zeros-in = omega (arith, leading-le 32 v)
 
-  pub zeros-small : getD counts zeros 0 ≤ 42949672960
+  place : 32 - (33 - zeros) ≡ zeros - 1
+  place = omega (arith, zeros-some, leading-le 32 v)
+
+  pub zeros-small : getD counts (zeros - 1) 0 ≤ 42949672960
   zeros-small = rw place at (entry-small (bits-are v h) h)
 
-  pub zeros-count : (v + getD counts zeros 0) / 4294967296 ≡ 1 + further 9 v
+  pub zeros-count : (v + getD counts (zeros - 1) 0) / 4294967296 ≡ 1 + further 9 v
   zeros-count = rw place at (by-table (bits-are v h) h)

@@ -2,7 +2,7 @@
 use mathlib.Core.List.{List, [], _∷_}
 use Prim.Native.Nat.{ℕ}
 
--- for a number v with 2 v + 1 of 32 bits, of 31, and so on: what is added to v, so that the count of its digits is the high half of the sum
+-- for a number v of 31 bits, of 30, and so on to none: what is added to v, so that the count of its digits is the high half of the sum
 unfoldable pub counts : List ℕ
 counts =
     42949672960 ∷ 41949672960 ∷ 38654705664 ∷ 38654705664 ∷ 38554705664 ∷ 34359738368 ∷ 34359738368 ∷ 34349738368

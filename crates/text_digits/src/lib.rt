@@ -233,7 +233,7 @@ pub fn ones(t: &[u8; 200], r: u32) -> u8
     t[i]
 }
 
-// For a number v by the zeros before the bits of 2 v + 1: what makes the count of its digits the high half of a sum with v. Lent as the pairs are.
+// For a number v of at most 31 bits by the zeros before them in 31: what makes the count of its digits the high half of a sum with v. Lent as the pairs are.
 pub const COUNTS: [u64; 32] = [
     42949672960,
     41949672960,
@@ -269,14 +269,13 @@ pub const COUNTS: [u64; 32] = [
     4294967296,
 ];
 
-// How many digits a number has.
+// How many digits a number has. The zeros are those of a number that may be 0: the compiler sets the register before the instruction that finds the highest bit, which would wait for its old content.
 pub fn digits_in(d: &[u64; 32], v: u64) -> usize
     requires { ⌜ (now d ≡ counts) × (v < 2147483648) ⌝ }
     ensures { λ r. ⌜ (r ≡ 1 + further 9 v) × (r ≤ 10) ⌝ }
 {
-    let odd = (2 * v + 1) as u32;
-    let zeros = u32::leading_zeros(odd) as usize;
-    let entry = d[zeros];
+    let zeros = u32::leading_zeros(v as u32) as usize;
+    let entry = d[zeros - 1];
     let sum = v + entry;
     (sum / 4294967296) as usize
 }

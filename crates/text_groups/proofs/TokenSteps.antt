@@ -4,6 +4,7 @@ use mathlib.Core.Bool.{Bool, true, false, Bool·beq}
 use mathlib.Core.List.{List, [], _∷_, _++_}
 use Prim.Native.Nat.{ℕ, suc, _+_, _-_, _≤_, _<_}
 use native.Mathlib.Omega.{arith}
+use native.Mathlib.Nat.{add-zero, zero-add}
 use native.Mathlib.Numerals.{add-one}
 use lib.Dec.{ltb, leb, eqb, lit≤}
 use lib.ListN.{length, getD, drop, length-append, drop-of-length-le}
@@ -20,7 +21,7 @@ use Rattle.table_text.specs.Digits.{further}
 use Rattle.table_text.specs.DigitLaws.{further-le}
 use Rattle.table_text.proofs.NumberSteps.{number-length}
 use Rattle.table_text.specs.Pieces.{number}
-use Rattle.text_groups.specs.Tokens.{again, run, TokenFor, Found, count-at, group-at}
+use Rattle.text_groups.specs.Tokens.{again, run, lead-of, TokenFor, Found, count-at, group-at}
 
 -- ---- forms
 
@@ -176,6 +177,34 @@ module _ (p y : ℕ) (h : 0 < p) (a : p < 4294967296) (k : 0 < y) (b : y < 42949
         likes = λ q z e. rw f (again-down (p - y) q z (ltb-true 0 q (e ∙ n)) (omega arith));
         keeps = λ q z e c. sided (eqb (q + 0) (z + (p - y))) (ltb 0 z) true c ∙ sym n;
       }
+
+-- ---- the lead
+
+module _ (p y : ℕ) where
+  pub lead-down : y < p → 105 ≡ lead-of p y
+  unfolding lead-of
+  lead-down h = rw (lt-ltb y p h) refl
+
+  pub lead-same : y ≡ p → 37 ≡ lead-of p y
+  unfolding lead-of
+  lead-same e = rw (le-ltb y p (omega arith), eq-eqb y p e) refl
+
+  pub lead-up : p < y → 73 ≡ lead-of p y
+  unfolding lead-of
+  lead-up h = rw (le-ltb y p (omega arith), ne-eqb y p (λ e. omega arith)) refl
+
+  -- the token by how far y is above p, and below
+  pub dif-either : 0 < p → p < 4294967296 → 0 < y → y < 4294967296
+      → TokenFor p y (record { base = lead-of p y; size = (y - p) + (p - y); up = y - p; down = p - y; dif = true })
+  dif-either h a k b =
+      by-case (λ _. Either) (ltb y p)
+      (λ c. let g = ltb-true y p c in let u : y - p ≡ 0 = omega arith in rw (← lead-down g, u, zero-add (p - y)) (dif-down p y h a k b g))
+      (λ c. let f = ltb-false y p c in by-case (λ _. Either) (ltb p y)
+      (λ d. let g = ltb-true p y d in let u : p - y ≡ 0 = omega arith in rw (← lead-up g, u, add-zero (y - p)) (dif-up p y h a k b g))
+      (λ d. let g : y ≡ p = omega (arith, ltb-false p y d) in let u : y - p ≡ 0 = omega arith in let v : p - y ≡ 0 = omega arith in rw (← lead-same g, u, v) (dif-same p y h a k b g)))
+    where
+      Either : Type 0
+      Either = TokenFor p y (record { base = lead-of p y; size = (y - p) + (p - y); up = y - p; down = p - y; dif = true })
 
 -- ---- is_again
 

@@ -29,6 +29,10 @@ pub record SmallToken (t : Token) : Type 0 where
   pub up : t .up < 4294967296
   pub down : t .down < 4294967296
 
+-- what the first digit of the DIF for y after p is added to
+unfoldable pub lead-of : ℕ → ℕ → ℕ
+lead-of p y = pick (ltb y p) 105 (pick (eqb y p) 37 73)
+
 -- t is the token of y after p. `again` is said of a q that is missing or not as y is: such a one is each that has the token
 pub record TokenFor (p y : ℕ) (t : Token) : Type 0 where
   pub text : tokenText Difdup (form p y) y ≡ number (t .base) (t .size)

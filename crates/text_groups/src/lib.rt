@@ -1,7 +1,7 @@
 // Tokens and groups of equal tokens (01, "The written text"). Inner functions: an index within the ordinates, places far from the largest number.
 ghost use mathlib.Core.Path.{_≡_};
 ghost use mathlib.Core.List.{_++_};
-ghost use Prim.Native.Nat.{_+_, _^_, _≤_, _<_};
+ghost use Prim.Native.Nat.{_+_, _-_, _^_, _≤_, _<_};
 ghost use lib.ListN.{length, drop};
 ghost use lib.Seq.{sets};
 ghost use Rattle.alphabet_spec.specs.Kinds.{dup};
@@ -9,7 +9,7 @@ ghost use Rattle.table_spec.specs.Numerals.{leadByte};
 ghost use Rattle.table_spec.specs.Groups.{dupText};
 ghost use Rattle.table_text.specs.Digits.{further};
 ghost use Rattle.table_text.specs.Pieces.{Put, number, ordinates};
-ghost use Rattle.text_groups.specs.Tokens.{SmallToken, TokenFor, again, run, Found};
+ghost use Rattle.text_groups.specs.Tokens.{SmallToken, lead-of, TokenFor, again, run, Found};
 use signed::ZERO_ORDINATE;
 use signed::ordinate_at;
 use table_text::digits::DIF;
@@ -67,36 +67,43 @@ fn own_token(y: u64) -> Token
     }
 }
 
-// The DIF token of the ordinate y after p.
+// How far a number is above another, 0 if it is not.
+fn above(a: u64, b: u64) -> u64
+    ensures { λ r. ⌜ r ≡ a - b ⌝ }
+{
+    if b < a {
+        return a - b;
+    }
+    0
+}
+
+// What the first digit of the DIF for y after p is added to.
+pub fn base_of(p: u64, y: u64) -> u64
+    ensures { λ r. ⌜ (r ≡ lead-of p y) × (r ≤ 105) ⌝ }
+{
+    if y < p {
+        return DIF_MINUS;
+    }
+    if y == p {
+        return DIF_ZERO;
+    }
+    DIF
+}
+
+// The DIF token of the ordinate y after p, without a jump on whether it is above or below.
 fn dif_token(p: u64, y: u64) -> Token
     requires { ⌜ (0 < p) × (p < 4294967296) × (0 < y) × (y < 4294967296) ⌝ }
     ensures { λ r. ⌜ TokenFor p y r ⌝ }
 {
-    if y < p {
-        let down = p - y;
-        return Token {
-            base: DIF_MINUS,
-            size: down,
-            up: 0,
-            down,
-            dif: true,
-        };
-    }
-    let up = y - p;
-    if up < 1 {
-        return Token {
-            base: DIF_ZERO,
-            size: 0,
-            up: 0,
-            down: 0,
-            dif: true,
-        };
-    }
+    let base = base_of(p, y);
+    let up = above(y, p);
+    let down = above(p, y);
+    let size = up + down;
     Token {
-        base: DIF,
-        size: up,
+        base,
+        size,
         up,
-        down: 0,
+        down,
         dif: true,
     }
 }

@@ -10,10 +10,7 @@ ghost use Rattle.frame.specs.Legal.{Sound};
 ghost use Rattle.table_text.specs.Pieces.{headOf, ordinates};
 ghost use Rattle.text_lines.specs.Lines.{from, PointsLeft, Countable, Wrote, Counted, Full};
 use frame::Frame;
-use frame::distance;
 use signed::ordinate_at;
-use table_text::digits::further_digits;
-use text_differences::small_further;
 use text_differences::state_after;
 use text_groups::Group;
 use text_groups::find;
@@ -21,8 +18,10 @@ use text_lines::State;
 use text_lines::begin;
 use text_lines::finish;
 use text_lines::new_line;
+use text_points::count_repeated;
+use text_points::dif_width;
 
-// The bytes of the DIF for y after p, if it stands alone before z, up to four digits of it counted without a jump; else more than a line has: y is missing, or z may have the same DIF.
+// The bytes of the DIF for y after p, if it stands alone before z; else more than a line has: y is missing, or z may have the same DIF.
 fn lone_width(p: u64, y: u64, z: u64) -> usize
     requires { ⌜ (p < 4294967296) × (y < 4294967296) × (z < 4294967296) ⌝ }
     ensures { λ r. ⌜ (r ≡ lone p y z) × (r ≤ 81) ⌝ }
@@ -33,19 +32,13 @@ fn lone_width(p: u64, y: u64, z: u64) -> usize
     if p + z == y + y {
         return 81;
     }
-    let v = distance(p, y);
-    if v < 10000 {
-        let few = small_further(v);
-        return 1 + few;
-    }
-    let further = further_digits(v);
-    1 + further
+    dif_width(p, y)
 }
 
 // Points in DIF form without DUP, after one in DIF form, as long as they fit on the line: most points of most tables.
 fn lone_differences(ys: &[i32], s: State) -> State
     requires { ⌜ Countable (2 ^ 58) (now ys) s × (s .given < length (now ys)) × (s .dif ≡ true) × (0 < s .last) ⌝ }
-    ensures { λ r. ⌜ Counted (ordinates (now (ys .entry))) s r × (r .given < length (now (ys .entry))) ⌝ }
+    ensures { λ r. ⌜ Counted (ordinates (now (ys .entry))) s r × (r .given < length (now (ys .entry))) × (r .dif ≡ true) × (0 < r .last) ⌝ }
 {
     let n = ys.len();
     let mut i = s.given;
@@ -68,7 +61,7 @@ fn lone_differences(ys: &[i32], s: State) -> State
     state_after(s, i, p, column)
 }
 
-// The same from any state.
+// The same from any state, and then the groups that repeat a difference, where one does.
 fn count_differences(ys: &[i32], s: State) -> State
     requires { ⌜ Countable (2 ^ 58) (now ys) s × (s .given < length (now ys)) ⌝ }
     ensures { λ r. ⌜ Counted (ordinates (now (ys .entry))) s r × (r .given < length (now (ys .entry))) ⌝ }
@@ -77,7 +70,8 @@ fn count_differences(ys: &[i32], s: State) -> State
         return s;
     }
     if s.dif {
-        return lone_differences(ys, s);
+        let t = lone_differences(ys, s);
+        return count_repeated(ys, t);
     }
     s
 }

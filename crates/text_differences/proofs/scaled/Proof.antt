@@ -6,7 +6,8 @@ use mathlib.Core.List.{List}
 use Prim.Native.Nat.{ℕ}
 use native.Mathlib.Omega.{arith}
 use lib.ListN.{getD}
-use Rattle.text_differences.proofs.SmallSteps.{further-few, scaled-small}
+use Rattle.table_text.proofs.SmallSteps.{further-few}
+use Rattle.text_differences.proofs.SmallSteps.{scaled-small}
 use borrow.Author.Needs.{needs}
 use Rattle.text_differences.proofs.scaled.Statement.{statement}
 use Rattle.text_differences.proofs.scaled.Tie as tie

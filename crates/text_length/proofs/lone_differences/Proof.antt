@@ -1,4 +1,5 @@
 -- `text_length::lone_differences` meets its contract: points in DIF form without DUP, after one in DIF form, as long as they fit on the line.
+use mathlib.Core.Path.{refl}
 use Prim.Native.Nat.{_-_}
 use native.Mathlib.Omega.{arith}
 use borrow.Author.Needs.{needs}
@@ -53,7 +54,7 @@ returns c =
     let a = c .before .before .before .before .before .before .before .args in
     let t = c .before .before .before .before .before .loop .inv in
     let inside = t .inside in
-    rw (c .state-after .ensures) (t .counted, omega (arith, length-map (a .ys .now) ordinate-of))
+    rw (c .state-after .ensures) (t .counted, omega (arith, length-map (a .ys .now) ordinate-of), refl, t .some)
 
 add-next-2 : tie.Need-add-next-2 Inv-loop μ-loop
 add-next-2 c = search needs
@@ -80,7 +81,7 @@ returns-2 c =
     let a = c .before .before .before .before .args in
     let t = c .before .before .loop .inv in
     let inside = t .inside in
-    rw (c .state-after2 .ensures) (t .counted, omega (arith, length-map (a .ys .now) ordinate-of))
+    rw (c .state-after2 .ensures) (t .counted, omega (arith, length-map (a .ys .now) ordinate-of), refl, t .some)
 
 pub lone-differences-spec : {M : Type 1} → statement M
 lone-differences-spec =

@@ -1,8 +1,8 @@
--- `text_differences::small_further` meets its contract: three comparisons count the digits of a number of at most four.
-use Rattle.text_differences.proofs.SmallSteps.{further-sum}
+-- `table_text::digits::small_further` meets its contract: three comparisons count the digits of a number of at most four.
+use Rattle.table_text.proofs.SmallSteps.{further-sum}
 use borrow.Author.Needs.{needs}
-use Rattle.text_differences.proofs.small_further.Statement.{statement}
-use Rattle.text_differences.proofs.small_further.Tie as tie
+use Rattle.table_text.proofs.digits.small_further.Statement.{statement}
+use Rattle.table_text.proofs.digits.small_further.Tie as tie
 
 past-requires : tie.Need-past-requires
 past-requires c κs = search needs

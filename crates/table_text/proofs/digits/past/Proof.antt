@@ -1,9 +1,9 @@
--- `text_differences::past` meets its contract: 1 if a number is past a limit, else 0.
+-- `table_text::digits::past` meets its contract: 1 if a number is past a limit, else 0.
 use mathlib.Core.Path.{refl}
 use lib.Dec.{lit≤}
 use borrow.Author.Tests.{lt-ltb, le-ltb}
-use Rattle.text_differences.proofs.past.Statement.{statement}
-use Rattle.text_differences.proofs.past.Tie as tie
+use Rattle.table_text.proofs.digits.past.Statement.{statement}
+use Rattle.table_text.proofs.digits.past.Tie as tie
 
 returns : tie.Need-returns
 returns c = (rw (lt-ltb _ _ (c .if1 .taken)) refl, lit≤ tt)
