@@ -1,7 +1,7 @@
 /*
  * Runs the library's functions, and those in C, on the bench's texts:
  *     measure FUNCTION TEXTS TIMES    runs one so many times; ./bench counts 2k times less k, so that all else cancels
- *     measure time TEXTS FUNCTION..   times each beside the others: nanoseconds a byte, least and median of nine
+ *     measure time TEXTS FUNCTION..   times each beside the others: nanoseconds a byte, least and median of 31
  *     measure size TEXTS              the bytes and the points
  *     measure store TEXTS FOLDER      stores the texts as FOLDER/0 .., and their ordinates as FOLDER/0.ordinates ..
  *     measure answer FILE             reads a file of at most 100 points, and prints its ordinates or why it is refused
@@ -18,7 +18,7 @@
 #include <string.h>
 #include <time.h>
 
-enum { MOST_TURNS = 1024, ROUNDS = 9, MOST_FUNCTIONS = 16 };
+enum { MOST_TURNS = 1024, ROUNDS = 31, MOST_FUNCTIONS = 16 };
 
 /* What the functions are run on: tables, or files with the table that each has, and what they need. */
 struct texts {
@@ -318,7 +318,7 @@ static int ascending(const void *a, const void *b)
     return (*(const double *)a > *(const double *)b) - (*(const double *)a < *(const double *)b);
 }
 
-/* Times the functions: in each of nine rounds each in its turn, as many times as take 30 milliseconds. */
+/* Times the functions: in each of 31 rounds each in its turn, as many times as take 30 milliseconds. */
 static void time_functions(struct texts *texts, char **names, size_t count)
 {
     const struct function *f[MOST_FUNCTIONS];
