@@ -1,6 +1,7 @@
 // Runs of short differences, and of DUPs of them (01, "Values", "Meaning"): what most of a table is, by a loop that asks for nothing else and leaves the rest to the values of a line.
 ghost use mathlib.Core.Path.{_≡_};
 ghost use Prim.Native.Nat.{_+_, _≤_};
+ghost use lib.ListN.{length};
 ghost use Rattle.table_steps.specs.Ways.{reached};
 ghost use Rattle.table_runs.specs.Roomy.{Roomy};
 ghost use Rattle.table_value.specs.States.{Sits, Went};
@@ -11,34 +12,36 @@ use table_steps::apart;
 use table_steps::onward;
 use table_value::Cur;
 
-// So many bytes hold a difference of four digits, and what stands after it.
-const ROOM: usize = 5;
+// So many bytes hold a difference of four digits; one more shows that it ends there.
+const ROOM: usize = 4;
 
 // So many points are taken in one run, so that none is out of range: each difference is below ten thousand.
-const MOST: usize = 80;
+const MOST: usize = 1000;
 
 // So far from the least and the largest ordinate a run begins.
-const FAR: u64 = 1000000;
+const FAR: u64 = 10000000;
 
 // FAR below the first number past the ordinates, 2^32.
-const HIGH: u64 = 4293967296;
+const HIGH: u64 = 4284967296;
 
-// How many points there may be when a run ends.
-fn run_end(points: usize, k: usize) -> usize
-    requires { ⌜ k ≤ points ⌝ }
-    ensures { λ r. ⌜ (r ≤ points) × (r ≤ k + 80) × (k ≤ r) ⌝ }
+// Before which place a run takes values that begins at a place: each takes a byte, so that this one bound serves for the text, for the points that are left and for the range.
+fn run_end(past: usize, at: usize, left: usize) -> usize
+    requires { ⌜ at ≤ past ⌝ }
+    ensures { λ r. ⌜ (r ≤ past) × (r ≤ at + left) × (r ≤ at + 1000) ⌝ }
 {
-    if points - k > MOST {
-        return k + MOST;
+    let most = if left > MOST { MOST } else { left };
+    if past - at < most {
+        return past;
     }
-    points
+    at + most
 }
 
 // May a run begin here: is there room for a short difference, and an ordinate far from both ends?
 fn roomy(s: &[u8], c: Cur) -> bool
+    requires { ⌜ c .at ≤ length (now s) ⌝ }
     ensures { λ r. ⌜ Roomy (now (s .entry)) c r ⌝ }
 {
-    if s.len() < ROOM {
+    if s.len() - c.at < ROOM {
         return false;
     }
     if c.q < FAR {
@@ -98,20 +101,20 @@ pub fn differences(s: &[u8], points: usize, out: &mut [i32], c: Cur) -> Cur
     if !roomy(s, c) {
         return c;
     }
-    let limit = s.len() - ROOM;
-    let stop = run_end(points, c.k);
+    let past = s.len() - ROOM;
     let mut w = Way {
         at: c.at,
         k: c.k,
         before: 0,
         q: c.q,
+        end: run_end(past, c.at, points - c.k),
     };
     loop {
         let at = w.at;
-        if w.k >= stop || at > limit {
+        if at >= w.end {
             return after_run(c, w);
         }
-        let r = onward(s, stop, out, w);
+        let r = onward(s, out, w);
         if r.at == at {
             return after_run(c, r);
         }

@@ -1,6 +1,5 @@
 -- From a byte and the few digits after it to the token of a difference or of a DUP. No place of the code is named here. Assumes nothing.
 use mathlib.Core.Path.{_≡_, refl, sym, _∙_, subst}
-use mathlib.Core.Bool.{false}
 use mathlib.Core.List.{List}
 use Prim.Native.Nat.{ℕ, _+_, _-_, _*_, _/_, _%_, _≤_, _<_}
 use native.Mathlib.Omega.{arith}
@@ -9,11 +8,10 @@ use lib.ListN.{length}
 use borrow.Author.Tests.{lt-leb, le-leb, leb-true, leb-false}
 use Rattle.terms.specs.Logic.{by-case, no-way}
 use Rattle.alphabet_spec.specs.Bytes.{kind}
-use Rattle.alphabet_spec.specs.Digits.{within}
 use Rattle.alphabet_spec.specs.Entries.{entry, entryAt}
 use Rattle.byte_entry.specs.Ranged.{ruled}
 use Rattle.alphabet.specs.Standing.{standing, entry-stands}
-use Rattle.alphabet.specs.Ran.{Ran, Few, start, stop, ended, ran-within, ran-below}
+use Rattle.alphabet.specs.Ran.{Ran, Few, start, stop, ran-within, ran-below}
 use Rattle.table_spec.specs.Values.{by, times}
 use Rattle.table_numbers.specs.Numbers.{Token, NumberAt}
 use Rattle.table_numbers.proofs.NumberLaws.{further-dup, further-none, further-nine, packed-token, dif-at, dup-at}
@@ -57,10 +55,6 @@ unfolding entry kind
 percent = refl
 
 -- ---- the tokens
-
--- no digit at all
-pub few-none : (s : List ℕ) (i v : ℕ) {x : ℕ} → i ≤ length s → x ≡ standing s i → within 48 10 x ≡ false → Few s i v v i x
-few-none s i v l g t = record { run = ended (start s i v 3 l) g t; stands = g; grows = omega arith }
 
 module _ (s : List ℕ) (i : ℕ) {b : ℕ} (h : i < length s) (g : b ≡ standing s i) where
   -- a letter and at most three digits

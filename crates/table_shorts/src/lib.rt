@@ -1,9 +1,7 @@
 // A short value at a place (01, "Values"): a difference, or a DUP, of at most four digits, where five bytes stand.
 ghost use mathlib.Core.Path.{_≡_};
-ghost use mathlib.Core.Bool.{false};
 ghost use Prim.Native.Nat.{_+_, _≤_};
 ghost use lib.ListN.{length};
-ghost use Rattle.alphabet_spec.specs.Digits.{within};
 ghost use Rattle.alphabet.specs.Standing.{«standing»};
 ghost use Rattle.table_shorts.specs.Short.{Short, Counted};
 use alphabet::Run;
@@ -21,46 +19,36 @@ fn nothing(at: usize, b: u64) -> Run
     Run { v: 0, at, b }
 }
 
-// The difference of one digit at a place, which begins with the byte b, where x, no digit, stands after it. A small letter is 32 above its capital: one test for both, and `%` has the digit 0.
-fn one_digit(s: &[u8], at: usize, b: u64, x: u64) -> Run
-    requires { ⌜ (at + 5 ≤ length (now s)) × (b ≡ standing (now s) at) × (x ≡ standing (now s) (at + 1)) × (within 48 10 x ≡ false) ⌝ }
+// The difference 0, if `%` stands at the place, and no digit after it.
+fn zero_difference(s: &[u8], at: usize, b: u64) -> Run
+    requires { ⌜ (at + 5 ≤ length (now s)) × (b ≡ standing (now s) at) ⌝ }
     ensures { λ r. ⌜ Short (now (s .entry)) at b r ⌝ }
 {
-    let next = at + 1;
-    if b == PERCENT {
-        return Run {
-            v: 0,
-            at: next,
-            b: x,
-        };
+    if b != PERCENT {
+        return nothing(at, b);
     }
-    let letter = b - b / 32 % 2 * 32;
-    if letter < 74 || letter > 82 {
+    let next = at + 1;
+    let x = standing_in(s, next);
+    if is_digit(x) {
         return nothing(at, b);
     }
     Run {
-        v: letter - 73,
+        v: 0,
         at: next,
         b: x,
     }
 }
 
-// The difference at a place, which begins with the byte b, if it has at most four digits: its number and the place after it. A second digit is asked for first: then `%` and a letter need
-// no jump between them, which in quiet tables no processor foresees.
+// The difference at a place, which begins with the byte b, if it has at most four digits: its number and the place after it. A small letter is 32 above its capital: one test for both.
 pub fn short(s: &[u8], at: usize, b: u64) -> Run
     requires { ⌜ (at + 5 ≤ length (now s)) × (b ≡ standing (now s) at) ⌝ }
     ensures { λ r. ⌜ Short (now (s .entry)) at b r ⌝ }
 {
-    let next = at + 1;
-    let x = standing_in(s, next);
-    if !is_digit(x) {
-        return one_digit(s, at, b, x);
-    }
     let letter = b - b / 32 % 2 * 32;
     if letter < 74 || letter > 82 {
-        return nothing(at, b);
+        return zero_difference(s, at, b);
     }
-    let r = few_digits(s, next, letter - 73);
+    let r = few_digits(s, at + 1, letter - 73);
     if is_digit(r.b) {
         return nothing(at, b);
     }

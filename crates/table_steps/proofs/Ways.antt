@@ -21,7 +21,7 @@ use Rattle.table_value.specs.States.{Sits, Went}
 use Rattle.table_value.specs.declared.Cur.{Cur}
 use Rattle.table_steps.specs.declared.Way.{Way}
 use Rattle.table_shorts.specs.Short.{ShortAt}
-use Rattle.table_steps.specs.Ways.{apart, stepAfter, formAfter, reached, Safe, Fare, Been, Onward}
+use Rattle.table_steps.specs.Ways.{apart, stepAfter, formAfter, reached, left, Safe, Fare, Been, Onward}
 use Rattle.table_value.proofs.Walks.{went-none}
 use Rattle.table_steps.proofs.Walks.{went-on, went-dup}
 
@@ -101,14 +101,14 @@ been-from : {N : ℕ} {s : List ℕ} {c : Cur} (w : Way) {out mid : List ℤ} �
 been-from w = ⊎-elim (λ x. let y = x .1 in omega arith) (λ x. let y = x .0 in omega arith)
 
 -- no further
-pub onward-none : {s : List ℕ} {stop : ℕ} (w : Way) (out : List ℤ) → Safe stop w → Onward s stop w w out out
-onward-none w out h = record { safe = h; moves = inl refl; been = λ N c from z l x. x }
+pub onward-none : {s : List ℕ} (w : Way) (out : List ℤ) → Safe s w → Onward s w w out out
+onward-none w out h = record { safe = h; moves = inl refl; fewer = omega arith; been = λ N c from z l x. x }
 
-module _ {s : List ℕ} {stop : ℕ} (w : Way) (f : Fare s stop w) where
+module _ {s : List ℕ} (w : Way) (f : Fare s w) where
   -- a short difference is within the range
   module _ {b v j : ℕ} (t : ShortAt s (w .at) b v j) where
     dif-fits : (v < w .q) × (w .q + v < 4294967296)
-    dif-fits = let l = f .left in let a = f .safe .low in let h = f .safe .high in let m = t .small in (omega arith, omega arith)
+    dif-fits = let l = f .some in let a = f .safe .low in let h = f .safe .high in let m = t .small in (omega arith, omega arith)
 
     pub dif-turns : (v ≤ w .q) × (w .q < 4294967296)
     dif-turns = let x = dif-fits .0 in let y = dif-fits .1 in (omega arith, omega arith)
@@ -121,13 +121,14 @@ module _ {s : List ℕ} {stop : ℕ} (w : Way) (f : Fare s stop w) where
       dif-high = dif-turned .high
 
       -- past it
-      pub onward-dif : (out out' : List ℤ) → out' ≡ set out (w .k) (entry-for u) → Onward s stop w (record { at = j; k = w .k + 1; before = w .q; q = u }) out out'
+      pub onward-dif : (out out' : List ℤ) → out' ≡ set out (w .k) (entry-for u) → Onward s w (record { at = j; k = w .k + 1; before = w .q; q = u; end = w .end }) out out'
       onward-dif out out' o =
-          let l = f .left in let a = f .safe .low in let h = f .safe .high in let m = t .small in let r = dif-turned in let nl = r .near-low in let nh = r .near-high in
-          let g = form-of (leb 106 b) in let y = r .size in
+          let l = f .some in let a = f .safe .low in let h = f .safe .high in let m = t .small in let r = dif-turned in let nl = r .near-low in let nh = r .near-high in
+          let g = form-of (leb 106 b) in let y = r .size in let x = t .token .low in let p = f .safe .most in
           record {
-            safe = record { most = f .safe .most; few = omega arith; low = omega arith; high = omega arith; small = inr (omega arith) };
+            safe = record { most = omega arith; past = f .safe .past; low = omega arith; high = omega arith; small = inr (omega arith) };
             moves = inr (omega arith);
+            fewer = omega arith;
             been = λ N c from z k x. let p = been-went w z x in
                 inr (
                   let i = been-from w x in omega arith,
@@ -138,7 +139,7 @@ module _ {s : List ℕ} {stop : ℕ} (w : Way) (f : Fare s stop w) where
           }
 
   -- a DUP of the last difference, of no more points than there is room for
-  module _ (n : ℕ) (o : w .before ≡ 0 → ⊥) (m : 1 ≤ n) (l : n ≤ stop - w .k) where
+  module _ (n : ℕ) (o : w .before ≡ 0 → ⊥) (m : 1 ≤ n) (l : n ≤ w .end - w .at) where
     step-small : apart (w .before) (w .q) < 10000
     step-small = ⊎-elim (λ x. absurd (o x)) (λ x. x) (f .safe .small)
 
@@ -157,13 +158,14 @@ module _ {s : List ℕ} {stop : ℕ} (w : Way) (f : Fare s stop w) where
 
       pub onward-dup : (out out' : List ℤ) {j : ℕ} → Token s (w .at) (times (n + 1)) j
           → out' ≡ sets out (w .k) (map entry-for (copies n (By (ltb (w .q) (w .before)) (apart (w .before) (w .q))) (w .q)))
-          → Onward s stop w (record { at = j; k = w .k + n; before = 0; q = u }) out out'
+          → Onward s w (record { at = j; k = w .k + n; before = 0; q = u; end = w .end - n }) out out'
       onward-dup out out' {j} t i =
-          let a = f .safe .low in let h = f .safe .high in let x = dup-most in let y = f .left in let r = dup-stepped in let nl = r .near-low in let nh = r .near-high in
-          let g = form-of (ltb (w .q) (w .before)) in
+          let a = f .safe .low in let h = f .safe .high in let x = dup-most in let y = f .some in let r = dup-stepped in let nl = r .near-low in let nh = r .near-high in
+          let g = form-of (ltb (w .q) (w .before)) in let b = t .low in let p = f .safe .most in let e' = f .safe .past in
           record {
-            safe = record { most = f .safe .most; few = omega arith; low = omega arith; high = omega arith; small = inl refl };
+            safe = record { most = omega arith; past = omega arith; low = omega arith; high = omega arith; small = inl refl };
             moves = inr (omega arith);
+            fewer = omega arith;
             been = λ N c from z k x. ⊎-elim (λ p. absurd (o (p .3)))
                 (λ p. inr (let q = p .0 in omega arith, went-dup _ out' (rw (ne-eqb (w .before) 0 o) at (p .1)) (omega arith) (g .0) m t (omega arith) (rw (g .2) (r .shifts)) (rw (g .2) i))) x;
           }

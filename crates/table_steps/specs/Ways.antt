@@ -29,19 +29,23 @@ state c w = record { at = w .at; k = w .k; q = w .q; want = c .want; step = step
 abbrev pub reached : Cur → Way → Cur
 reached c w = pick (eqb (w .k) (c .k)) c (state c w)
 
--- the ordinate is so far from the least and the largest that no difference below ten thousand a point leads out of range, up to the point `stop`; the last one was such a difference
-pub record Safe (stop : ℕ) (w : Way) : Type 0 where
-  pub most : stop ≤ 65536
-  pub few : w .k ≤ stop
-  pub low : 9999 * (stop - w .k) < w .q
-  pub high : w .q + 9999 * (stop - w .k) < 4294967296
+-- how many bytes stand before the place where the run ends: each value takes one, so that it adds no more points
+abbrev pub left : Way → ℕ
+left w = w .end - w .at
+
+-- the ordinate is so far from the least and the largest that no difference below ten thousand a point leads out of range; the last one was such a difference
+pub record Safe (s : List ℕ) (w : Way) : Type 0 where
+  pub most : w .k + left w ≤ 65536
+  pub past : w .end + 4 ≤ length s
+  pub low : 9999 * left w < w .q
+  pub high : w .q + 9999 * left w < 4294967296
   pub small : w .before ≡ 0 ⊎ apart (w .before) (w .q) < 10000
 
 -- there is room for a short value, and for a point
-pub record Fare (s : List ℕ) (stop : ℕ) (w : Way) : Type 0 where
-  pub safe : Safe stop w
+pub record Fare (s : List ℕ) (w : Way) : Type 0 where
+  pub safe : Safe s w
   pub room : w .at + 5 ≤ length s
-  pub left : w .k < stop
+  pub some : w .at < w .end
 
 -- nothing was taken yet, or the state is reached that the way stands for, and what was stored
 abbrev pub Been : ℕ → List ℕ → Cur → Way → List ℤ → List ℤ → Type 0
@@ -49,7 +53,8 @@ Been N s c w out out' =
     ((w .at ≡ c .at) × (w .k ≡ c .k) × (w .q ≡ c .q) × (w .before ≡ 0) × (out' ≡ out)) ⊎ ((c .k < w .k) × Went N s c (state c w) out out')
 
 -- from the way w to the way r: no further, or by a point or more; whatever state the run began in
-pub record Onward (s : List ℕ) (stop : ℕ) (w r : Way) (out out' : List ℤ) : Type 0 where
-  pub safe : Safe stop r
+pub record Onward (s : List ℕ) (w r : Way) (out out' : List ℤ) : Type 0 where
+  pub safe : Safe s r
   pub moves : r .at ≡ w .at ⊎ w .k < r .k
-  pub been : (N : ℕ) (c : Cur) (from : List ℤ) → Sits N s c → stop ≤ N → Been N s c w from out → Been N s c r from out'
+  pub fewer : r .k + left r ≤ w .k + left w
+  pub been : (N : ℕ) (c : Cur) (from : List ℤ) → Sits N s c → w .k + left w ≤ N → Been N s c w from out → Been N s c r from out'

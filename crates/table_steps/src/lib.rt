@@ -12,12 +12,14 @@ use table_shorts::short_count;
 // The byte of j: from it on the letters are minus.
 const LOWER: u64 = 106;
 
-// How far a run has come: the place, how many points, the ordinate, and the one before the last difference; 0 for that, if a DUP stands last, or nothing yet.
+// How far a run has come: the place, how many points, the ordinate, and the one before the last difference; 0 for that, if a DUP stands last, or nothing yet. And before which place it
+// takes values: a difference takes a byte or more and adds a point, so that no more points come than bytes are left; the points of a DUP are taken from them.
 pub struct Way {
     pub at: usize,
     pub k: usize,
     pub before: u64,
     pub q: u64,
+    pub end: usize,
 }
 
 // How far apart two ordinates are.
@@ -31,14 +33,15 @@ pub fn apart(p: u64, q: u64) -> u64
 }
 
 // The way past the DUP at its place, which begins with the byte b: of the last difference, and of no more points than the run has room for. Or the way as it was.
-fn repeated(s: &[u8], stop: usize, out: &mut [i32], w: Way, b: u64) -> Way
-    requires { ⌜ Fare (now s) stop w × (b ≡ standing (now s) (w .at)) ⌝ }
-    ensures { λ r. ⌜ Onward (now (s .entry)) stop w r (now (out .entry)) (now (out .exit)) ⌝ }
+fn repeated(s: &[u8], out: &mut [i32], w: Way, b: u64) -> Way
+    requires { ⌜ Fare (now s) w × (b ≡ standing (now s) (w .at)) ⌝ }
+    ensures { λ r. ⌜ Onward (now (s .entry)) w r (now (out .entry)) (now (out .exit)) ⌝ }
 {
     let at = w.at;
     let k = w.k;
     let before = w.before;
     let q = w.q;
+    let end = w.end;
     if before == 0 {
         return w;
     }
@@ -47,7 +50,7 @@ fn repeated(s: &[u8], stop: usize, out: &mut [i32], w: Way, b: u64) -> Way
         return w;
     }
     let n = (r.v - 1) as usize;
-    if n > stop - k {
+    if n > end - at {
         return w;
     }
     let d = apart(before, q);
@@ -59,21 +62,23 @@ fn repeated(s: &[u8], stop: usize, out: &mut [i32], w: Way, b: u64) -> Way
         k: k + n,
         before: 0,
         q: u,
+        end: end - n,
     }
 }
 
 // The way past what stands at its place: a short difference, or the DUP of the last one. Or the way as it was.
-pub fn onward(s: &[u8], stop: usize, out: &mut [i32], w: Way) -> Way
-    requires { ⌜ Fare (now s) stop w ⌝ }
-    ensures { λ r. ⌜ Onward (now (s .entry)) stop w r (now (out .entry)) (now (out .exit)) ⌝ }
+pub fn onward(s: &[u8], out: &mut [i32], w: Way) -> Way
+    requires { ⌜ Fare (now s) w ⌝ }
+    ensures { λ r. ⌜ Onward (now (s .entry)) w r (now (out .entry)) (now (out .exit)) ⌝ }
 {
     let at = w.at;
     let k = w.k;
     let q = w.q;
+    let end = w.end;
     let b = standing_in(s, at);
     let r = short(s, at, b);
     if r.at == at {
-        return repeated(s, stop, out, w, b);
+        return repeated(s, out, w, b);
     }
     let u = turned(q, b >= LOWER, r.v);
     put(out, k, u);
@@ -82,5 +87,6 @@ pub fn onward(s: &[u8], stop: usize, out: &mut [i32], w: Way) -> Way
         k: k + 1,
         before: q,
         q: u,
+        end,
     }
 }

@@ -64,7 +64,7 @@ turned-requires c κs = rw (c .apart .ensures) (turns (c .before))
 
 repeat-requires : tie.Need-repeat-requires
 repeat-requires c κs =
-    let u = c .before in let e = u .before .before in let a = start e .args in let f = start e .pre .0 in let m = f .safe .most in let g = f .left in let k = e .if3 .left in
+    let u = c .before in let e = u .before .before in let a = start e .args in let f = start e .pre .0 in let m = f .safe .most in let g = f .some in let k = e .if3 .left in
     let x = dup-stepped _ f _ (fresh e) (some e) k (rw (u .before .apart .ensures) at (u .turned .ensures)) .shifts .inside in (
       omega arith,
       turns e .1,
@@ -73,6 +73,9 @@ repeat-requires c κs =
 
 add-t17 : tie.Need-add-t17
 add-t17 c = search needs
+
+sub-t22 : tie.Need-sub-t22
+sub-t22 c = let h = c .before .before .before .before .before .if3 .left in omega arith
 
 same-length : tie.Need-same-length
 same-length c = search needs
@@ -97,5 +100,6 @@ repeated-spec =
     turned-requires
     repeat-requires
     add-t17
+    sub-t22
     same-length
     returns-4)
