@@ -21,7 +21,7 @@ use Rattle.table_value.specs.States.{Sits, Went}
 use Rattle.table_value.specs.declared.Cur.{Cur}
 use Rattle.table_steps.specs.declared.Way.{Way}
 use Rattle.table_shorts.specs.Short.{ShortAt}
-use Rattle.table_steps.specs.Ways.{apart, stepAfter, formAfter, reached, left, Safe, Fare, Been, Onward}
+use Rattle.table_steps.specs.Ways.{apart, stepAfter, formAfter, reached, Safe, Fare, Been, Onward}
 use Rattle.table_value.proofs.Walks.{went-none}
 use Rattle.table_steps.proofs.Walks.{went-on, went-dup}
 

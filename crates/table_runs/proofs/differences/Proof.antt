@@ -1,7 +1,7 @@
 -- `table_runs::differences` meets its contract: THE HOT LOOP.
 use mathlib.Core.Path.{_≡_, refl}
 use mathlib.Core.Logic.{inl, ⊎-elim}
-use Prim.Native.Nat.{ℕ, _+_, _-_, _≤_}
+use Prim.Native.Nat.{_+_, _-_, _≤_}
 use native.Mathlib.Omega.{arith}
 use lib.ListN.{length}
 use borrow.Author.Needs.{needs}
