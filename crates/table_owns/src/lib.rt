@@ -6,6 +6,7 @@ ghost use lib.ListN.{length};
 ghost use Rattle.alphabet_spec.specs.Digits.{within};
 ghost use Rattle.alphabet.specs.Standing.{«standing»};
 ghost use Rattle.table_owns.specs.Leads.{falls, Leading, OwnAt};
+ghost use Rattle.table_owns.specs.Ways.{reached};
 ghost use Rattle.table_value.specs.States.{Sits, Went};
 use alphabet::Run;
 use alphabet::digits_in;
@@ -127,6 +128,23 @@ fn own_number(s: &[u8], at: usize, b: u64) -> Run
     r
 }
 
+// The state after a run that began in the state c and went so far.
+fn after_owns(c: Cur, at: usize, k: usize, q: u64) -> Cur
+    ensures { λ r. ⌜ r ≡ reached c at k q ⌝ }
+{
+    if k == c.k {
+        return c;
+    }
+    Cur {
+        at,
+        k,
+        q,
+        want: c.want,
+        step: 0,
+        form: 2,
+    }
+}
+
 // As many ordinates of their own as stand here one after the other, blanks between them. It stops before anything else.
 pub fn owns(s: &[u8], points: usize, out: &mut [i32], c: Cur) -> Cur
     requires { ⌜ Sits points (now s) c ⌝ }
@@ -139,27 +157,22 @@ pub fn owns(s: &[u8], points: usize, out: &mut [i32], c: Cur) -> Cur
         return c;
     }
     let limit = s.len() - ROOM;
-    let mut w = c;
+    let mut at = c.at;
+    let mut k = c.k;
+    let mut q = c.q;
     loop {
-        let at = blanks(s, w.at);
-        let k = w.k;
-        if k >= points || at > limit {
-            return w;
+        let j = blanks(s, at);
+        if k >= points || j > limit {
+            return after_owns(c, at, k, q);
         }
-        let b = standing_in(s, at);
-        let r = own_number(s, at, b);
+        let b = standing_in(s, j);
+        let r = own_number(s, j, b);
         if r.v > LARGEST {
-            return w;
+            return after_owns(c, at, k, q);
         }
-        let u = turned(ZERO_ORDINATE, falls(b), r.v);
-        put(out, k, u);
-        w = Cur {
-            at: r.at,
-            k: k + 1,
-            q: u,
-            want: 0,
-            step: 0,
-            form: 2,
-        };
+        q = turned(ZERO_ORDINATE, falls(b), r.v);
+        put(out, k, q);
+        k += 1;
+        at = r.at;
     }
 }
