@@ -1,2 +1,1 @@
-pub mod Leads
 pub mod Ways

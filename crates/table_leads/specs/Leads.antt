@@ -9,7 +9,7 @@ use Rattle.alphabet.specs.Ran.{Ran}
 use Rattle.alphabet.specs.declared.Run.{Run}
 use Rattle.table_spec.specs.Values.{own}
 use Rattle.table_numbers.specs.Numbers.{Token}
-use Rattle.table_owns.specs.declared.Lead.{Lead}
+use Rattle.table_leads.specs.declared.Lead.{Lead}
 
 -- an ordinate is minus that begins with `-` or with a small letter
 abbrev pub falls : ℕ → Bool

@@ -2,9 +2,9 @@
 use native.Mathlib.Omega.{arith}
 use borrow.Author.Needs.{needs}
 use Rattle.alphabet.specs.Standing.{within-in, blank-seen}
-use Rattle.table_owns.proofs.Leads.{digit-leads}
-use Rattle.table_owns.proofs.digit_lead.Statement.{statement}
-use Rattle.table_owns.proofs.digit_lead.Tie as tie
+use Rattle.table_leads.proofs.Leads.{digit-leads}
+use Rattle.table_leads.proofs.digit_lead.Statement.{statement}
+use Rattle.table_leads.proofs.digit_lead.Tie as tie
 
 add-next : tie.Need-add-next
 add-next c = search needs

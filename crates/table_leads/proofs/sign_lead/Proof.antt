@@ -7,9 +7,9 @@ use borrow.Author.Needs.{needs}
 use borrow.Author.Tests.{not-false}
 use Rattle.alphabet_spec.specs.Digits.{within}
 use Rattle.alphabet.specs.Standing.{within-in}
-use Rattle.table_owns.proofs.Leads.{sign-leads}
-use Rattle.table_owns.proofs.sign_lead.Statement.{statement}
-use Rattle.table_owns.proofs.sign_lead.Tie as tie
+use Rattle.table_leads.proofs.Leads.{sign-leads}
+use Rattle.table_leads.proofs.sign_lead.Statement.{statement}
+use Rattle.table_leads.proofs.sign_lead.Tie as tie
 
 -- where a digit was found: it is one
 abbrev start : tie.Else3 → tie.Start

@@ -2,9 +2,9 @@
 use native.Mathlib.Omega.{arith}
 use borrow.Author.Needs.{needs}
 use Rattle.alphabet.specs.Standing.{digit-seen-not}
-use Rattle.table_owns.specs.Leads.{LeadAt}
-use Rattle.table_owns.proofs.own_number.Statement.{statement}
-use Rattle.table_owns.proofs.own_number.Tie as tie
+use Rattle.table_leads.specs.Leads.{LeadAt}
+use Rattle.table_leads.proofs.own_number.Statement.{statement}
+use Rattle.table_leads.proofs.own_number.Tie as tie
 
 -- where one begins: the start of the code, and its first digit
 abbrev start : tie.Else1 → tie.Start

@@ -1,8 +1,8 @@
 -- `table_owns::falls` meets its contract: is an ordinate minus that begins with the byte b?
 use mathlib.Core.Path.{refl}
 use borrow.Author.Tests.{eq-eqb, ne-eqb}
-use Rattle.table_owns.proofs.falls.Statement.{statement}
-use Rattle.table_owns.proofs.falls.Tie as tie
+use Rattle.table_leads.proofs.falls.Statement.{statement}
+use Rattle.table_leads.proofs.falls.Tie as tie
 
 returns : tie.Need-returns
 returns c = rw (eq-eqb _ _ (c .if1 .taken)) refl

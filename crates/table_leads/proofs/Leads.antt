@@ -18,7 +18,7 @@ use Rattle.alphabet.specs.Ran.{Ran, start, taken, joined}
 use Rattle.table_numbers.specs.Numbers.{NumberAt}
 use Rattle.table_numbers.specs.declared.NumberRead.the-variants.{Read}
 use Rattle.table_numbers.proofs.NumberLaws.{further-nine, packed-token, plain-number, signed-number, own-digit, own-sqz, own-sign}
-use Rattle.table_owns.specs.Leads.{falls, LeadAt}
+use Rattle.table_leads.specs.Leads.{falls, LeadAt}
 
 -- ---- a letter
 

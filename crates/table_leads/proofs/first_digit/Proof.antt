@@ -4,9 +4,9 @@ use Prim.Native.Nat.{_-_, _*_, _/_, _%_, _<_}
 use native.Mathlib.Omega.{arith}
 use borrow.Author.Needs.{needs}
 use borrow.Author.Tests.{leb-false}
-use Rattle.table_owns.proofs.Leads.{letter-leads}
-use Rattle.table_owns.proofs.first_digit.Statement.{statement}
-use Rattle.table_owns.proofs.first_digit.Tie as tie
+use Rattle.table_leads.proofs.Leads.{letter-leads}
+use Rattle.table_leads.proofs.first_digit.Statement.{statement}
+use Rattle.table_leads.proofs.first_digit.Tie as tie
 
 -- the letter is none past I
 high : (c : tie.Else3) → let b = c .before .before .before .before .before .args .b in b - b / 32 % 2 * 32 < 74
