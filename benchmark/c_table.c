@@ -172,25 +172,27 @@ struct row {
 /*
  * Takes differences of a letter and at most three further digits, and DUPs of one letter after them, while five bytes
  * are left, up to `most` points. A token is taken without a test for the end of the text and none of the range: from
- * an ordinate that is FAR from its limits, ROW differences below 10,000 stay within it. The sign is taken without a
- * jump, which no processor could foresee. Whatever is spelled in another way is left to the caller. Stores the
- * ordinates if `out` is given; returns how many they are.
+ * an ordinate that is FAR from its limits, ROW differences below 10,000 stay within it. A token takes a byte and adds a
+ * point, so that one bound, `stop`, serves for the text, the points and the range; what a DUP adds is taken from it. The
+ * sign is taken without a jump, which no processor could foresee. Whatever is spelled in another way is left to the
+ * caller. Stores the ordinates if `out` is given; returns how many they are.
  */
 ALWAYS_INLINE int64_t take_row(struct row *r, const uint8_t *end, int64_t most, int32_t *restrict out)
 {
-    enum { ROW = 80, FAR = 1000000 };
+    enum { ROW = 1000, FAR = 10000000 };
     int64_t y = r->y, step = r->step, n = 0;
-    if (UNLIKELY(y < FAR - LARGEST_ORDINATE || y > LARGEST_ORDINATE - FAR))
+    const uint8_t *p = r->p;
+    if (UNLIKELY(y < FAR - LARGEST_ORDINATE || y > LARGEST_ORDINATE - FAR || end - p < 5))
         return 0;
     if (most > ROW)
         most = ROW;
-    const uint8_t *p = r->p;
+    const uint8_t *stop = end - 4 - p < most ? end - 4 : p + most;
     bool repeated = r->repeated;
-    while (n < most && end - p >= 5) {
+    while (p < stop) {
         unsigned v = (unsigned)(*p & 0xDF) - 'J', minus = *p >> 5 & 1, d;
         if (v > 8) {
             unsigned more = (unsigned)*p - 'S'; /* how many points a DUP adds */
-            if (more - 1 > 6 || repeated || (unsigned)p[1] - '0' <= 9 || (int64_t)more > most - n
+            if (more - 1 > 6 || repeated || (unsigned)p[1] - '0' <= 9 || (int64_t)more > stop - p
                 || (uint64_t)(step + 9999) > 2 * 9999)
                 break;
             if (out)
@@ -200,6 +202,7 @@ ALWAYS_INLINE int64_t take_row(struct row *r, const uint8_t *end, int64_t most, 
                 y += (int64_t)more * step;
             n += more;
             p++;
+            stop -= more;
             repeated = true;
             continue;
         }
