@@ -1,10 +1,10 @@
--- `text_lines::put_check` meets its contract: the head and the first value of a check line, after i points, the last of them p.
+-- `text_openings::put_check` meets its contract: the head and the first value of a check line, after i points, the last of them p.
 use native.Mathlib.Omega.{arith}
 use Rattle.table_text.specs.Pieces.{put-as, put-then}
-use Rattle.text_lines.proofs.LineSteps.{check-is}
+use Rattle.text_openings.proofs.LineSteps.{check-is}
 use borrow.Author.Needs.{needs}
-use Rattle.text_lines.proofs.put_check.Statement.{statement}
-use Rattle.text_lines.proofs.put_check.Tie as tie
+use Rattle.text_openings.proofs.put_check.Statement.{statement}
+use Rattle.text_openings.proofs.put_check.Tie as tie
 
 sub-before : tie.Need-sub-before
 sub-before c = search needs

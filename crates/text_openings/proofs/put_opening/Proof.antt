@@ -1,10 +1,10 @@
--- `text_lines::put_opening` meets its contract: the start of a new line.
+-- `text_openings::put_opening` meets its contract: the start of a new line.
 use native.Mathlib.Omega.{arith}
 use Rattle.table_text.specs.Pieces.{put-as}
-use Rattle.text_lines.proofs.LineSteps.{opening-dif, opening-not}
+use Rattle.text_openings.proofs.LineSteps.{opening-dif, opening-not}
 use borrow.Author.Needs.{needs}
-use Rattle.text_lines.proofs.put_opening.Statement.{statement}
-use Rattle.text_lines.proofs.put_opening.Tie as tie
+use Rattle.text_openings.proofs.put_opening.Statement.{statement}
+use Rattle.text_openings.proofs.put_opening.Tie as tie
 
 put-check-requires : tie.Need-put-check-requires
 put-check-requires c κs = let p = c .before .before .before .pre in (p .0, p .1 .some (c .before .if1 .taken), omega (arith, p .2), p .1 .small, p .3)

@@ -1,10 +1,10 @@
--- `text_lines::put_close` meets its contract: the last check line, if the text ends in DIF form.
+-- `text_ends::put_close` meets its contract: the last check line, if the text ends in DIF form.
 use borrow.Author.Tests.{not-true, not-false}
 use Rattle.table_text.specs.Pieces.{put-as, put-then, put-none}
-use Rattle.text_lines.proofs.LineSteps.{close-dif, close-not}
+use Rattle.text_openings.proofs.LineSteps.{close-dif, close-not}
 use borrow.Author.Needs.{needs}
-use Rattle.text_lines.proofs.put_close.Statement.{statement}
-use Rattle.text_lines.proofs.put_close.Tie as tie
+use Rattle.text_ends.proofs.put_close.Statement.{statement}
+use Rattle.text_ends.proofs.put_close.Tie as tie
 
 returns : tie.Need-returns
 returns c = put-as (close-not _ _ _ _ (not-true _ (c .if1 .taken))) (put-none _ _)

@@ -9,7 +9,7 @@ use Rattle.terms.specs.Logic.{pick}
 use Rattle.table_spec.specs.Writing.{check, text}
 use Rattle.frame.specs.declared.Frame.{Frame}
 use Rattle.frame.specs.Legal.{Sound}
-use Rattle.text_lines.specs.declared.State.{State}
+use Rattle.text_openings.specs.declared.State.{State}
 use Rattle.table_text.specs.Pieces.{Put, Ahead}
 use Rattle.text_groups.specs.Tokens.{count-at, group-at, dif-at}
 use Rattle.table_spec.specs.declared.Style.the-variants.{Difdup}

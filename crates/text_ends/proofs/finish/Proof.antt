@@ -1,8 +1,8 @@
--- `text_lines::finish` meets its contract: the text's end after the last group, with a check line if one is needed.
+-- `text_ends::finish` meets its contract: the text's end after the last group, with a check line if one is needed.
 use Rattle.table_text.specs.Pieces.{put-then}
 use borrow.Author.Needs.{needs}
-use Rattle.text_lines.proofs.finish.Statement.{statement}
-use Rattle.text_lines.proofs.finish.Tie as tie
+use Rattle.text_ends.proofs.finish.Statement.{statement}
+use Rattle.text_ends.proofs.finish.Tie as tie
 
 put-end-requires : tie.Need-put-end-requires
 put-end-requires c κs = search needs

@@ -1,11 +1,11 @@
--- `text_lines::new_line` meets its contract: a new line.
+-- `text_openings::new_line` meets its contract: a new line.
 use mathlib.Core.Path.{refl, sym}
 use mathlib.Core.Bool.{true, false}
 use Rattle.table_text.specs.Pieces.{headOf}
-use Rattle.text_lines.proofs.LineSteps.{new-line}
+use Rattle.text_openings.proofs.LineSteps.{new-line}
 use borrow.Author.Needs.{needs}
-use Rattle.text_lines.proofs.new_line.Statement.{statement}
-use Rattle.text_lines.proofs.new_line.Tie as tie
+use Rattle.text_openings.proofs.new_line.Statement.{statement}
+use Rattle.text_openings.proofs.new_line.Tie as tie
 
 put-end-requires : tie.Need-put-end-requires
 put-end-requires c κs = search needs

@@ -1,9 +1,9 @@
--- `text_lines::put_own` meets its contract: an ordinate in SQZ form.
+-- `text_openings::put_own` meets its contract: an ordinate in SQZ form.
 use Rattle.table_text.specs.Pieces.{put-as}
-use Rattle.text_lines.proofs.LineSteps.{sqz-up, sqz-down}
+use Rattle.text_openings.proofs.LineSteps.{sqz-up, sqz-down}
 use borrow.Author.Needs.{needs}
-use Rattle.text_lines.proofs.put_own.Statement.{statement}
-use Rattle.text_lines.proofs.put_own.Tie as tie
+use Rattle.text_openings.proofs.put_own.Statement.{statement}
+use Rattle.text_openings.proofs.put_own.Tie as tie
 
 further-digits-requires : tie.Need-further-digits-requires
 further-digits-requires c κs = search needs
