@@ -10,7 +10,7 @@ ghost use Rattle.table_text.specs.Pieces.{Put, headOf};
 ghost use Rattle.text_openings.specs.Lines.{start};
 use frame::Frame;
 use table_text::digits::put_end;
-use table_text::heads::put_head;
+use text_heads::put_head;
 use text_openings::State;
 use text_openings::put_check;
 

@@ -14,7 +14,7 @@ use table_text::digits::SQZ_MINUS;
 use table_text::digits::further_digits;
 use table_text::digits::put_end;
 use table_text::digits::put_number;
-use table_text::heads::put_head;
+use text_heads::put_head;
 
 // How far the writing has come: points given, the place after the last byte, the bytes of the line so far, the last ordinate, and whether its form is DIF.
 pub struct State {

@@ -1,9 +1,9 @@
--- `table_text::heads::magnitude_length` meets its contract: the bytes of the whole part, and of the thousandths.
+-- `text_heads::magnitude_length` meets its contract: the bytes of the whole part, and of the thousandths.
 use native.Mathlib.Omega.{arith}
-use Rattle.table_text.proofs.HeadSteps.{magnitude-bytes}
+use Rattle.text_thousandths.proofs.HeadSteps.{magnitude-bytes}
 use borrow.Author.Needs.{needs}
-use Rattle.table_text.proofs.heads.magnitude_length.Statement.{statement}
-use Rattle.table_text.proofs.heads.magnitude_length.Tie as tie
+use Rattle.text_heads.proofs.magnitude_length.Statement.{statement}
+use Rattle.text_heads.proofs.magnitude_length.Tie as tie
 
 further-digits-requires : tie.Need-further-digits-requires
 further-digits-requires c κs = search needs

@@ -1,10 +1,10 @@
--- `table_text::heads::fraction_length` meets its contract: no trailing zero is counted, and for none no point either.
+-- `text_thousandths::fraction_length` meets its contract: no trailing zero is counted, and for none no point either.
 use mathlib.Core.Path.{sym, ap}
 use native.Mathlib.Omega.{arith}
 use lib.ListN.{length}
-use Rattle.table_text.proofs.HeadSteps.{no-fraction, one-place, two-places, three-places}
-use Rattle.table_text.proofs.heads.fraction_length.Statement.{statement}
-use Rattle.table_text.proofs.heads.fraction_length.Tie as tie
+use Rattle.text_thousandths.proofs.HeadSteps.{no-fraction, one-place, two-places, three-places}
+use Rattle.text_thousandths.proofs.fraction_length.Statement.{statement}
+use Rattle.text_thousandths.proofs.fraction_length.Tie as tie
 
 returns : tie.Need-returns
 returns c = (sym (ap length (no-fraction _ (c .if1 .taken))), omega arith)

@@ -1,11 +1,11 @@
--- `table_text::heads::head_bytes` meets its contract: the bytes of the magnitude, and of a minus.
+-- `text_heads::head_bytes` meets its contract: the bytes of the magnitude, and of a minus.
 use mathlib.Core.Path.{sym, ap, _∙_}
 use native.Mathlib.Omega.{arith}
 use lib.ListN.{length}
-use Rattle.table_text.proofs.HeadSteps.{head-up, head-down}
+use Rattle.text_thousandths.proofs.HeadSteps.{head-up, head-down}
 use borrow.Author.Needs.{needs}
-use Rattle.table_text.proofs.heads.head_bytes.Statement.{statement}
-use Rattle.table_text.proofs.heads.head_bytes.Tie as tie
+use Rattle.text_heads.proofs.head_bytes.Statement.{statement}
+use Rattle.text_heads.proofs.head_bytes.Tie as tie
 
 abscissa-requires : tie.Need-abscissa-requires
 abscissa-requires c κs = search needs
