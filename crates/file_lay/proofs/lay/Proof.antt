@@ -1,14 +1,14 @@
--- `file_write::lay` meets its contract: where the body fits behind the heading, the three parts are the file; where it does not, nothing is altered.
+-- `file_lay::lay` meets its contract: where the body fits behind the heading, the three parts are the file; where it does not, nothing is altered.
 use mathlib.Core.List.{List}
 use Prim.Native.Nat.{ℕ}
 use native.Mathlib.Omega.{arith}
 use mir.Facts.{toZ-ofZ}
 use Rattle.label_spec.specs.Names.{END}
 use Rattle.file_plan.specs.Stages.{bodyOf}
-use Rattle.file_write.proofs.LaySteps.{body-bound, table-refused, table-wrote, too-short, not-fitting, fitting}
+use Rattle.file_lay.proofs.LaySteps.{body-bound, table-refused, table-wrote, too-short, not-fitting, fitting}
 use borrow.Author.Needs.{needs}
-use Rattle.file_write.proofs.lay.Statement.{statement}
-use Rattle.file_write.proofs.lay.Tie as tie
+use Rattle.file_lay.proofs.lay.Statement.{statement}
+use Rattle.file_lay.proofs.lay.Tie as tie
 
 -- where the heading is measured, and where the table is written
 abbrev start : tie.After-heading-length → tie.Start

@@ -1,5 +1,5 @@
--- The public contract of writing a file (02, T-04), and that its outcome is unique. Assumes nothing.
-use mathlib.Core.Path.{_≡_, sym, _∙_}
+-- What writing a file ensures (02, T-04). Assumes nothing.
+use mathlib.Core.Path.{_≡_}
 use mathlib.Core.List.{List}
 use Prim.Native.Nat.{ℕ}
 use lib.ListN.{length}
@@ -17,6 +17,3 @@ told-file e (wrote t) = FileWritten.Length (record { length = length t; exact = 
 pub record FileTells (e : Exactness) (x : Outcome) (out₀ out : List ℕ) (r : FileWritten) : Type 0 where
   pub answer : r ≡ told-file e x
   pub bytes : out ≡ laid out₀ x
-
-pub outcome-unique : {e : Exactness} {x : Outcome} {out a b : List ℕ} {r q : FileWritten} → FileTells e x out a r → FileTells e x out b q → (r ≡ q) × (a ≡ b)
-outcome-unique x y = (x .answer ∙ sym (y .answer), x .bytes ∙ sym (y .bytes))

@@ -28,9 +28,9 @@ use Rattle.file_write_spec.specs.declared.FileWritten.{FileWritten}
 use Rattle.file_write_spec.specs.Records.{Entry, entryText, entriesText}
 use Rattle.file_write_spec.specs.File.{end-line}
 use Rattle.file_lines.specs.Lines.{headingOf}
-use Rattle.file_write.specs.Answers.{told-file, FileTells}
+use Rattle.file_lay.specs.Answers.{told-file, FileTells}
 use Rattle.file_plan.specs.Stages.{laidOut, bodyOf, Framed}
-use Rattle.file_write.proofs.Laying.{parts-laid}
+use Rattle.file_lay.proofs.Laying.{parts-laid}
 
 -- the part of the bytes that the table is lent
 mid-length : (t : List ℕ) (h : ℕ) → h + 8 ≤ length t → length (midOf h (length t - 8 - h) t) ≡ length t - 8 - h
