@@ -1,28 +1,26 @@
-// A file that can be written, laid into the lent bytes (02, T-04), and how long it is (T-10). Inner functions: what is given was taken by the tests before.
+// A file that can be written, laid into the lent bytes (02, T-04). Inner functions: what is given was taken by the tests before.
 ghost use mathlib.Core.Path.{_≡_};
 ghost use Prim.Native.Nat.{_≤_};
 ghost use lib.ListN.{length};
 ghost use Rattle.terms.specs.Refusals.{fault-at};
-ghost use Rattle.table_spec.specs.Writing.{fitted, wrote};
+ghost use Rattle.table_spec.specs.Writing.{fitted};
 ghost use Rattle.file_write_spec.specs.Records.{entriesText};
 ghost use Rattle.file_write_spec.specs.declared.FileWritten.{FileWritten};
 ghost use Rattle.file_lines.specs.Lines.{AllWritable, headingOf};
 ghost use Rattle.file_plan.specs.Stages.{laidOut, bodyOf, Framed};
-ghost use Rattle.file_lay.specs.Answers.{told-file, FileTells};
+ghost use Rattle.file_lay.specs.Answers.{FileTells};
 use file_lines::put_heading;
 use file_lines::put_line;
 use file_spec::Exactness;
 use file_spec::Numbers;
 use file_write_spec::FileLength;
 use file_write_spec::FileWritten;
-use table_spec::Style;
-use table_write::text_length;
 use table_write::write_table;
 use terms::Fault;
 use terms::TableWritten;
 
 // How many bytes END's record has, with its line end.
-const END_LINE: usize = 8;
+pub const END_LINE: usize = 8;
 
 // A refusal of the writer: its place is 0.
 pub fn refused(number: u64) -> FileWritten
@@ -32,7 +30,7 @@ pub fn refused(number: u64) -> FileWritten
 }
 
 // How long all that stands before the body is: nothing is stored.
-fn heading_length(title: &[u8], n: Numbers) -> usize
+pub fn heading_length(title: &[u8], n: Numbers) -> usize
     requires { ⌜ (length (now title) ≤ 72) × AllWritable n ⌝ }
     ensures { λ r. ⌜ (r ≡ length (entriesText (headingOf (now (title .entry)) n))) × (r ≤ 960) ⌝ }
 {
@@ -67,29 +65,6 @@ pub fn lay(
             put_heading(text, title, n);
             let at = head + k;
             let length = put_line(text, at, b"END", &title[..0]);
-            FileWritten::Length(FileLength { length, exact })
-        }
-    }
-}
-
-// The length of the file that `lay` would lay: nothing is written.
-pub fn measure(
-    title: &[u8],
-    n: Numbers,
-    first: i64,
-    last: i64,
-    exact: Exactness,
-    ordinates: &[i32],
-) -> FileWritten
-    requires { ⌜ (length (now title) ≤ 72) × AllWritable n × Framed first last (n .npoints) (now ordinates) ⌝ }
-    ensures { λ r. ⌜ r ≡ told-file exact (wrote (laidOut (now (title .entry)) n (bodyOf first last (n .npoints) (now (ordinates .entry))))) ⌝ }
-{
-    let head = heading_length(title, n);
-    let points = n.npoints as usize;
-    match text_length(Style::Difdup, first, last, points, ordinates) {
-        TableWritten::Refused(fault) => FileWritten::Refused(fault),
-        TableWritten::Length(k) => {
-            let length = head + k + END_LINE;
             FileWritten::Length(FileLength { length, exact })
         }
     }

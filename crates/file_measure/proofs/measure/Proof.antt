@@ -1,4 +1,4 @@
--- `file_lay::measure` meets its contract: the heading's length, the table's and END's are the file's.
+-- `file_measure::measure` meets its contract: the heading's length, the table's and END's are the file's.
 use mathlib.Core.Path.{_≡_, sym, _∙_}
 use mathlib.Core.List.{[]}
 use native.Mathlib.Omega.{arith}
@@ -7,10 +7,10 @@ use mir.Facts.{toZ-ofZ}
 use Rattle.terms.specs.Logic.{zero-one}
 use Rattle.terms.specs.declared.TableWritten.the-variants.{Length}
 use Rattle.file_plan.specs.Stages.{bodyOf}
 use Rattle.file_lay.proofs.LaySteps.{body-bound, table-measured, length-whole}
 use borrow.Author.Needs.{needs}
-use Rattle.file_lay.proofs.measure.Statement.{statement}
-use Rattle.file_lay.proofs.measure.Tie as tie
+use Rattle.file_measure.proofs.measure.Statement.{statement}
+use Rattle.file_measure.proofs.measure.Tie as tie
 
 -- where the table is measured, and the start from there
 abbrev start : tie.After-text-length → tie.Start
