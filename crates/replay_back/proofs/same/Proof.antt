@@ -1,8 +1,8 @@
--- `replay_writes::same` stays within both lists of ordinates.
+-- `replay_back::same` stays within both lists of ordinates.
 use borrow.Author.Needs.{needs}
 use Prim.Native.Nat.{_≤_, _-_}
-use Rattle.replay_writes.proofs.same.Statement.{statement}
-use Rattle.replay_writes.proofs.same.Tie as tie
+use Rattle.replay_back.proofs.same.Statement.{statement}
+use Rattle.replay_back.proofs.same.Tie as tie
 
 abbrev Inv-loop : tie.InvT-loop
 Inv-loop ys back n i₀ i = i ≤ n
