@@ -2,15 +2,15 @@
 ghost use Prim.Native.Nat.{_+_, _^_, _≤_, _<_};
 ghost use lib.ListN.{length};
 ghost use Rattle.table_text.specs.Pieces.{headOf, ordinates};
-ghost use Rattle.text_groups.specs.Tokens.{Found};
+ghost use Rattle.text_tokens.specs.Tokens.{Found};
 ghost use Rattle.text_openings.specs.Lines.{after, from, Wrote, PointsLeft};
 use frame::Frame;
 use signed::ordinate_at;
-use text_groups::Group;
 use text_groups::find;
 use text_groups::put_group;
 use text_openings::State;
 use text_openings::new_line;
+use text_tokens::Group;
 
 // The group g at i, after p, is put on the line.
 fn fill(

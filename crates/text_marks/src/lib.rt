@@ -1,6 +1,6 @@
 // How a form marks the values that it writes in full, and how many bytes a value has (02, T-02). Inner functions: the lent table is the definition's, an ordinate has 32 bits.
 ghost use mathlib.Core.Path.{_≡_};
-ghost use Prim.Native.Nat.{_+_, _≤_, _<_};
+ghost use Prim.Native.Nat.{_≤_, _<_};
 ghost use lib.ListN.{length};
 ghost use Rattle.terms.specs.Logic.{pick};
 ghost use Rattle.text_digits.specs.Counts.{counts};

@@ -11,10 +11,10 @@ use Rattle.terms.specs.Logic.{pick, no-way}
 use Rattle.table_spec.specs.Numerals.{numeral}
 use Rattle.table_spec.specs.Groups.{sqzText, dupText}
 use Rattle.table_spec.specs.Writing.{check, close, lines-of}
-use Rattle.text_groups.specs.declared.Group.{Group}
+use Rattle.text_tokens.specs.declared.Group.{Group}
 use Rattle.text_openings.specs.declared.State.{State}
 use Rattle.table_text.specs.Pieces.{Put, Ahead, number, put-then, put-length, ahead-of}
-use Rattle.text_groups.specs.Tokens.{Found, group-at}
+use Rattle.text_tokens.specs.Tokens.{Found, group-at}
 use Rattle.text_openings.specs.Lines.{from, next-state, after, opening, start, Wrote, NewLine, Going}
 use Rattle.text_openings.proofs.TextSteps.{from-fits, from-break, from-end, lines-start}
 use Rattle.table_spec.specs.declared.Style.the-variants.{Difdup}

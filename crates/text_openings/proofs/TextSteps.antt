@@ -16,7 +16,7 @@ use Rattle.table_spec.specs.Writing.{put, check, open-line, go-on, close, text,
 use Rattle.table_write_law.specs.Tokens.{many-le}
 use Rattle.table_write_law.specs.Lengths.{group-any}
 use Rattle.text_openings.specs.declared.State.{State}
-use Rattle.text_groups.specs.Tokens.{count-at, group-at, dif-at}
+use Rattle.text_tokens.specs.Tokens.{count-at, group-at, dif-at}
 use Rattle.text_openings.specs.Lines.{from, after, opening, start}
 use Rattle.table_spec.specs.declared.Style.the-variants.{Difdup}
 

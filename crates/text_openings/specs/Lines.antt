@@ -11,7 +11,7 @@ use Rattle.frame.specs.declared.Frame.{Frame}
 use Rattle.frame.specs.Legal.{Sound}
 use Rattle.text_openings.specs.declared.State.{State}
 use Rattle.table_text.specs.Pieces.{Put, Ahead}
-use Rattle.text_groups.specs.Tokens.{count-at, group-at, dif-at}
+use Rattle.text_tokens.specs.Tokens.{count-at, group-at, dif-at}
 use Rattle.table_spec.specs.declared.Style.the-variants.{Difdup}
 
 module _ (head-of : ℕ → List ℕ) where

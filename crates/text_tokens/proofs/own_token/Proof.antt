@@ -1,8 +1,8 @@
--- `text_groups::own_token` meets its contract: the SQZ token of an ordinate.
-use Rattle.text_groups.proofs.TokenSteps.{own-up, own-down}
+-- `text_tokens::own_token` meets its contract: the SQZ token of an ordinate.
+use Rattle.text_tokens.proofs.TokenSteps.{own-up, own-down}
 use borrow.Author.Needs.{needs}
-use Rattle.text_groups.proofs.own_token.Statement.{statement}
-use Rattle.text_groups.proofs.own_token.Tie as tie
+use Rattle.text_tokens.proofs.own_token.Statement.{statement}
+use Rattle.text_tokens.proofs.own_token.Tie as tie
 
 returns : tie.Need-returns
 returns c = own-up _ (c .before .pre .0) (c .before .pre .1) (c .if1 .taken)

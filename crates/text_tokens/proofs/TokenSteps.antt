@@ -16,12 +16,12 @@ use Rattle.alphabet_spec.specs.Kinds.{dif}
 use Rattle.table_spec.specs.Values.{Own, Gap, By}
 use Rattle.table_spec.specs.Numerals.{top, low, leadByte, numeral}
 use Rattle.table_spec.specs.Groups.{form, sqzText, tokenText, alike, many, dupText, group}
-use Rattle.text_groups.specs.declared.Token.{Token}
+use Rattle.text_tokens.specs.declared.Token.{Token}
 use Rattle.table_text.specs.Digits.{further}
 use Rattle.table_text.specs.DigitLaws.{further-le}
 use Rattle.table_text.proofs.NumberSteps.{number-length}
 use Rattle.table_text.specs.Pieces.{number}
-use Rattle.text_groups.specs.Tokens.{again, run, lead-of, TokenFor, Found, count-at, group-at}
+use Rattle.text_tokens.specs.Tokens.{again, run, lead-of, TokenFor, Found, count-at, group-at}
 
 -- ---- forms
 

@@ -1,9 +1,9 @@
--- `text_groups::base_of` meets its contract: what the first digit of a difference is added to.
+-- `text_tokens::base_of` meets its contract: what the first digit of a difference is added to.
 use native.Mathlib.Omega.{arith}
 use lib.Dec.{lit≤}
-use Rattle.text_groups.proofs.TokenSteps.{lead-down, lead-same, lead-up}
-use Rattle.text_groups.proofs.base_of.Statement.{statement}
-use Rattle.text_groups.proofs.base_of.Tie as tie
+use Rattle.text_tokens.proofs.TokenSteps.{lead-down, lead-same, lead-up}
+use Rattle.text_tokens.proofs.base_of.Statement.{statement}
+use Rattle.text_tokens.proofs.base_of.Tie as tie
 
 returns : tie.Need-returns
 returns c = (lead-down _ _ (c .if1 .taken), lit≤ tt)

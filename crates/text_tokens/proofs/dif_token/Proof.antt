@@ -1,9 +1,9 @@
--- `text_groups::dif_token` meets its contract: the DIF token of the ordinate y after p.
+-- `text_tokens::dif_token` meets its contract: the DIF token of the ordinate y after p.
 use native.Mathlib.Omega.{arith}
-use Rattle.text_groups.proofs.TokenSteps.{dif-either}
+use Rattle.text_tokens.proofs.TokenSteps.{dif-either}
 use borrow.Author.Needs.{needs}
-use Rattle.text_groups.proofs.dif_token.Statement.{statement}
-use Rattle.text_groups.proofs.dif_token.Tie as tie
+use Rattle.text_tokens.proofs.dif_token.Statement.{statement}
+use Rattle.text_tokens.proofs.dif_token.Tie as tie
 
 base-of-requires : tie.Need-base-of-requires
 base-of-requires c κs = search needs

@@ -9,8 +9,8 @@ use Rattle.terms.specs.Logic.{pick, both}
 use Rattle.table_spec.specs.Frame.{apart}
 use Rattle.table_spec.specs.Values.{isDif}
 use Rattle.table_spec.specs.Groups.{form, tokenText, alike, many, dupText, group}
-use Rattle.text_groups.specs.declared.Token.{Token}
-use Rattle.text_groups.specs.declared.Group.{Group}
+use Rattle.text_tokens.specs.declared.Token.{Token}
+use Rattle.text_tokens.specs.declared.Group.{Group}
 use Rattle.table_text.specs.Digits.{further}
 use Rattle.table_text.specs.Pieces.{number}
 use Rattle.table_spec.specs.declared.Style.the-variants.{Difdup}

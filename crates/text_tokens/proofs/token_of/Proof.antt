@@ -1,8 +1,8 @@
--- `text_groups::token_of` meets its contract: the token of the ordinate y after p; 0.
-use Rattle.text_groups.proofs.TokenSteps.{gap-token}
+-- `text_tokens::token_of` meets its contract: the token of the ordinate y after p; 0.
+use Rattle.text_tokens.proofs.TokenSteps.{gap-token}
 use borrow.Author.Needs.{needs}
-use Rattle.text_groups.proofs.token_of.Statement.{statement}
-use Rattle.text_groups.proofs.token_of.Tie as tie
+use Rattle.text_tokens.proofs.token_of.Statement.{statement}
+use Rattle.text_tokens.proofs.token_of.Tie as tie
 
 returns : tie.Need-returns
 returns c = gap-token _ _ (c .if1 .taken)
