@@ -20,7 +20,7 @@ use Rattle.file_write_spec.specs.File.{title-legal, scales-legal, first-quotien
 use Rattle.file_write_law.specs.Accepted.{Limited, written-most}
 use Rattle.table_room.specs.Room.{ByRoom, refuses, writes}
 use Rattle.table_room.specs.RoomLaws.{fits-most, room-holds, room-lacks, room-refuses, room-most, never-15, Text, Number}
-use Rattle.file_write.specs.Answers.{told-file, FileTells}
+use Rattle.file_lay.specs.Answers.{told-file, FileTells}
 use Rattle.file_write.specs.Room.{enough, FileMeasured}
 
 -- ---- quotients

@@ -15,7 +15,7 @@ use Rattle.table_room.specs.RoomLaws.{fits-most}
 use Rattle.file_write_law.specs.Accepted.{written-most}
 use Rattle.file_plan.specs.declared.Plan.{Plan}
 use Rattle.file_plan.specs.Stages.{laidOut, bodyOf, Planning}
-use Rattle.file_write.specs.Answers.{told-file, FileTells}
+use Rattle.file_lay.specs.Answers.{told-file, FileTells}
 use Rattle.file_write.specs.Room.{enough, FileMeasured}
 
 -- what is refused is told, and nothing is altered

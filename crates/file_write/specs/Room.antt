@@ -6,7 +6,7 @@ use lib.IntN.{ℤ}
 use Rattle.file_write_spec.specs.declared.Scales.{Scales}
 use Rattle.file_write_spec.specs.declared.FileWritten.{FileWritten}
 use Rattle.file_write_spec.specs.File.{file-exact, writeFile}
-use Rattle.file_write.specs.Answers.{told-file}
+use Rattle.file_lay.specs.Answers.{told-file}
 
 -- bytes that are enough for any file of N points
 abbrev pub enough : ℕ → ℕ

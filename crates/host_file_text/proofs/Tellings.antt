@@ -7,7 +7,7 @@ use Rattle.table_spec.specs.Writing.{Outcome, declined, wrote}
 use Rattle.file_spec.specs.declared.Exactness.{Exactness}
 use Rattle.file_write_spec.specs.declared.FileLength.{FileLength}
 use Rattle.file_write_spec.specs.declared.FileWritten.{FileWritten}
-use Rattle.file_write.specs.Answers as file-writing
+use Rattle.file_lay.specs.Answers as file-writing
 use Rattle.host_numbers.specs.Numbers.{refusedOf, flag, flags, no-flags, Told}
 use Rattle.host_text.specs.Answers.{textAnswer, OutcomeTold, LengthTold}
 use Rattle.host_file_text.specs.Answers.{fileNumbers}

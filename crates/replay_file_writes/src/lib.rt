@@ -1,57 +1,19 @@
 // The cases of `replay` that are files to write, and to read back (second/README.md, "The stored cases").
-use file_spec::Exactness;
-use file_spec::FileRead;
-use file_spec::FileTable;
-use file_write_spec::FileLength;
 use file_write_spec::FileWritten;
 use file_write_spec::Scales;
+use replay_back::TEXT;
+use replay_back::WRITTEN;
+use replay_file_back::show_file_text;
 use replay_input::Asked;
 use replay_input::next_number;
 use replay_input::next_scales;
 use replay_input::take_bytes;
 use replay_input::take_ordinates;
-use replay_show::FILL;
 use replay_show::show_touched_text;
-use replay_writes::TEXT;
-use replay_writes::WRITTEN;
-use replay_writes::same;
 use terms::Fault;
 
 // Room for the title of a file that is written.
 const TITLE: usize = 256;
-
-// Is the same exact?
-fn same_exact(x: Exactness, y: Exactness) -> bool {
-    x.first == y.first && x.last == y.last && x.firsty == y.firsty
-}
-
-// Has a file that was read back N and the ordinates, and what the writer said is exact?
-fn same_table(a: Asked, exact: Exactness, t: FileTable, ys: &[i32], back: &[i32]) -> bool {
-    t.points == a.points && same_exact(t.exact, exact) && same(ys, back, t.points)
-}
-
-// Does reading the written file give it back?
-fn file_reads_back(a: Asked, exact: Exactness, ys: &[i32], text: &[u8]) -> bool {
-    let mut back = [FILL; WRITTEN];
-    match file::read_file(text, &mut back) {
-        FileRead::Accepted(t) => same_table(a, exact, t, ys, &back),
-        FileRead::Refused(_) => false,
-    }
-}
-
-// The written file in its bytes: whether it reads back, and from the next line on itself.
-fn show_file_text(a: Asked, f: FileLength, ys: &[i32], text: &[u8]) {
-    let n = f.length;
-    if n <= text.len() {
-        if file_reads_back(a, f.exact, ys, &text[0..n]) {
-            io::write_all(1, b" same\n");
-        } else {
-            io::write_all(1, b" differs\n");
-        }
-        io::write_all(1, &text[0..n]);
-    }
-    report::end_line();
-}
 
 // Writes the file, or refusal 0 if this program has too little room.
 fn write_file(title: &[u8], a: Asked, c: Scales, ys: &[i32], text: &mut [u8]) -> FileWritten {

@@ -1,4 +1,4 @@
+pub mod ByteSteps
 pub mod NumberSteps
-pub mod HeadSteps
 pub mod AnswerSteps
 pub mod SmallSteps

@@ -16,16 +16,16 @@ use Rattle.table_spec.specs.Numerals.{numeral}
 use Rattle.table_spec.specs.Groups.{form, sqzText, tokenText, many, dupText, group}
 use Rattle.table_spec.specs.Writing.{put, open-line, go-on, text}
 use Rattle.table_spec.specs.declared.Style.the-variants.{Difdup}
-use Rattle.text_groups.specs.declared.Token.{Token}
-use Rattle.text_groups.specs.declared.Group.{Group}
-use Rattle.text_lines.specs.declared.State.{State}
+use Rattle.text_tokens.specs.declared.Token.{Token}
+use Rattle.text_tokens.specs.declared.Group.{Group}
+use Rattle.text_openings.specs.declared.State.{State}
 use Rattle.table_text.specs.Digits.{further}
 use Rattle.table_text.specs.Pieces.{Ahead, number}
 use Rattle.table_text.proofs.NumberSteps.{dup-none}
-use Rattle.text_groups.specs.Tokens.{run, lead-of, TokenFor, Found, group-at, lone}
-use Rattle.text_lines.specs.Lines.{from, next-state, after, opening, Started, Counted, Going, difference-state}
-use Rattle.text_groups.proofs.TokenSteps.{found, again-not, dif-up, dif-same, dif-down, lead-down, lead-same, lead-up}
-use Rattle.text_lines.proofs.TextSteps.{from-fits, from-break}
+use Rattle.text_tokens.specs.Tokens.{run, lead-of, TokenFor, Found, group-at, lone}
+use Rattle.text_openings.specs.Lines.{from, next-state, after, opening, Started, Counted, Going, difference-state}
+use Rattle.text_tokens.proofs.TokenSteps.{found, again-not, dif-up, dif-same, dif-down, lead-down, lead-same, lead-up}
+use Rattle.text_openings.proofs.TextSteps.{from-fits, from-break}
 use Rattle.table_write_law.specs.Tokens.{form-cases}
 use Rattle.text_differences.specs.Small.{Over}
 use Rattle.text_differences.specs.Stored.{Stored}

@@ -4,8 +4,8 @@ use mathlib.Core.List.{List}
 use Prim.Native.Nat.{ℕ}
 use lib.ListN.{length}
 use Rattle.table_text.specs.Pieces.{Ahead}
-use Rattle.text_lines.specs.declared.State.{State}
-use Rattle.text_lines.specs.Lines.{from, Counted}
+use Rattle.text_openings.specs.declared.State.{State}
+use Rattle.text_openings.specs.Lines.{from, Counted}
 
 -- groups were stored from the state s on: r is the state after them, and what is left of the text then makes the same text
 pub record Stored (ys : List ℕ) (s : State) (o o' : List ℕ) (r : State) : Type 0 where

@@ -8,8 +8,8 @@ ghost use Rattle.table_spec.specs.Frame.{apart};
 ghost use Rattle.table_text.specs.Digits.{further};
 ghost use Rattle.table_text.specs.Pieces.{number, ordinates};
 ghost use Rattle.text_digits.specs.Pairs.{pairs};
-ghost use Rattle.text_groups.specs.Tokens.{lone};
-ghost use Rattle.text_lines.specs.Lines.{Countable, difference-state};
+ghost use Rattle.text_tokens.specs.Tokens.{lone};
+ghost use Rattle.text_openings.specs.Lines.{Countable, difference-state};
 ghost use Rattle.text_differences.specs.Small.{scales, four, Over, Scales};
 ghost use Rattle.text_differences.specs.Stored.{Stored};
 use frame::Frame;
@@ -19,8 +19,8 @@ use table_text::digits::DIGIT;
 use table_text::digits::small_further;
 use text_digits::ones;
 use text_digits::tens;
-use text_groups::base_of;
-use text_lines::State;
+use text_openings::State;
+use text_tokens::base_of;
 
 // What makes a number of one digit, of two, three or four one of four digits. Lent as the pairs of digits are.
 pub const SCALES: [u32; 4] = [1000, 100, 10, 1];

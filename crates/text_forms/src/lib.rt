@@ -13,9 +13,9 @@ use table_spec::Style;
 use text_differences::SCALES;
 use text_differences::put_differences;
 use text_digits::PAIRS;
+use text_ends::begin;
+use text_ends::finish;
 use text_length::measure;
-use text_lines::begin;
-use text_lines::finish;
 use text_lines::turn;
 
 // Enough bytes for the text of any point, and for all else (table_write_law, `written-most`).

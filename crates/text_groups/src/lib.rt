@@ -1,7 +1,7 @@
-// Tokens and groups of equal tokens (01, "The written text"). Inner functions: an index within the ordinates, places far from the largest number.
+// Groups of equal tokens, found and stored (01, "The written text"). Inner functions: an index within the ordinates, places far from the largest number.
 ghost use mathlib.Core.Path.{_≡_};
 ghost use mathlib.Core.List.{_++_};
-ghost use Prim.Native.Nat.{_+_, _-_, _^_, _≤_, _<_};
+ghost use Prim.Native.Nat.{_+_, _^_, _≤_, _<_};
 ghost use lib.ListN.{length, drop};
 ghost use lib.Seq.{sets};
 ghost use Rattle.alphabet_spec.specs.Kinds.{dup};
@@ -9,124 +9,16 @@ ghost use Rattle.table_spec.specs.Numerals.{leadByte};
 ghost use Rattle.table_spec.specs.Groups.{dupText};
 ghost use Rattle.table_text.specs.Digits.{further};
 ghost use Rattle.table_text.specs.Pieces.{Put, number, ordinates};
-ghost use Rattle.text_groups.specs.Tokens.{SmallToken, lead-of, TokenFor, again, run, Found};
-use signed::ZERO_ORDINATE;
+ghost use Rattle.text_tokens.specs.Tokens.{SmallToken, again, run, Found};
 use signed::ordinate_at;
-use table_text::digits::DIF;
-use table_text::digits::DIF_MINUS;
-use table_text::digits::DIF_ZERO;
 use table_text::digits::DUP;
-use table_text::digits::MISSING;
-use table_text::digits::SQZ;
-use table_text::digits::SQZ_MINUS;
 use table_text::digits::further_digits;
 use table_text::digits::put;
 use table_text::digits::put_digits;
 use table_text::digits::put_number;
-
-// A token: its number is `size`, and its first digit is written as `base` plus the digit. The next ordinate has the same token if it plus `down` is the one
-// before it plus `up`, and it is missing or not as `dif` says, which is true of the DIF form.
-pub struct Token {
-    pub base: u64,
-    pub size: u64,
-    pub up: u64,
-    pub down: u64,
-    pub dif: bool,
-}
-
-// A group: its token, how many digits follow the token's first, how many more ordinates have the token, its bytes, and whether its form is DIF.
-pub struct Group {
-    pub base: u64,
-    pub size: u64,
-    pub digits: usize,
-    pub more: usize,
-    pub width: usize,
-    pub dif: bool,
-}
-
-// The SQZ token of an ordinate.
-fn own_token(y: u64) -> Token
-    requires { ⌜ (0 < y) × (y < 4294967296) ⌝ }
-    ensures { λ r. ⌜ TokenFor 0 y r ⌝ }
-{
-    if ZERO_ORDINATE <= y {
-        return Token {
-            base: SQZ,
-            size: y - ZERO_ORDINATE,
-            up: 0,
-            down: 0,
-            dif: false,
-        };
-    }
-    Token {
-        base: SQZ_MINUS,
-        size: ZERO_ORDINATE - y,
-        up: 0,
-        down: 0,
-        dif: false,
-    }
-}
-
-// How far a number is above another, 0 if it is not.
-fn above(a: u64, b: u64) -> u64
-    ensures { λ r. ⌜ r ≡ a - b ⌝ }
-{
-    if b < a {
-        return a - b;
-    }
-    0
-}
-
-// What the first digit of the DIF for y after p is added to.
-pub fn base_of(p: u64, y: u64) -> u64
-    ensures { λ r. ⌜ (r ≡ lead-of p y) × (r ≤ 105) ⌝ }
-{
-    if y < p {
-        return DIF_MINUS;
-    }
-    if y == p {
-        return DIF_ZERO;
-    }
-    DIF
-}
-
-// The DIF token of the ordinate y after p, without a jump on whether it is above or below.
-fn dif_token(p: u64, y: u64) -> Token
-    requires { ⌜ (0 < p) × (p < 4294967296) × (0 < y) × (y < 4294967296) ⌝ }
-    ensures { λ r. ⌜ TokenFor p y r ⌝ }
-{
-    let base = base_of(p, y);
-    let up = above(y, p);
-    let down = above(p, y);
-    let size = up + down;
-    Token {
-        base,
-        size,
-        up,
-        down,
-        dif: true,
-    }
-}
-
-// The token of the ordinate y after p; 0: a missing one, or none before it.
-fn token_of(p: u64, y: u64) -> Token
-    requires { ⌜ (p < 4294967296) × (y < 4294967296) ⌝ }
-    ensures { λ r. ⌜ TokenFor p y r ⌝ }
-{
-    if y == 0 {
-        return Token {
-            base: MISSING,
-            size: 0,
-            up: 0,
-            down: 0,
-            dif: false,
-        };
-    }
-    if p == 0 {
-        return own_token(y);
-    }
-    dif_token(p, y)
-}
+use text_tokens::Group;
+use text_tokens::Token;
+use text_tokens::token_of;
 
 // Has the ordinate z after q the same token again?
 fn is_again(t: Token, q: u64, z: u64) -> bool

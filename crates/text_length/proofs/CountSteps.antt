@@ -8,14 +8,14 @@ use lib.Dec.{ltb}
 use lib.ListN.{length, getD, drop}
 use borrow.Author.Tests.{ltb-true, ltb-false}
 use Rattle.terms.specs.Logic.{pick, by-case}
-use Rattle.text_groups.specs.declared.Group.{Group}
-use Rattle.text_lines.specs.declared.State.{State}
+use Rattle.text_tokens.specs.declared.Group.{Group}
+use Rattle.text_openings.specs.declared.State.{State}
 use Rattle.table_text.specs.Pieces.{Ahead, ahead-of, put-length, sets-past}
-use Rattle.text_groups.specs.Tokens.{Found}
-use Rattle.text_lines.specs.Lines.{from, after, line-state, Wrote, NewLine, Counted, Full}
-use Rattle.text_lines.proofs.TextSteps.{from-fits}
+use Rattle.text_tokens.specs.Tokens.{Found}
+use Rattle.text_openings.specs.Lines.{from, after, line-state, Wrote, NewLine, Counted, Full}
+use Rattle.text_openings.proofs.TextSteps.{from-fits}
 use Rattle.table_write_law.specs.Lengths.{group-any}
-use Rattle.text_lines.proofs.LineSteps.{left-break}
+use Rattle.text_openings.proofs.LineSteps.{left-break}
 
 -- ---- counting
 

@@ -5,21 +5,21 @@ ghost use Prim.Native.Nat.{_+_, _^_, _≤_, _<_};
 ghost use lib.ListN.{length};
 ghost use Rattle.table_spec.specs.declared.Style.the-variants.{Difdup};
 ghost use Rattle.table_spec.specs.Writing.{lines-of};
-ghost use Rattle.text_groups.specs.Tokens.{Found, lone};
+ghost use Rattle.text_tokens.specs.Tokens.{Found, lone};
 ghost use Rattle.frame.specs.Legal.{Sound};
 ghost use Rattle.table_text.specs.Pieces.{headOf, ordinates};
-ghost use Rattle.text_lines.specs.Lines.{from, PointsLeft, Countable, Wrote, Counted, Full};
+ghost use Rattle.text_openings.specs.Lines.{from, PointsLeft, Countable, Wrote, Counted, Full};
 use frame::Frame;
 use signed::ordinate_at;
 use text_differences::state_after;
-use text_groups::Group;
+use text_ends::begin;
+use text_ends::finish;
 use text_groups::find;
-use text_lines::State;
-use text_lines::begin;
-use text_lines::finish;
-use text_lines::new_line;
+use text_openings::State;
+use text_openings::new_line;
 use text_points::count_repeated;
 use text_points::dif_width;
+use text_tokens::Group;
 
 // The bytes of the DIF for y after p, if it stands alone before z; else more than a line has: y is missing, or z may have the same DIF.
 fn lone_width(p: u64, y: u64, z: u64) -> usize

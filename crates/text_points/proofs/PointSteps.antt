@@ -11,17 +11,17 @@ use borrow.Author.Tests.{ltb-true, ltb-false, eqb-true, eqb-false, lt-ltb}
 use Rattle.terms.specs.Logic.{pick, by-case}
 use Rattle.table_spec.specs.Frame.{apart, ordinate-of}
 use Rattle.table_spec.specs.Groups.{dupText}
-use Rattle.text_groups.specs.declared.Token.{Token}
-use Rattle.text_groups.specs.declared.Group.{Group}
-use Rattle.text_lines.specs.declared.State.{State}
+use Rattle.text_tokens.specs.declared.Token.{Token}
+use Rattle.text_tokens.specs.declared.Group.{Group}
+use Rattle.text_openings.specs.declared.State.{State}
 use Rattle.table_text.specs.Digits.{further}
 use Rattle.table_text.specs.Pieces.{ordinates}
 use Rattle.table_text.specs.DigitLaws.{further-le}
 use Rattle.table_text.proofs.SmallSteps.{further-one, further-two}
 use Rattle.table_text.proofs.NumberSteps.{dup-none, dup-length}
-use Rattle.text_groups.specs.Tokens.{again, TokenFor, Found}
-use Rattle.text_groups.proofs.TokenSteps.{found, again-not, again-so, dif-either, Copies, copies-start, copies-more, copies-stop}
-use Rattle.text_lines.specs.Lines.{Started, Countable, Counted, difference-state}
+use Rattle.text_tokens.specs.Tokens.{again, TokenFor, Found}
+use Rattle.text_tokens.proofs.TokenSteps.{found, again-not, again-so, dif-either, Copies, copies-start, copies-more, copies-stop}
+use Rattle.text_openings.specs.Lines.{Started, Countable, Counted, difference-state}
 use Rattle.text_differences.proofs.LoneSteps.{counted-none, counted-then, counted-group, lone-start}
 use Rattle.text_points.specs.Points.{Opens}
 

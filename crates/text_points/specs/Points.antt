@@ -5,7 +5,7 @@ use Prim.Native.Nat.{ℕ, _+_, _≤_, _<_}
 use lib.ListN.{getD}
 use Rattle.table_spec.specs.Frame.{apart}
 use Rattle.table_text.specs.Digits.{further}
-use Rattle.text_lines.specs.declared.State.{State}
+use Rattle.text_openings.specs.declared.State.{State}
 
 -- y is the next point after the state, not a missing one, and its DIF alone ends at the column `wide`, within the line
 pub record Opens (ys : List ℕ) (s : State) (y wide : ℕ) : Type 0 where

@@ -8,14 +8,14 @@ ghost use Rattle.table_spec.specs.Frame.{apart};
 ghost use Rattle.table_spec.specs.Groups.{dupText};
 ghost use Rattle.table_text.specs.Digits.{further};
 ghost use Rattle.table_text.specs.Pieces.{ordinates};
-ghost use Rattle.text_lines.specs.Lines.{Countable, Counted};
+ghost use Rattle.text_openings.specs.Lines.{Countable, Counted};
 ghost use Rattle.text_points.specs.Points.{Opens};
 use frame::Frame;
 use frame::distance;
 use signed::ordinate_at;
 use table_text::digits::further_digits;
 use text_differences::state_after;
-use text_lines::State;
+use text_openings::State;
 
 // The bytes of the DIF for y after p.
 pub fn dif_width(p: u64, y: u64) -> usize

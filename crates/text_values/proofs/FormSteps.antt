@@ -23,10 +23,10 @@ use Rattle.table_spec.specs.Frame.{nearest}
 use Rattle.table_write_law.specs.Abscissas.{nearest-range}
 use Rattle.table_write_law.specs.Heads.{head-length}
 use Rattle.table_text.specs.Pieces.{number, headOf}
-use Rattle.text_values.specs.declared.Marks.{Marks}
-use Rattle.text_values.specs.Shows.{spelled, marks-of, Based, shown}
-use Rattle.text_values.specs.Lines.{whole}
-use Rattle.text_values.proofs.ShowSteps.{shown-most}
+use Rattle.text_marks.specs.declared.Marks.{Marks}
+use Rattle.text_marks.specs.Shows.{spelled, marks-of, Based, shown}
+use Rattle.text_value_lines.specs.Lines.{whole}
+use Rattle.text_marks.proofs.ShowSteps.{shown-most}
 
 pub marks-based : (st : Style) → Based (marks-of st)
 unfolding marks-of

@@ -11,38 +11,20 @@ ghost use Rattle.frame.specs.Legal.{Sound};
 ghost use Rattle.table_text.specs.Pieces.{Put, headOf};
 ghost use Rattle.text_digits.specs.Counts.{counts};
 ghost use Rattle.text_digits.specs.Lent.{Tables};
-ghost use Rattle.text_values.specs.Shows.{Based};
-ghost use Rattle.text_values.specs.Lines.{whole};
-use crate::lines::count_line;
-use crate::lines::fill_line;
-use crate::lines::store_end;
-use crate::shows::marks_of;
+ghost use Rattle.text_marks.specs.Shows.{Based};
+ghost use Rattle.text_value_lines.specs.Lines.{whole};
 use frame::Frame;
 use table_spec::Style;
-use table_text::heads::head_bytes;
-use table_text::heads::put_head;
 use text_digits::COUNTS;
 use text_digits::PAIRS;
-
-mod lines;
-mod shows;
-
-// How a form writes its values: is there a space before a missing one, before one that is not negative, before one that is; has the last a minus; and to what their first digits are added.
-struct Marks {
-    gap: bool,
-    up: bool,
-    down: bool,
-    signed: bool,
-    plus: u64,
-    minus: u64,
-}
-
-// How far the writing has come: points given, the place after the last byte, and the bytes of the line so far.
-struct State {
-    given: usize,
-    at: usize,
-    column: usize,
-}
+use text_heads::head_bytes;
+use text_heads::put_head;
+use text_marks::Marks;
+use text_marks::marks_of;
+use text_value_lines::State;
+use text_value_lines::count_line;
+use text_value_lines::fill_line;
+use text_value_lines::store_end;
 
 // The whole text from the start of the lent bytes, which hold it, a line at a time. Its length.
 fn pass(t: &[u8; 200], d: &[u64; 32], m: Marks, ys: &[i32], text: &mut [u8], fr: Frame) -> usize

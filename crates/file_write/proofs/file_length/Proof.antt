@@ -5,7 +5,7 @@ use mir.Facts.{toZ-ofZ}
 use borrow.Author.Needs.{sfits-of}
 use Rattle.file_write_spec.specs.File.{file-exact, writeFile}
 use Rattle.file_plan.specs.Stages.{Planning}
-use Rattle.file_write.specs.Answers.{told-file}
+use Rattle.file_lay.specs.Answers.{told-file}
 use Rattle.file_write.proofs.PlanSteps.{measured-laid}
 use borrow.Author.Needs.{needs}
 use Rattle.file_write.proofs.file_length.Statement.{statement}

@@ -6,7 +6,7 @@ use borrow.Author.Needs.{needs}
 use lib.ListN.{length, length-map}
 use Rattle.table_spec.specs.Frame.{ordinate-of}
 use Rattle.table_text.specs.Pieces.{ordinates}
-use Rattle.text_lines.specs.Lines.{difference-state}
+use Rattle.text_openings.specs.Lines.{difference-state}
 use Rattle.text_differences.specs.Stored.{Stored}
 use Rattle.text_differences.proofs.LoneSteps.{LoneTo, lone-start, lone-next, stored-start, lone-stored}
 use Rattle.text_differences.proofs.put_lone.Statement.{statement}

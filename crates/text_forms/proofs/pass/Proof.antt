@@ -6,10 +6,10 @@ use borrow.Author.Needs.{needs}
 use lib.ListN.{length, length-map}
 use Rattle.table_spec.specs.Frame.{ordinate-of}
 use Rattle.table_text.specs.Pieces.{headOf, ordinates}
-use Rattle.text_lines.specs.Lines.{Going}
+use Rattle.text_openings.specs.Lines.{Going}
 use Rattle.text_digits.specs.Pairs.{pairs}
 use Rattle.text_differences.specs.Small.{scales}
-use Rattle.text_lines.proofs.LineSteps.{starts, goes, going-near, finish}
+use Rattle.text_openings.proofs.LineSteps.{starts, goes, going-near, finish}
 use Rattle.text_differences.proofs.LoneSteps.{goes-on}
 use Rattle.text_forms.proofs.pass.Statement.{statement}
 use Rattle.text_forms.proofs.pass.Tie as tie

@@ -7,7 +7,7 @@ use mathlib.Core.Path.{sym, _∙_}
 use lib.ListN.{length, length-map}
 use Rattle.table_spec.specs.Frame.{ordinate-of}
 use Rattle.table_text.specs.Pieces.{ordinates}
-use Rattle.text_groups.proofs.TokenSteps.{Copies, copies-start, copies-more, copies-stop, copies-out}
+use Rattle.text_tokens.proofs.TokenSteps.{Copies, copies-start, copies-more, copies-stop, copies-out}
 use Rattle.text_groups.proofs.copies_of.Statement.{statement}
 use Rattle.text_groups.proofs.copies_of.Tie as tie
 

@@ -3,7 +3,7 @@ use native.Mathlib.Omega.{arith}
 use lib.ListN.{length-map}
 use Rattle.table_spec.specs.Frame.{ordinate-of}
 use Rattle.table_text.specs.Pieces.{ordinates}
-use Rattle.text_groups.proofs.TokenSteps.{found}
+use Rattle.text_tokens.proofs.TokenSteps.{found}
 use borrow.Author.Needs.{needs}
 use Rattle.text_groups.proofs.find.Statement.{statement}
 use Rattle.text_groups.proofs.find.Tie as tie

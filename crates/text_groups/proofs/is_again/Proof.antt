@@ -1,5 +1,5 @@
 -- `text_groups::is_again` meets its contract: has the ordinate z after q the same token again?
-use Rattle.text_groups.proofs.TokenSteps.{again-not, again-so}
+use Rattle.text_tokens.proofs.TokenSteps.{again-not, again-so}
 use borrow.Author.Needs.{needs}
 use Rattle.text_groups.proofs.is_again.Statement.{statement}
 use Rattle.text_groups.proofs.is_again.Tie as tie

@@ -5,7 +5,7 @@ use native.Mathlib.Omega.{arith}
 use lib.ListN.{length, length-map}
 use Rattle.table_spec.specs.Frame.{ordinate-of}
 use Rattle.table_text.specs.Pieces.{ordinates}
-use Rattle.text_lines.specs.Lines.{Counted}
+use Rattle.text_openings.specs.Lines.{Counted}
 use Rattle.text_differences.proofs.LoneSteps.{counted-none, counted-then}
 use Rattle.text_length.proofs.CountSteps.{counted-near, full-here, full-end}
 use Rattle.text_length.proofs.count_line.Statement.{statement}

@@ -5,10 +5,10 @@ use native.Mathlib.Omega.{arith}
 use borrow.Author.Needs.{needs}
 use lib.ListN.{length, length-map}
 use Rattle.table_spec.specs.Frame.{ordinate-of}
-use Rattle.text_lines.specs.declared.State.{State}
+use Rattle.text_openings.specs.declared.State.{State}
 use Rattle.table_text.specs.Pieces.{headOf, put-length, ordinates}
-use Rattle.text_lines.specs.Lines.{Going}
-use Rattle.text_lines.proofs.LineSteps.{starts, goes, going-near, finish}
+use Rattle.text_openings.specs.Lines.{Going}
+use Rattle.text_openings.proofs.LineSteps.{starts, goes, going-near, finish}
 use Rattle.text_length.proofs.measure.Statement.{statement}
 use Rattle.text_length.proofs.measure.Tie as tie
 

@@ -4,7 +4,7 @@ use native.Mathlib.Omega.{arith}
 use lib.ListN.{length-map}
 use Rattle.table_spec.specs.Frame.{ordinate-of}
 use Rattle.table_text.specs.Pieces.{headOf, ordinates}
-use Rattle.text_lines.proofs.LineSteps.{turn-breaks}
+use Rattle.text_openings.proofs.LineSteps.{turn-breaks}
 use borrow.Author.Needs.{needs}
 use Rattle.text_lines.proofs.break_line.Statement.{statement}
 use Rattle.text_lines.proofs.break_line.Tie as tie

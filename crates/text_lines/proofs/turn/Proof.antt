@@ -3,7 +3,7 @@ use native.Mathlib.Omega.{arith}
 use lib.ListN.{length-map}
 use Rattle.table_spec.specs.Frame.{ordinate-of}
 use Rattle.table_text.specs.Pieces.{headOf, ordinates}
-use Rattle.text_lines.proofs.LineSteps.{turn-fits}
+use Rattle.text_openings.proofs.LineSteps.{turn-fits}
 use borrow.Author.Needs.{needs}
 use Rattle.text_lines.proofs.turn.Statement.{statement}
 use Rattle.text_lines.proofs.turn.Tie as tie

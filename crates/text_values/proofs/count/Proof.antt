@@ -6,10 +6,10 @@ use native.Mathlib.Omega.{arith}
 use lib.ListN.{length, length-map}
 use Rattle.table_spec.specs.Frame.{ordinate-of}
 use Rattle.table_text.specs.Pieces.{headOf}
-use Rattle.text_values.specs.Shows.{shown}
-use Rattle.text_values.specs.Lines.{Going}
+use Rattle.text_marks.specs.Shows.{shown}
+use Rattle.text_value_lines.specs.Lines.{Going}
 use Rattle.text_values.proofs.FormSteps.{fits-new}
-use Rattle.text_values.proofs.LineSteps.{put-nothing, starts, opens, goes, ends, whole-is}
+use Rattle.text_value_lines.proofs.LineSteps.{put-nothing, starts, opens, goes, ends, whole-is}
 use Rattle.text_values.proofs.count.Statement.{statement}
 use Rattle.text_values.proofs.count.Tie as tie
 

@@ -6,10 +6,10 @@ use native.Mathlib.Omega.{arith}
 use lib.ListN.{length, length-map}
 use Rattle.table_spec.specs.Frame.{ordinate-of}
 use Rattle.table_text.specs.Pieces.{headOf, put-as}
-use Rattle.text_values.specs.Shows.{shown}
-use Rattle.text_values.specs.Lines.{Going}
+use Rattle.text_marks.specs.Shows.{shown}
+use Rattle.text_value_lines.specs.Lines.{Going}
 use Rattle.text_values.proofs.FormSteps.{fits-new}
-use Rattle.text_values.proofs.LineSteps.{starts, opens, room-left, end-lent, goes, ends, whole-is}
+use Rattle.text_value_lines.proofs.LineSteps.{starts, opens, room-left, end-lent, goes, ends, whole-is}
 use Rattle.text_values.proofs.pass.Statement.{statement}
 use Rattle.text_values.proofs.pass.Tie as tie
 
