@@ -13,8 +13,8 @@ use Rattle.terms.specs.Refusals.{fault-at}
 use Rattle.label_spec.specs.Scans.{known, judge}
 use Rattle.label_spec.specs.declared.Spot.the-variants.{Place}
 use Rattle.label_spec.specs.declared.Walked.{Walked}
-use Rattle.label_walk.specs.declared.Judged.{Judged}
-use Rattle.label_walk.specs.Answers.{walkedIn}
+use Rattle.label_judged.specs.declared.Judged.{Judged}
+use Rattle.label_judged.specs.Answers.{walkedIn}
 
 -- If a label's name starts at a, r says whether it is w.
 pub record Alike (s : List ℕ) (a : ℕ) (w : List ℕ) (r : Bool) : Type 0 where
