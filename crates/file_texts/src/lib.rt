@@ -168,7 +168,7 @@ fn count_alone(part: &[u8]) -> Count
     ensures { λ r. ⌜ (r ≡ countIn (now (part .entry))) × countSmall r ⌝ }
 {
     let at = past_space(part, 0);
-    match decimal::count(part, at) {
+    match decimal_digits::count(part, at) {
         Count::Misspelled => Count::Misspelled,
         Count::Counted { value, end } => {
             if past_space(part, end) != part.len() {

@@ -5,11 +5,11 @@ use native.Mathlib.Omega.{arith}
 use lib.Dec.{lit<}
 use Rattle.alphabet_spec.specs.Entries.{entryAt}
 use Rattle.alphabet.specs.Standing.{digit-seen, digit-seen-not}
-use Rattle.decimal.proofs.Reading.{room, whole-long, no-point, behind-long, behind-run}
+use Rattle.decimal_digits.proofs.Reading.{room, whole-long, no-point, behind-long, behind-run}
 use Rattle.terms.specs.Places.{inside}
 use borrow.Author.Needs.{needs}
-use Rattle.decimal.proofs.mantissa.Statement.{statement}
-use Rattle.decimal.proofs.mantissa.Tie as tie
+use Rattle.decimal_digits.proofs.mantissa.Statement.{statement}
+use Rattle.decimal_digits.proofs.mantissa.Tie as tie
 
 -- no digit stands after the whole number, nor after those behind the point
 over : (c : tie.Else1) → 16 ≤ entryAt (c .before .before .before .before .args .s .now) (c .before .before .digits .result .at)

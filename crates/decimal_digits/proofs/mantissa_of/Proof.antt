@@ -1,7 +1,7 @@
 -- `mantissa_of` meets its contract: the limits of the digits, test by test. Assumes nothing.
-use Rattle.decimal.proofs.Reading.{no-digits, too-large, digits-are}
-use Rattle.decimal.proofs.mantissa_of.Statement.{statement}
-use Rattle.decimal.proofs.mantissa_of.Tie as tie
+use Rattle.decimal_digits.proofs.Reading.{no-digits, too-large, digits-are}
+use Rattle.decimal_digits.proofs.mantissa_of.Statement.{statement}
+use Rattle.decimal_digits.proofs.mantissa_of.Tie as tie
 
 returns : tie.Need-returns
 returns c = no-digits _ _ _ _ (c .if1 .taken)

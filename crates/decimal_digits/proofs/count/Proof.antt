@@ -2,10 +2,10 @@
 use Prim.Native.Nat.{_≤_}
 use Rattle.alphabet_spec.specs.Entries.{entryAt}
 use Rattle.alphabet.specs.Standing.{digit-seen, digit-seen-not}
-use Rattle.decimal.proofs.Reading.{count-long, count-none, count-large, count-is}
+use Rattle.decimal_digits.proofs.Reading.{count-long, count-none, count-large, count-is}
 use borrow.Author.Needs.{needs}
-use Rattle.decimal.proofs.count.Statement.{statement}
-use Rattle.decimal.proofs.count.Tie as tie
+use Rattle.decimal_digits.proofs.count.Statement.{statement}
+use Rattle.decimal_digits.proofs.count.Tie as tie
 
 -- no digit stands after them
 over : (c : tie.Else1) → 16 ≤ entryAt (c .before .before .before .before .args .s .now) (c .before .before .digits .result .at)

@@ -4,10 +4,10 @@ use Prim.Native.Nat.{_≤_}
 use native.Mathlib.Omega.{arith}
 use Rattle.alphabet_spec.specs.Entries.{entryAt}
 use Rattle.alphabet.specs.Standing.{digit-seen, digit-seen-not}
-use Rattle.decimal.proofs.Reading.{power-long, power-short, power-large, power-is}
+use Rattle.decimal_power.proofs.Reading.{power-long, power-short, power-large, power-is}
 use borrow.Author.Needs.{needs}
-use Rattle.decimal.proofs.power_digits.Statement.{statement}
-use Rattle.decimal.proofs.power_digits.Tie as tie
+use Rattle.decimal_power.proofs.power_digits.Statement.{statement}
+use Rattle.decimal_power.proofs.power_digits.Tie as tie
 
 -- no digit stands after them
 over : (c : tie.Else1) → 16 ≤ entryAt (c .before .before .before .before .args .s .now) (c .before .before .digits .result .at)

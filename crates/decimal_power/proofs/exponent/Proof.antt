@@ -3,11 +3,11 @@ use Prim.Native.Nat.{_+_}
 use mathlib.Core.Path.{sym, _∙_}
 use native.Mathlib.Omega.{arith}
 use lib.Dec.{lit<}
-use Rattle.decimal.proofs.Reading.{no-exponent, exponent-plus, exponent-minus, no-sign}
+use Rattle.decimal_power.proofs.Reading.{no-exponent, exponent-plus, exponent-minus, no-sign}
 use Rattle.terms.specs.Places.{inside}
 use borrow.Author.Needs.{needs}
-use Rattle.decimal.proofs.exponent.Statement.{statement}
-use Rattle.decimal.proofs.exponent.Tie as tie
+use Rattle.decimal_power.proofs.exponent.Statement.{statement}
+use Rattle.decimal_power.proofs.exponent.Tie as tie
 
 byte-at-requires : tie.Need-byte-at-requires
 byte-at-requires c κs = search needs
