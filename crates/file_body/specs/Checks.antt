@@ -7,7 +7,7 @@ use lib.ListN.{length}
 use Rattle.terms.specs.Refusals.{fault-at}
 use Rattle.table_spec.specs.Reading.{Answer, readTable, stored}
 use Rattle.table_read.specs.Answers.{Accepts}
-use Rattle.file_texts.specs.Spans.{Within}
+use Rattle.file_marks.specs.Spans.{Within}
 use Rattle.file_spec.specs.Texts.{textIn}
 use Rattle.file_spec.specs.File.{FileAnswer, refuse-file, accept-file, storedFile}
 use Rattle.file_spec.specs.declared.Span.{Span}

@@ -14,12 +14,12 @@ ghost use Rattle.file_body.specs.Checks.{StageChecks};
 use figure::agree;
 use figure::exact_with;
 use figure::ratio_of;
+use file_marks::mark_in;
 use file_spec::Exactness;
 use file_spec::FileTable;
 use file_spec::Needed;
 use file_spec::Numbers;
 use file_spec::Span;
-use file_texts::mark_in;
 use table_read::Checked;
 use terms::Fault;
 

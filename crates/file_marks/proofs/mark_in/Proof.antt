@@ -1,9 +1,9 @@
--- `file_texts::mark_in` meets its contract: the record's start, and the place within its text.
+-- `file_marks::mark_in` meets its contract: the record's start, and the place within its text.
 use mathlib.Core.Path.{refl}
 use Rattle.file_spec.specs.Texts.{markOf}
 use borrow.Author.Needs.{needs}
-use Rattle.file_texts.proofs.mark_in.Statement.{statement}
-use Rattle.file_texts.proofs.mark_in.Tie as tie
+use Rattle.file_marks.proofs.mark_in.Statement.{statement}
+use Rattle.file_marks.proofs.mark_in.Tie as tie
 
 sub-first-mark : tie.Need-sub-first-mark
 sub-first-mark c = search needs

@@ -1,11 +1,11 @@
--- `file_texts::list_in` meets its contract: the text of a record is as long as its places say.
+-- `file_marks::list_in` meets its contract: the text of a record is as long as its places say.
 use mathlib.Core.Path.{subst}
 use Prim.Native.Nat.{ℕ}
-use Rattle.file_texts.specs.Spans.{listedWithin}
-use Rattle.file_texts.proofs.NumberLaws.{text-length}
+use Rattle.file_marks.specs.Spans.{listedWithin}
+use Rattle.file_marks.proofs.TextLaws.{text-length}
 use borrow.Author.Needs.{needs}
-use Rattle.file_texts.proofs.list_in.Statement.{statement}
-use Rattle.file_texts.proofs.list_in.Tie as tie
+use Rattle.file_marks.proofs.list_in.Statement.{statement}
+use Rattle.file_marks.proofs.list_in.Tie as tie
 
 sub-list-line : tie.Need-sub-list-line
 sub-list-line c = search needs

@@ -2,18 +2,19 @@
 use mathlib.Core.Path.{_≡_, refl, sym, ap, _∙_}
 use mathlib.Core.Bool.{true, false}
 use mathlib.Core.List.{List, [], _∷_}
-use Prim.Native.Nat.{ℕ, suc, _+_, _≤_, _<_}
+use Prim.Native.Nat.{ℕ, suc, _+_, _≤_, _<_, _-_}
 use native.Mathlib.Omega.{arith}
 use native.Mathlib.Numerals.{add-one}
 use lib.Dec.{leb, eqb}
-use lib.ListN.{length, getD, drop, drop-of-length-le}
-use lib.Seq.{drop-cons}
+use lib.ListN.{length, getD, drop, drop-of-length-le, length-drop}
+use lib.Seq.{drop-cons, length-take-le}
 use borrow.Author.Tests.{eq-eqb, ne-eqb, leb-true, leb-false}
 use Rattle.terms.specs.Logic.{pick, by-case}
 use Rattle.label_spec.specs.SharedLaws.{first-byte}
-use Rattle.file_spec.specs.Texts.{spacing, firstMark, LIST, ended, matched, listedAs}
+use Rattle.file_spec.specs.Texts.{spacing, firstMark, LIST, ended, matched, listedAs, textIn}
 use Rattle.file_spec.specs.declared.Listed.the-variants as listed
-use Rattle.file_texts.specs.Spans.{listStep, listedWithin}
+use Rattle.file_marks.specs.Spans.{listStep, listedWithin, Within}
+use Rattle.file_spec.specs.declared.Span.{Span}
 
 -- the byte after a place
 after : (s : List ℕ) (i : ℕ) → getD (drop (suc i) s) 0 0 ≡ getD s (i + 1) 0
@@ -95,3 +96,9 @@ ended-short k i l n = let g : k < 11 = omega (arith, n) in rw (byte-of k g) refl
 pub ended-in : (w : List ℕ) (i b : ℕ) → i ≤ b → listedWithin b (ended w i)
 ended-in [] i b h = h
 ended-in (c ∷ w) i b h = tt
+
+-- the text of a record is as long as its places say
+pub text-length : (s : List ℕ) (t : Span) → Within (length s) t → length (textIn s t) ≡ t .to - t .from
+text-length s t h =
+    let low = h .low in let high = h .high in
+    length-take-le (t .to - t .from) (drop (t .from) s) (omega (arith, length-drop (t .from) s))

@@ -1,10 +1,8 @@
 -- A part of a text, and bounds of what it says. Assumes nothing.
-use Prim.Native.Nat.{ℕ, _+_, _<_, _≤_}
+use Prim.Native.Nat.{ℕ, _+_, _≤_}
 use lib.Dec.{leb, eqb}
 use lib.ListN.{getD}
 use Rattle.terms.specs.Logic.{pick}
-use Rattle.decimal_spec.specs.Number.{bound}
-use Rattle.decimal_spec.specs.declared.Count.{Count}
 use Rattle.file_spec.specs.Texts.{spacing, LIST}
 use Rattle.file_spec.specs.declared.Span.{Span}
 use Rattle.file_spec.specs.declared.Listed.{Listed}
@@ -19,11 +17,6 @@ pub record Within (len : ℕ) (t : Span) : Type 0 where
 abbrev pub listedWithin : ℕ → Listed → Type 0
 listedWithin len (listed.Body i) = i ≤ len
 listedWithin len listed.Unlisted = Unit
-
--- a count as it can be spelled
-abbrev pub countSmall : Count → Type 0
-countSmall (Count.Counted v j) = v < bound
-countSmall Count.Misspelled = Unit
 
 -- how much of the list stands after the byte b, with c after it; 12 where it does not
 abbrev pub listStep : ℕ → ℕ → ℕ → ℕ

@@ -1,4 +1,4 @@
--- `file_texts::list_line` meets its contract: of the list so much has stood, and the rest of the line is against what is left.
+-- `file_marks::list_line` meets its contract: of the list so much has stood, and the rest of the line is against what is left.
 use mathlib.Core.Path.{_≡_, refl, sym, _∙_}
 use mathlib.Core.List.{List}
 use Prim.Native.Nat.{ℕ, _-_, _≤_}
@@ -6,9 +6,9 @@ use native.Mathlib.Omega.{arith}
 use lib.ListN.{length, drop}
 use borrow.Author.Needs.{needs}
 use Rattle.file_spec.specs.Texts.{LIST, listedAs, listedIn}
-use Rattle.file_texts.proofs.TextLaws.{list-end, list-lf, list-step, list-stop, ended-in}
-use Rattle.file_texts.proofs.list_line.Statement.{statement}
-use Rattle.file_texts.proofs.list_line.Tie as tie
+use Rattle.file_marks.proofs.TextLaws.{list-end, list-lf, list-step, list-stop, ended-in}
+use Rattle.file_marks.proofs.list_line.Statement.{statement}
+use Rattle.file_marks.proofs.list_line.Tie as tie
 
 abbrev Inv-loop : tie.InvT-loop
 Inv-loop s i₀ k₀ i k = (i ≤ length s) × (k ≤ 11) × (listedIn s ≡ listedAs (drop i s) i (drop k LIST))

@@ -1,10 +1,10 @@
--- `file_texts::spacing` meets its contract: one test for each byte that it names.
+-- `file_marks::spacing` meets its contract: one test for each byte that it names.
 use mathlib.Core.Path.{refl}
 use borrow.Author.Tests.{ne-eqb, eq-eqb}
 use Rattle.label_spec.specs.Names.{blank}
 use Rattle.file_spec.specs.Texts.{spacing}
-use Rattle.file_texts.proofs.spacing.Statement.{statement}
-use Rattle.file_texts.proofs.spacing.Tie as tie
+use Rattle.file_marks.proofs.spacing.Statement.{statement}
+use Rattle.file_marks.proofs.spacing.Tie as tie
 
 returns : tie.Need-returns
 unfolding spacing blank

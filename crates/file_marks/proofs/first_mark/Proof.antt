@@ -1,4 +1,4 @@
--- `file_texts::first_mark` meets its contract: what is passed is blanks and line ends.
+-- `file_marks::first_mark` meets its contract: what is passed is blanks and line ends.
 use mathlib.Core.Path.{_≡_, refl, sym, _∙_}
 use Prim.Native.Nat.{_-_, _≤_}
 use native.Mathlib.Omega.{arith}
@@ -6,9 +6,9 @@ use lib.ListN.{length, drop}
 use borrow.Author.Needs.{needs}
 use borrow.Author.Tests.{not-true, not-false}
 use Rattle.file_spec.specs.Texts.{firstMark, markIn}
-use Rattle.file_texts.proofs.TextLaws.{mark-end, mark-here, mark-on}
-use Rattle.file_texts.proofs.first_mark.Statement.{statement}
-use Rattle.file_texts.proofs.first_mark.Tie as tie
+use Rattle.file_marks.proofs.TextLaws.{mark-end, mark-here, mark-on}
+use Rattle.file_marks.proofs.first_mark.Statement.{statement}
+use Rattle.file_marks.proofs.first_mark.Tie as tie
 
 abbrev Inv-loop : tie.InvT-loop
 Inv-loop s i₀ i = (i ≤ length s) × (markIn s ≡ firstMark (drop i s) i)

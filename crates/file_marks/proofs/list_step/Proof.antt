@@ -1,9 +1,9 @@
--- `file_texts::list_step` meets its contract: a blank, the next byte of the list, or neither.
+-- `file_marks::list_step` meets its contract: a blank, the next byte of the list, or neither.
 use mathlib.Core.Path.{refl, sym, _∙_}
 use borrow.Author.Tests.{ne-eqb, eq-eqb, le-leb, lt-leb}
 use borrow.Author.Needs.{needs}
-use Rattle.file_texts.proofs.list_step.Statement.{statement}
-use Rattle.file_texts.proofs.list_step.Tie as tie
+use Rattle.file_marks.proofs.list_step.Statement.{statement}
+use Rattle.file_marks.proofs.list_step.Tie as tie
 
 spacing-requires : tie.Need-spacing-requires
 spacing-requires c κs = search needs
