@@ -1,8 +1,8 @@
--- `profile::refuse` meets its contract: on the page, or in the file.
+-- `profile_told::refuse` meets its contract: on the page, or in the file.
 use borrow.Author.Needs.{needs}
-use Rattle.profile.proofs.ReadTurns.{refuse-is}
-use Rattle.profile.proofs.refuse.Statement.{statement}
-use Rattle.profile.proofs.refuse.Tie as tie
+use Rattle.profile_told.proofs.ToldTurns.{refuse-is}
+use Rattle.profile_told.proofs.refuse.Statement.{statement}
+use Rattle.profile_told.proofs.refuse.Tie as tie
 
 refusal-in-requires : tie.Need-refusal-in-requires
 refusal-in-requires c κs = search needs

@@ -1,11 +1,11 @@
--- `profile::store_numbers` meets its contract: one entry after the other, as far as there is room.
+-- `profile_told::store_numbers` meets its contract: one entry after the other, as far as there is room.
 use mathlib.Core.Path.{refl}
 use Prim.Native.Nat.{_-_}
 use lib.ListN.{length}
 use borrow.Author.Needs.{needs}
-use Rattle.profile.proofs.ReadTurns.{Storing, storing-full, storing-done, storing-on}
-use Rattle.profile.proofs.store_numbers.Statement.{statement}
-use Rattle.profile.proofs.store_numbers.Tie as tie
+use Rattle.profile_told.proofs.ToldTurns.{Storing, storing-full, storing-done, storing-on}
+use Rattle.profile_told.proofs.store_numbers.Statement.{statement}
+use Rattle.profile_told.proofs.store_numbers.Tie as tie
 
 abbrev Inv-loop : tie.InvT-loop
 Inv-loop numbers out₀ i₀ out i = Storing numbers out₀ out i

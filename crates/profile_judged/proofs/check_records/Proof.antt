@@ -1,9 +1,9 @@
--- `profile_check::check_records` meets its contract: by what the fifteen records say.
+-- `profile_judged::check_records` meets its contract: by what the fifteen records say.
 use mathlib.Core.Path.{refl}
 use borrow.Author.Needs.{needs}
-use Rattle.profile_check.proofs.CheckTurns.{records-checked}
-use Rattle.profile_check.proofs.check_records.Statement.{statement}
-use Rattle.profile_check.proofs.check_records.Tie as tie
+use Rattle.profile_judged.proofs.JudgeTurns.{records-checked}
+use Rattle.profile_judged.proofs.check_records.Statement.{statement}
+use Rattle.profile_judged.proofs.check_records.Tie as tie
 
 survey-requires : tie.Need-survey-requires
 survey-requires c κs = search needs
