@@ -1,11 +1,11 @@
--- `compound_read::find_in_block` meets its contract: the places, then the block's records.
+-- `compound_record::find_in_block` meets its contract: the places, then the block's records.
 use mathlib.Core.Path.{sym, _∙_}
 use native.Mathlib.Omega.{arith}
 use borrow.Author.Tests.{not-true, not-false}
 use borrow.Author.Needs.{needs}
-use Rattle.compound_read.proofs.BlockTurns.{in-long, in-outside, in-crossed, in-bare, in-text, in-absent}
-use Rattle.compound_read.proofs.find_in_block.Statement.{statement}
-use Rattle.compound_read.proofs.find_in_block.Tie as tie
+use Rattle.compound_record.proofs.RecordTurns.{in-long, in-outside, in-crossed, in-bare, in-text, in-absent}
+use Rattle.compound_record.proofs.find_in_block.Statement.{statement}
+use Rattle.compound_record.proofs.find_in_block.Tie as tie
 
 refusal-in-requires : tie.Need-refusal-in-requires
 refusal-in-requires c κs = search needs
