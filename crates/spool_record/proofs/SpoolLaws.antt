@@ -11,7 +11,7 @@ use Rattle.terms.specs.declared.Fault.{Fault}
 use Rattle.night_spec.specs.Spool.{recordAt, lengthAt, part, over, stopped, file, spoolFrom}
 use Rattle.night_spec.specs.declared.Spooled.{Spooled}
 use Rattle.night_spec.specs.declared.Spooled.the-variants as spooled
-use Rattle.spool.proofs.RecordLaws.{record-over, record-full, record-short, record-first, record-second, record-long, record-file}
+use Rattle.spool_record.proofs.RecordLaws.{record-over, record-full, record-short, record-first, record-second, record-long, record-file}
 
 -- ---- a record is a part of the spool
 

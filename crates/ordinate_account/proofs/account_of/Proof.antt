@@ -1,12 +1,12 @@
--- `file_tally::account_of` meets its contract: each number of the account from what the ordinates come to.
+-- `ordinate_account::account_of` meets its contract: each number of the account from what the ordinates come to.
 use mir.Syntax.{w64}
 use mir.Facts.{toZ-ofZ}
 use borrow.Author.Needs.{sfits-of}
 use mathlib.Core.Path.{refl}
-use Rattle.file_tally.specs.Account.{accountFrom}
+use Rattle.ordinate_account.specs.Account.{accountFrom}
 use borrow.Author.Needs.{needs}
-use Rattle.file_tally.proofs.account_of.Statement.{statement}
-use Rattle.file_tally.proofs.account_of.Tie as tie
+use Rattle.ordinate_account.proofs.account_of.Statement.{statement}
+use Rattle.ordinate_account.proofs.account_of.Tie as tie
 
 sub-missing : tie.Need-sub-missing
 sub-missing c = search needs

@@ -1,12 +1,12 @@
--- `file_tally::level_of` meets its contract: 0 is `none`, and every other number is lowered.
+-- `ordinate_account::level_of` meets its contract: 0 is `none`, and every other number is lowered.
 use mir.Syntax.{w64}
 use mir.Facts.{toZ-ofZ}
 use borrow.Author.Needs.{sfits-of}
 use mathlib.Core.Path.{refl}
 use borrow.Author.Tests.{eq-eqb, ne-eqb}
 use borrow.Author.Needs.{needs}
-use Rattle.file_tally.proofs.level_of.Statement.{statement}
-use Rattle.file_tally.proofs.level_of.Tie as tie
+use Rattle.ordinate_account.proofs.level_of.Statement.{statement}
+use Rattle.ordinate_account.proofs.level_of.Tie as tie
 
 returns : tie.Need-returns
 returns c = rw (eq-eqb _ _ (c .if1 .taken)) refl

@@ -1,10 +1,10 @@
--- `spool::record_at` meets its contract: what stands at a place, tested in the order of the definition.
+-- `spool_record::record_at` meets its contract: what stands at a place, tested in the order of the definition.
 use mathlib.Core.Path.{sym, _∙_}
 use Prim.Native.Nat.{_-_}
-use Rattle.spool.proofs.RecordLaws.{record-over, record-full, record-short, record-first, record-second, record-long, record-file}
+use Rattle.spool_record.proofs.RecordLaws.{record-over, record-full, record-short, record-first, record-second, record-long, record-file}
 use borrow.Author.Needs.{needs}
-use Rattle.spool.proofs.record_at.Statement.{statement}
-use Rattle.spool.proofs.record_at.Tie as tie
+use Rattle.spool_record.proofs.record_at.Statement.{statement}
+use Rattle.spool_record.proofs.record_at.Tie as tie
 
 returns : tie.Need-returns
 returns c = sym (record-over _ _ _ (c .if1 .taken))

@@ -1,7 +1,7 @@
--- `spool::length_at` meets its contract: three bytes, high byte first.
+-- `spool_record::length_at` meets its contract: three bytes, high byte first.
 use borrow.Author.Needs.{needs}
-use Rattle.spool.proofs.length_at.Statement.{statement}
-use Rattle.spool.proofs.length_at.Tie as tie
+use Rattle.spool_record.proofs.length_at.Statement.{statement}
+use Rattle.spool_record.proofs.length_at.Tie as tie
 
 add-wide : tie.Need-add-wide
 add-wide c = search needs

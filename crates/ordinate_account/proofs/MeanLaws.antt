@@ -16,7 +16,7 @@ use Rattle.table_spec.specs.Frame.{zero-ordinate, entry-for, apart}
 use Rattle.night_spec.specs.Report.{given, missing, magnitudes, Some, none, some, lesser, least, greater, greatest, sumOf, ordinate-level, size-level, accountOf}
 use Rattle.ordinate_tally.specs.declared.Tally.{Tally}
 use Rattle.ordinate_tally.specs.Tally.{lessOf, greatOf, faintOf, with-given, with-ordinate, tallyOf}
-use Rattle.file_tally.specs.Account.{levelFrom, accountFrom}
+use Rattle.ordinate_account.specs.Account.{levelFrom, accountFrom}
 
 -- ---- a sum of ordinates, each as y + 2^31, as a sum with its sign
 

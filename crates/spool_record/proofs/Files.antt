@@ -9,8 +9,8 @@ use lib.Seq.{getD-drop, drop-drop, take-at, drop-at}
 use Rattle.night_spec.specs.Spool.{most-files, recordAt, lengthAt, part, spoolFrom, spoolOf, filesOf, endOf, recordFor, spoolFor, Spoolable}
 use Rattle.night_spec.specs.declared.Spooled.the-variants as spooled
 use Rattle.night_spec.specs.declared.Ending.the-variants as ending
-use Rattle.spool.proofs.RecordLaws.{record-over, record-file}
-use Rattle.spool.proofs.SpoolLaws.{spool-over, spool-file}
+use Rattle.spool_record.proofs.RecordLaws.{record-over, record-file}
+use Rattle.spool_record.proofs.SpoolLaws.{spool-over, spool-file}
 
 -- three bytes hold a length below 2^24
 three-bytes : (n : ℕ) → n < 16777216 → n / 65536 * 65536 + n / 256 % 256 * 256 + n % 256 ≡ n

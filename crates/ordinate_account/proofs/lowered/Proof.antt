@@ -1,12 +1,12 @@
--- `file_tally::lowered` meets its contract: a sum of raised ordinates as a sum with its sign, in 64 bits.
+-- `ordinate_account::lowered` meets its contract: a sum of raised ordinates as a sum with its sign, in 64 bits.
 use Prim.Native.Nat.{_*_}
 use native.Mathlib.Omega.{arith}
 use mir.Syntax.{w64}
 use mir.Facts.{toZ-pos, toZ-ofZ}
-use Rattle.file_tally.proofs.MeanLaws.{minus-is, sub-fits}
+use Rattle.ordinate_account.proofs.MeanLaws.{minus-is, sub-fits}
 use borrow.Author.Needs.{needs}
-use Rattle.file_tally.proofs.lowered.Statement.{statement}
-use Rattle.file_tally.proofs.lowered.Tie as tie
+use Rattle.ordinate_account.proofs.lowered.Statement.{statement}
+use Rattle.ordinate_account.proofs.lowered.Tie as tie
 
 mul-base : tie.Need-mul-base
 mul-base c = search needs

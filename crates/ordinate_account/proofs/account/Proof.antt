@@ -1,14 +1,14 @@
--- `file_tally::account` meets its contract: what the first n ordinates come to is the account that the plain definition over them gives.
+-- `ordinate_account::account` meets its contract: what the first n ordinates come to is the account that the plain definition over them gives.
 use mathlib.Core.Path.{ap, _∙_}
 use mathlib.Core.List.{map}
 use lib.ListN.{take}
 use Rattle.table_spec.specs.Frame.{ordinate-of}
-use Rattle.file_tally.specs.Account.{accountFrom}
+use Rattle.ordinate_account.specs.Account.{accountFrom}
 use Rattle.ordinate_tally.proofs.TallyLaws.{front-length}
-use Rattle.file_tally.proofs.MeanLaws.{account-is}
+use Rattle.ordinate_account.proofs.MeanLaws.{account-is}
 use borrow.Author.Needs.{needs}
-use Rattle.file_tally.proofs.account.Statement.{statement}
-use Rattle.file_tally.proofs.account.Tie as tie
+use Rattle.ordinate_account.proofs.account.Statement.{statement}
+use Rattle.ordinate_account.proofs.account.Tie as tie
 
 tally-up-requires : tie.Need-tally-up-requires
 tally-up-requires c κs = search needs
