@@ -1,8 +1,8 @@
--- `host_night::tell_file` meets its contract: a file that was read, or its refusal.
+-- `night_numbers::tell_file` meets its contract: a file that was read, or its refusal.
 use mathlib.Core.Path.{refl}
 use borrow.Author.Needs.{needs}
-use Rattle.host_night.proofs.tell_file.Statement.{statement}
-use Rattle.host_night.proofs.tell_file.Tie as tie
+use Rattle.night_numbers.proofs.tell_file.Statement.{statement}
+use Rattle.night_numbers.proofs.tell_file.Tie as tie
 
 enum-known-f : tie.Need-enum-known-f
 enum-known-f c = search needs

@@ -8,7 +8,7 @@ use mir.Val.{SFits}
 use borrow.Author.Tests.{lt-ltb, le-ltb}
 use Rattle.night_spec.specs.declared.Progress.{Progress}
 use Rattle.host_numbers.specs.Numbers.{bits}
-use Rattle.host_night.specs.Numbers.{numberOf, numbersOf, progressOf}
+use Rattle.night_numbers.specs.Numbers.{numberOf, numbersOf, progressOf}
 
 pub minus-one : (b : ℕ) → negsuc 0 -ℤ pos b ≡ negsuc b
 minus-one zero = refl

@@ -1,11 +1,11 @@
--- `host_night::progress_of` meets its contract: each number in its place, the sum with its sign.
+-- `night_numbers::progress_of` meets its contract: each number in its place, the sum with its sign.
 use mathlib.Core.Path.{refl}
 use mir.Syntax.{w64}
 use mir.Facts.{toZ-ofZ}
 use borrow.Author.Needs.{sfits-of}
 use borrow.Author.Needs.{needs}
-use Rattle.host_night.proofs.progress_of.Statement.{statement}
-use Rattle.host_night.proofs.progress_of.Tie as tie
+use Rattle.night_numbers.proofs.progress_of.Statement.{statement}
+use Rattle.night_numbers.proofs.progress_of.Tie as tie
 
 element-copy-out-number-of : tie.Need-element-copy-out-number-of
 element-copy-out-number-of c = search needs

@@ -1,14 +1,14 @@
--- `host_night::number_of` meets its contract: the number with a sign that 64 bits are.
+-- `night_numbers::number_of` meets its contract: the number with a sign that 64 bits are.
 use mathlib.Core.Path.{_∙_}
 use Prim.Native.Nat.{_-_, _<_}
 use native.Mathlib.Omega.{arith}
 use mir.Syntax.{w64}
 use mir.Facts.{toZ-pos, toZ-ofZ}
 use lib.IntN.{negsuc}
-use Rattle.host_night.proofs.BitLaws.{minus-one, number-low, number-high}
+use Rattle.night_numbers.proofs.BitLaws.{minus-one, number-low, number-high}
 use borrow.Author.Needs.{needs}
-use Rattle.host_night.proofs.number_of.Statement.{statement}
-use Rattle.host_night.proofs.number_of.Tie as tie
+use Rattle.night_numbers.proofs.number_of.Statement.{statement}
+use Rattle.night_numbers.proofs.number_of.Tie as tie
 
 cast-result : tie.Need-cast-result
 cast-result c = search needs

@@ -1,11 +1,11 @@
--- `host_night::level_bits` meets its contract: a number of the report, or the mark for `none`.
+-- `night_numbers::level_bits` meets its contract: a number of the report, or the mark for `none`.
 use mathlib.Core.Path.{refl}
 use mir.Syntax.{w64}
 use mir.Facts.{toZ-ofZ}
 use borrow.Author.Needs.{sfits-of}
 use borrow.Author.Needs.{needs}
-use Rattle.host_night.proofs.level_bits.Statement.{statement}
-use Rattle.host_night.proofs.level_bits.Tie as tie
+use Rattle.night_numbers.proofs.level_bits.Statement.{statement}
+use Rattle.night_numbers.proofs.level_bits.Tie as tie
 
 enum-told : tie.Need-enum-told
 enum-told c = search needs

@@ -1,11 +1,11 @@
--- `host_night::keep` meets its contract: the six numbers of a walk, the sum in 64 bits.
+-- `night_numbers::keep` meets its contract: the six numbers of a walk, the sum in 64 bits.
 use mathlib.Core.Path.{refl}
 use mir.Syntax.{w64}
 use mir.Facts.{toZ-ofZ}
 use borrow.Author.Needs.{sfits-of}
 use borrow.Author.Needs.{needs}
-use Rattle.host_night.proofs.keep.Statement.{statement}
-use Rattle.host_night.proofs.keep.Tie as tie
+use Rattle.night_numbers.proofs.keep.Statement.{statement}
+use Rattle.night_numbers.proofs.keep.Tie as tie
 
 bits-of-requires : tie.Need-bits-of-requires
 bits-of-requires c κs = search needs

@@ -1,11 +1,11 @@
--- `host_night::tell_account` meets its contract: the numbers of a file that was read, in the order of the header.
+-- `night_numbers::tell_account` meets its contract: the numbers of a file that was read, in the order of the header.
 use mathlib.Core.Path.{refl}
 use mir.Syntax.{w64}
 use mir.Facts.{toZ-ofZ}
 use borrow.Author.Needs.{sfits-of}
 use borrow.Author.Needs.{needs}
-use Rattle.host_night.proofs.tell_account.Statement.{statement}
-use Rattle.host_night.proofs.tell_account.Tie as tie
+use Rattle.night_numbers.proofs.tell_account.Statement.{statement}
+use Rattle.night_numbers.proofs.tell_account.Tie as tie
 
 level-bits-requires : tie.Need-level-bits-requires
 level-bits-requires c κs = search needs
