@@ -14,7 +14,7 @@ use Rattle.label_spec.specs.Labels.{from}
 use Rattle.label_spec.specs.LabelLaws.{resume}
 use Rattle.label_spec.specs.declared.Label.the-variants.{At, Bad, None}
 use Rattle.label_lines.specs.Post.{Marked, Met}
-use Rattle.label_walk.proofs.WalkTurns.{mark-is}
+use Rattle.label_judged.proofs.JudgeTurns.{mark-is}
 use Rattle.compound_spec.specs.Blocks.{says}
 use Rattle.compound_spec.specs.Cut.{restOfLine, endOf}
 use Rattle.compound_spec.specs.Answers.{entries}

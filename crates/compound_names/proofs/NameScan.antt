@@ -22,8 +22,8 @@ use Rattle.label_names.proofs.NameTurns.{apart, apart-word}
 use Rattle.label_lines.specs.Post.{Marked, Met}
 use Rattle.label_spec.specs.Records.{markOf}
 use Rattle.label_spec.specs.RecordLaws.{mark-hashed}
-use Rattle.label_walk.proofs.MarkTurns.{restOf, mark-here, mark-rest}
-use Rattle.label_walk.proofs.WalkTurns.{mark-is}
+use Rattle.label_judged.proofs.MarkTurns.{restOf, mark-here, mark-rest}
+use Rattle.label_judged.proofs.JudgeTurns.{mark-is}
 use Rattle.compound_names.specs.declared.Meet.{Meet}
 use Rattle.compound_names.specs.OwnNames.{leave, meet, ownKnown, ownClash}
 use Rattle.compound_names.specs.Post.{otherBy, Meets, Passes}

@@ -6,7 +6,7 @@ use compound_walk::Closed;
 use compound_walk::count_more;
 use compound_walk::walk_block;
 use label_spec::Opened;
-use label_walk::open_title;
+use label_title::open_title;
 use terms::Fault;
 
 // The most bytes of a file.

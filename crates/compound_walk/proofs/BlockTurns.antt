@@ -13,7 +13,7 @@ use Rattle.label_spec.specs.Labels.{label, from}
 use Rattle.label_spec.specs.LabelLaws.{resume}
 use Rattle.label_spec.specs.declared.Label.the-variants.{At, Bad, None}
 use Rattle.label_lines.specs.Post.{Met, Marked}
-use Rattle.label_walk.proofs.WalkTurns.{mark-is}
+use Rattle.label_judged.proofs.JudgeTurns.{mark-is}
 use Rattle.compound_spec.specs.declared.Own.{Own}
 use Rattle.compound_words.specs.Post.{noteOf}
 use Rattle.compound_names.specs.OwnNames.{ownClash}

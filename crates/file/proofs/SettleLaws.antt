@@ -14,7 +14,7 @@ use Rattle.file_spec.specs.declared.FileTable.{FileTable}
 use Rattle.file_spec.specs.declared.FileRead.the-variants as reads
 use Rattle.file_spec.specs.declared.FileStaged.the-variants as stages
 use Rattle.file_spec.specs.File.{FileAnswer, refuse-file, accept-file, staged, toldFile, readFile}
-use Rattle.file_body.specs.declared.Tabled.{Tabled}
+use Rattle.file_tabled.specs.declared.Tabled.{Tabled}
 use Rattle.file.specs.Answers.{stagedBy, leftBy, StageSays, FileSays}
 use Rattle.file_body.specs.Checks.{tabled, StageChecks}
 

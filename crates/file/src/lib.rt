@@ -7,15 +7,15 @@ ghost use Rattle.label_spec.specs.File.{longestFile};
 ghost use Rattle.table_spec.specs.Reading.{stored};
 ghost use Rattle.file_spec.specs.Texts.{gatheredFrom};
 ghost use Rattle.file_spec.specs.File.{byRecords};
-ghost use Rattle.file_body.specs.declared.Tabled.{Tabled};
+ghost use Rattle.file_tabled.specs.declared.Tabled.{Tabled};
 ghost use Rattle.file.specs.Answers.{stagedBy, leftBy, StageSays, FileSays};
 ghost use Rattle.file_body.specs.Checks.{tableAt, Laid, laidIn};
-use file_body::TablePlace;
-use file_body::Tabled;
 use file_check::check_file;
 use file_check::check_part;
 use file_spec::FileRead;
 use file_spec::FileStaged;
+use file_tabled::TablePlace;
+use file_tabled::Tabled;
 use text::refusal_in;
 
 // Stores the ordinates of a table that was checked and found right.

@@ -22,8 +22,8 @@ use Rattle.file_spec.specs.declared.Exactness.{Exactness}
 use Rattle.file_spec.specs.Texts.{textIn, markOf}
 use Rattle.file_spec.specs.Figures.{ratio, agrees, exactness-of}
 use Rattle.file_spec.specs.File.{FileAnswer, refuse-file, inFile, byFirst}
-use Rattle.file_texts.specs.Spans.{Within}
-use Rattle.file_body.specs.declared.Tabled.{Tabled}
+use Rattle.file_marks.specs.Spans.{Within}
+use Rattle.file_tabled.specs.declared.Tabled.{Tabled}
 use Rattle.file_body.specs.Checks.{StageChecks}
 
 module _ {s : List ℕ} {room : ℕ} where

@@ -7,12 +7,12 @@ use lib.ListN.{length}
 use Rattle.terms.specs.Refusals.{fault-at}
 use Rattle.table_spec.specs.Reading.{Answer, readTable, stored}
 use Rattle.table_read.specs.Answers.{Accepts}
-use Rattle.file_texts.specs.Spans.{Within}
+use Rattle.file_marks.specs.Spans.{Within}
 use Rattle.file_spec.specs.Texts.{textIn}
 use Rattle.file_spec.specs.File.{FileAnswer, refuse-file, accept-file, storedFile}
 use Rattle.file_spec.specs.declared.Span.{Span}
-use Rattle.file_body.specs.declared.TablePlace.{TablePlace}
-use Rattle.file_body.specs.declared.Tabled.{Tabled}
+use Rattle.file_tabled.specs.declared.TablePlace.{TablePlace}
+use Rattle.file_tabled.specs.declared.Tabled.{Tabled}
 
 -- what the body of a table says in its frame, with room for so many ordinates
 abbrev pub tableAt : List ℕ → ℕ → TablePlace → Answer

@@ -1,79 +1,24 @@
 // Checking the body of a file's table (01, "The file"), in the frame that was found, and FIRSTY, with nothing to write to.
-ghost use mathlib.Core.Path.{_≡_};
-ghost use Prim.Native.Nat.{_+_, _-_, _≤_};
+ghost use Prim.Native.Nat.{_-_, _≤_};
 ghost use lib.ListN.{length};
 ghost use Rattle.label_spec.specs.File.{longestFile};
-ghost use Rattle.terms.specs.Refusals.{fault-at};
-ghost use Rattle.file_spec.specs.File.{inFile, byTable};
+ghost use Rattle.file_spec.specs.File.{byTable};
 ghost use Rattle.figure.specs.Carried.{Carried};
 ghost use Rattle.file_gather.specs.Bounds.{AllWithin};
 ghost use Rattle.file_records.specs.Bounds.{AllSmall};
-ghost use Rattle.file_body.specs.declared.Tabled.{Tabled};
 ghost use Rattle.file_spec.specs.Places.{bodyFrom};
 ghost use Rattle.file_body.specs.Checks.{StageChecks};
 use figure::agree;
 use figure::exact_with;
 use figure::ratio_of;
-use file_spec::Exactness;
-use file_spec::FileTable;
+use file_marks::mark_in;
 use file_spec::Needed;
 use file_spec::Numbers;
-use file_spec::Span;
-use file_texts::mark_in;
+use file_tabled::Tabled;
+use file_tabled::accepted;
+use file_tabled::refused;
+use file_tabled::refused_in;
 use table_read::Checked;
-use terms::Fault;
-
-// A table that was checked: N, F, L and what is exact, and the part of the file that is its body.
-pub struct TablePlace {
-    pub table: FileTable,
-    pub body: Span,
-}
-
-// What checking a file answers: its table, or a fault, its place counted in the file.
-pub enum Tabled {
-    At(TablePlace),
-    Refused(Fault),
-}
-
-// A fault.
-pub fn refused(number: u64, place: usize) -> Tabled
-    ensures { λ r. ⌜ r ≡ Tabled.Refused (fault-at number place) ⌝ }
-{
-    Tabled::Refused(Fault::new(number, place))
-}
-
-// The table of a file that has no fault.
-fn accepted(
-    points: usize,
-    first: i64,
-    last: i64,
-    exact: Exactness,
-    from: usize,
-    to: usize,
-) -> Tabled
-    ensures { λ r. ⌜ r ≡ Tabled.At (record { table = record { points = points; first = first; last = last; exact = exact }; body = record { from = from; to = to } }) ⌝ }
-{
-    let table = FileTable {
-        points,
-        first,
-        last,
-        exact,
-    };
-    let body = Span { from, to };
-    Tabled::At(TablePlace { table, body })
-}
-
-// A fault of the body, with its place counted in the file; 1 and 2 stand at 0.
-fn refused_in(r: Fault, start: usize) -> Tabled
-    requires { ⌜ start + r .place ≤ longestFile ⌝ }
-    ensures { λ x. ⌜ x ≡ Tabled.Refused (fault-at (r .number) (inFile start (r .number) (r .place))) ⌝ }
-{
-    let number = r.number;
-    if number <= 2 {
-        return refused(number, 0);
-    }
-    refused(number, start + r.place)
-}
 
 // The table, in the frame that was found: 1 to 13 and 16, then 29.
 pub fn check_body(

@@ -12,18 +12,18 @@ ghost use Rattle.file_body.specs.Checks.{StageChecks};
 use decimal_spec::Rounded;
 use figure::ratio_of;
 use figure::whole_of;
-use file_body::Tabled;
 use file_body::check_body;
-use file_body::refused;
 use file_gather::gather;
+use file_marks::list_in;
+use file_marks::mark_in;
 use file_records::figures;
 use file_spec::Figures;
 use file_spec::Gathered;
 use file_spec::Listed;
 use file_spec::Needed;
 use file_spec::Numbers;
-use file_texts::list_in;
-use file_texts::mark_in;
+use file_tabled::Tabled;
+use file_tabled::refused;
 use label_spec::Labelled;
 
 // F and L (28), then the table.

@@ -3,7 +3,7 @@ use mathlib.Core.Path.{_≡_, sym, _∙_}
 use mathlib.Core.Bool.{Bool}
 use mathlib.Core.List.{List}
 use Prim.Native.Nat.{ℕ}
-use Rattle.file_texts.specs.Spans.{Within}
+use Rattle.file_marks.specs.Spans.{Within}
 use Rattle.file_spec.specs.declared.FoundBody.{FoundBody}
 use Rattle.file_spec.specs.declared.FoundBody.the-variants as body
 use Rattle.file_spec.specs.Places.{foundBody}

@@ -6,12 +6,12 @@ ghost use Rattle.file_spec.specs.Texts.{textIn, listedIn};
 ghost use Rattle.file_spec.specs.Places.{foundAt, foundBody};
 ghost use Rattle.file_detab.specs.Answers.{foundWithin, FileDetabs};
 use file_gather::gather;
+use file_marks::list_in;
 use file_spec::FoundBody;
 use file_spec::Gathered;
 use file_spec::Listed;
 use file_spec::Needed;
 use file_spec::Span;
-use file_texts::list_in;
 use label_spec::Labelled;
 
 // The body, from the line after XYDATA's list on, if that is the one asked for.

@@ -11,7 +11,7 @@ use Rattle.file_spec.specs.declared.Span.{Span}
 use Rattle.file_spec.specs.declared.Gathered.{Gathered}
 use Rattle.file_spec.specs.declared.Gathered.the-variants as gathered
 use Rattle.file_spec.specs.Texts.{withText, text-of, gatheredFrom}
-use Rattle.file_texts.specs.Spans.{Within}
+use Rattle.file_marks.specs.Spans.{Within}
 use Rattle.file_gather.specs.Order.{NAMES, nameAt, none, neededOf}
 use Rattle.file_gather.specs.Bounds.{AllWithin}
 

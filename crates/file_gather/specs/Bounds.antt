@@ -1,6 +1,6 @@
 -- Bounds of the seven records, which callers need. Assumes nothing.
 use Prim.Native.Nat.{ℕ}
-use Rattle.file_texts.specs.Spans.{Within}
+use Rattle.file_marks.specs.Spans.{Within}
 use Rattle.file_spec.specs.declared.Needed.{Needed}
 use Rattle.file_spec.specs.declared.Gathered.{Gathered}
 use Rattle.file_spec.specs.declared.Gathered.the-variants as gathered

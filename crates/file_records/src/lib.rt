@@ -7,6 +7,7 @@ ghost use Rattle.file_gather.specs.Bounds.{AllWithin};
 ghost use Rattle.file_records.specs.Order.{fromFirstx, fromNpoints};
 ghost use Rattle.file_records.specs.Bounds.{FactorsRead, figuresIn};
 use decimal_spec::Count;
+use file_marks::mark_in;
 use file_spec::Decimal;
 use file_spec::Figures;
 use file_spec::Given;
@@ -15,7 +16,6 @@ use file_spec::Numbers;
 use file_texts::count_in;
 use file_texts::decimal_in;
 use file_texts::factor_in;
-use file_texts::mark_in;
 
 // The numbers of the six records before the table, or the place of the first that is wrong (26): XFACTOR and YFACTOR, and then the rest.
 pub fn figures(file: &[u8], x: Needed) -> Figures

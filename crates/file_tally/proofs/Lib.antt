@@ -1,3 +1,2 @@
-pub mod MeanLaws
 pub mod ReportLaws
 pub mod Widths

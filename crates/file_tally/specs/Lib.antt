@@ -1,3 +1,1 @@
-pub mod Account
-pub mod Bounds
 pub mod Says

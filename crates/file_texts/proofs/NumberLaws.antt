@@ -2,20 +2,15 @@
 use mathlib.Core.Path.{_≡_, refl}
 use mathlib.Core.Bool.{Bool}
 use mathlib.Core.List.{List}
-use Prim.Native.Nat.{ℕ, _-_}
-use native.Mathlib.Omega.{arith}
-use lib.ListN.{length, drop, length-drop}
-use lib.Seq.{length-take-le}
+use Prim.Native.Nat.{ℕ}
+use lib.ListN.{length}
 use borrow.Author.Tests.{eq-eqb, ne-eqb}
 use Rattle.label_spec.specs.Space.{pastSpace}
 use Rattle.decimal_spec.specs.Number.{numberAt, countAt}
 use Rattle.decimal_spec.specs.declared.Number.{Number}
 use Rattle.decimal_spec.specs.declared.Count.{Count}
-use Rattle.file_spec.specs.Texts.{textIn}
 use Rattle.file_spec.specs.Figures.{alone, aloneCount, decimalIn, countIn}
-use Rattle.file_spec.specs.declared.Span.{Span}
 use Rattle.file_spec.specs.declared.Given.the-variants as given
-use Rattle.file_texts.specs.Spans.{Within}
 
 module _ (p : List ℕ) (at : ℕ) (a : at ≡ pastSpace p 0) where
   pub decimal-no : Number.Misspelled ≡ numberAt p at → given.Misspelled ≡ decimalIn p
@@ -43,9 +38,3 @@ module _ (p : List ℕ) (at : ℕ) (a : at ≡ pastSpace p 0) where
     pub count-is : (q : ℕ) → q ≡ pastSpace p j → q ≡ length p → Count.Counted v j ≡ countIn p
     unfolding countIn aloneCount
     count-is q f n = rw (← a, ← e, ← f, eq-eqb q (length p) n) refl
-
--- the text of a record is as long as its places say
-pub text-length : (s : List ℕ) (t : Span) → Within (length s) t → length (textIn s t) ≡ t .to - t .from
-text-length s t h =
-    let low = h .low in let high = h .high in
-    length-take-le (t .to - t .from) (drop (t .from) s) (omega (arith, length-drop (t .from) s))

@@ -1,3 +1,2 @@
-pub mod BitLaws
 pub mod TellLaws
 pub mod Walk

@@ -6,7 +6,7 @@ use lib.IntN.{ℤ}
 use Rattle.night_step.specs.Says.{NextSays}
 use Rattle.night_spec.specs.declared.Reported.{Reported}
 use Rattle.host_numbers.specs.Numbers.{refusedOf}
-use Rattle.host_night.specs.Numbers.{progressOf, keptBy, stepAnswer}
+use Rattle.night_numbers.specs.Numbers.{progressOf, keptBy, stepAnswer}
 use Rattle.host_night.specs.Told.{StepTold}
 
 pub told : {s : List ℕ} {out out' : List ℤ} {ks ks' answer : List ℕ} {r : ℕ} {x : Reported} → NextSays s (progressOf ks) out out' x

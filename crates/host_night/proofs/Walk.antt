@@ -19,8 +19,8 @@ use Rattle.file_tally.proofs.Widths.{report-in}
 use Rattle.night_totals.proofs.SizeLaws.{size-fits}
 use Rattle.night_totals.proofs.TotalLaws.{more-in}
 use Rattle.night_step.proofs.StepLaws.{legal-in}
-use Rattle.host_night.specs.Numbers.{numbersOf, progressOf}
-use Rattle.host_night.proofs.BitLaws.{kept-whole}
+use Rattle.night_numbers.specs.Numbers.{numbersOf, progressOf}
+use Rattle.night_numbers.proofs.BitLaws.{kept-whole}
 
 pub starts : progressOf (0 ∷ 0 ∷ 0 ∷ 0 ∷ 0 ∷ 0 ∷ []) ≡ no-progress
 starts = refl

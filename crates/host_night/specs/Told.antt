@@ -6,7 +6,7 @@ use lib.IntN.{ℤ}
 use lib.ListN.{length}
 use Rattle.night_spec.specs.Steps.{answerOf, stepLeaves}
 use Rattle.host_numbers.specs.Numbers.{refusedOf}
-use Rattle.host_night.specs.Numbers.{progressOf, keptBy, stepAnswer}
+use Rattle.night_numbers.specs.Numbers.{progressOf, keptBy, stepAnswer}
 
 -- the spool, the lent slice before and after, the numbers of the walk before and after, the numbers of the answer, and what is returned
 pub record StepTold (s : List ℕ) (out out' : List ℤ) (ks ks' : List ℕ) (answer : List ℕ) (r : ℕ) : Type 0 where

@@ -7,7 +7,7 @@ ghost use Rattle.label_spec.specs.Names.{norm};
 ghost use Rattle.label_spec.specs.Labels.{from, hashed};
 ghost use Rattle.label_spec.specs.Records.{recordOf, recordFor, textOf};
 ghost use Rattle.label.specs.Answers.{foundIn, findIn};
-ghost use Rattle.label_walk.specs.Answers.{TitleAt};
+ghost use Rattle.label_title.specs.Answers.{TitleAt};
 ghost use Rattle.label_names.specs.Post.{firstOf};
 ghost use Rattle.label.specs.Post.{Named};
 use label_lines::label_here;

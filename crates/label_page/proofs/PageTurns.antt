@@ -14,7 +14,7 @@ use Rattle.label_spec.specs.declared.Found.{Found}
 use Rattle.label.specs.Answers.{foundIn}
 use Rattle.label.specs.Post.{Named}
 use Rattle.label_lines.specs.Post.{Unblanked, Marked}
-use Rattle.label_walk.proofs.WalkTurns.{mark-is}
+use Rattle.label_judged.proofs.JudgeTurns.{mark-is}
 use Rattle.label_page.specs.Post.{FindsFrom}
 
 -- ---- `find_from_mark`

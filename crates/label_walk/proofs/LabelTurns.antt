@@ -13,7 +13,8 @@ use Rattle.label_spec.specs.File.{longestFile, opened, judged, placed, afterTit
 use Rattle.label_spec.specs.declared.Opened.{Opened}
 use Rattle.label_spec.specs.declared.Walked.{Walked}
 use Rattle.label_spec.specs.declared.Labelled.{Labelled}
-use Rattle.label_walk.specs.Answers.{openIn, labelledIn}
+use Rattle.label_title.specs.Answers.{openIn}
+use Rattle.label_walk.specs.Answers.{labelledIn}
 use Rattle.label_walk.proofs.WalkTurns.{Answers}
 
 -- What the function over a file's labels answers.

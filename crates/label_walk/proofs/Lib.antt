@@ -1,4 +1,2 @@
-pub mod MarkTurns
-pub mod OpenTurns
 pub mod WalkTurns
 pub mod LabelTurns

@@ -1,31 +1,11 @@
--- What the functions over a file's labels ensure besides the definitions of label_spec: where their answers lie. Assumes nothing.
-use mathlib.Core.Path.{_≡_}
-use mathlib.Core.Bool.{true, false}
+-- Where the answer of what a file's labels say lies. Assumes nothing.
 use mathlib.Core.List.{List}
-use Prim.Native.Nat.{ℕ, _+_, _<_, _≤_}
+use Prim.Native.Nat.{ℕ, _<_, _≤_}
 use lib.ListN.{length}
-use Rattle.label_spec.specs.Names.{nameIn, TITLE}
-use Rattle.label_spec.specs.Labels.{label, from}
-use Rattle.label_spec.specs.declared.Opened.{Opened}
-use Rattle.label_spec.specs.declared.Walked.{Walked}
 use Rattle.label_spec.specs.declared.Labelled.{Labelled}
-
--- TITLE's label stands there, first on its line, with `##` at m and `=` at e.
-pub record TitleAt (s : List ℕ) (m e : ℕ) : Type 0 where
-  pub low : m + 2 ≤ e
-  pub high : e < length s
-  pub name : nameIn s (m + 2) e ≡ TITLE
-  pub law : from s m true ≡ label m (m + 2) e (nameIn s (m + 2) e) (from s (e + 1) false)
+use Rattle.label_title.specs.Answers.{TitleAt}
 
 -- The places of each answer lie in the file.
-abbrev pub openIn : List ℕ → Opened → Type 0
-openIn s (Opened.Title m e) = TitleAt s m e
-openIn s (Opened.Refused r) = r .place ≤ length s
-
-abbrev pub walkedIn : ℕ → ℕ → Walked → Type 0
-walkedIn at len (Walked.Ended m e) = (at ≤ m) × (m < e) × (e < len)
-walkedIn at len (Walked.Refused r) = r .place ≤ len
-
 abbrev pub labelledIn : List ℕ → Labelled → Type 0
 labelledIn s (Labelled.Places m e x) = TitleAt s m e × (e < x) × (x < length s)
 labelledIn s (Labelled.Refused r) = r .place ≤ length s

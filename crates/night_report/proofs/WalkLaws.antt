@@ -15,8 +15,8 @@ use Rattle.night_spec.specs.declared.FileReport.{FileReport}
 use Rattle.night_spec.specs.declared.Totals.{Totals}
 use Rattle.night_spec.specs.declared.Ending.{Ending}
 use Rattle.night_spec.specs.declared.Ending.the-variants as ending
-use Rattle.spool.proofs.SpoolLaws.{file-in, spool-over, spool-stopped, spool-file}
-use Rattle.file_tally.specs.Bounds.{ReportIn}
+use Rattle.spool_record.proofs.SpoolLaws.{file-in, spool-over, spool-stopped, spool-file}
+use Rattle.ordinate_account.specs.Bounds.{ReportIn}
 use Rattle.file_tally.specs.Says.{ReportSays}
 use Rattle.file_tally.proofs.Widths.{report-in}
 use Rattle.night_totals.specs.Bounds.{TotalsIn}

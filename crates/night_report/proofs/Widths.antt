@@ -8,7 +8,7 @@ use Rattle.night_spec.specs.Spool.{Spool, over, follow, recordAt, spoolFrom, sp
 use Rattle.night_spec.specs.Night.{reportAs, reportsOf, totalsOf, nightOf}
 use Rattle.night_spec.specs.declared.Spooled.{Spooled}
 use Rattle.night_spec.specs.declared.Spooled.the-variants as spooled
-use Rattle.spool.proofs.SpoolLaws.{RecordIn, record-in}
+use Rattle.spool_record.proofs.SpoolLaws.{RecordIn, record-in}
 use Rattle.file_tally.proofs.Widths.{report-in}
 use Rattle.night_totals.specs.Bounds.{TotalsIn}
 use Rattle.night_totals.proofs.TotalLaws.{none-in, wider, more-in}

@@ -14,8 +14,8 @@ use Rattle.night_spec.specs.declared.Totals.{Totals}
 use Rattle.night_spec.specs.declared.Ending.{Ending}
 use Rattle.night_spec.specs.declared.Ending.the-variants as ending
 use Rattle.night_spec.specs.declared.Progress.{Progress}
-use Rattle.spool.proofs.Files.{spooled-back}
-use Rattle.spool.proofs.SpoolLaws.{file-in, spool-over, spool-stopped, spool-file}
+use Rattle.spool_record.proofs.Files.{spooled-back}
+use Rattle.spool_record.proofs.SpoolLaws.{file-in, spool-over, spool-stopped, spool-file}
 use Rattle.file_tally.proofs.Widths.{report-in}
 use Rattle.night_totals.specs.Bounds.{TotalsIn}
 use Rattle.night_totals.proofs.TotalLaws.{plus, plus-report, plus-none, none-plus, none-in, more-in}

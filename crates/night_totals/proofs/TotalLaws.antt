@@ -10,7 +10,7 @@ use Rattle.night_spec.specs.declared.Account.{Account}
 use Rattle.night_spec.specs.declared.FileReport.{FileReport}
 use Rattle.night_spec.specs.declared.FileReport.the-variants as report
 use Rattle.night_spec.specs.declared.Totals.{Totals}
-use Rattle.file_tally.specs.Bounds.{AccountIn, ReportIn}
+use Rattle.ordinate_account.specs.Bounds.{AccountIn, ReportIn}
 use Rattle.night_totals.specs.Bounds.{TotalsIn}
 use Rattle.night_totals.proofs.SizeLaws.{size-add, size-fits}
 

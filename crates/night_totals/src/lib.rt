@@ -4,7 +4,7 @@ ghost use Prim.Native.Nat.{_≤_};
 ghost use lib.IntN.{natAbs};
 ghost use Rattle.night_spec.specs.Night.{with-file, with-report};
 ghost use Rattle.night_spec.specs.Steps.{no-progress, totals-legal, walk-legal};
-ghost use Rattle.file_tally.specs.Bounds.{AccountIn, ReportIn};
+ghost use Rattle.ordinate_account.specs.Bounds.{AccountIn, ReportIn};
 ghost use Rattle.night_totals.specs.Bounds.{TotalsIn};
 use night_spec::Account;
 use night_spec::FileReport;

@@ -1,52 +1,20 @@
 -- From what checking says to what reading a profile says: no place of the code is named here.
-use mathlib.Core.Path.{_≡_, refl, sym, _∙_}
+use mathlib.Core.Path.{_≡_, refl, _∙_}
 use mathlib.Core.Bool.{Bool}
-use mathlib.Core.List.{List, [], _∷_}
-use Prim.Native.Nat.{ℕ, suc, _+_, _-_, _<_, _≤_}
-use native.Mathlib.Numerals.{add-one}
-use native.Mathlib.Omega.{arith}
+use mathlib.Core.List.{List}
+use Prim.Native.Nat.{ℕ}
 use lib.IntN.{ℤ}
-use lib.ListN.{length, getD, drop, set, length-set, drop-of-length-le}
-use lib.Seq.{sets, set-out, drop-cons}
-use Rattle.terms.specs.Logic.{pick}
-use Rattle.terms.specs.Refusals.{refusalIn}
+use lib.ListN.{length}
+use lib.Seq.{sets}
 use Rattle.terms.specs.declared.Fault.{Fault}
-use Rattle.terms.specs.declared.Refusal.{Refusal}
 use Rattle.table_spec.specs.Reading.{stored}
-use Rattle.file_body.specs.declared.TablePlace.{TablePlace}
+use Rattle.file_tabled.specs.declared.TablePlace.{TablePlace}
 use Rattle.file_body.specs.Checks.{tableAt}
 use Rattle.profile_spec.specs.declared.ProfileRead.{ProfileRead}
 use Rattle.profile_spec.specs.Profile.{refuse-profile, toldProfile}
-use Rattle.profile_check.specs.declared.Checked.{Checked}
+use Rattle.profile_judged.specs.declared.Checked.{Checked}
 use Rattle.profile_check.specs.Post.{Checks}
 use Rattle.profile.specs.Answers.{ProfileSays}
-
--- ---- `refuse`
-
-pub refuse-is : (s p : List ℕ) (q : Bool) (c a : ℕ) (t : Bool) → q ≡ t → (r : Refusal) → r ≡ refusalIn (pick t p s) c a → ProfileRead.Refused t r ≡ toldProfile s p (refuse-profile q c a)
-refuse-is s p q c a t e r h = rw (e, h) refl
-
--- ---- `store_numbers`
-
--- the numbers from i on are still to be stored
-abbrev pub Storing : List ℕ → List ℕ → List ℕ → ℕ → Type 0
-Storing ns out₀ out i = (length out ≡ length out₀) × (sets out₀ 0 ns ≡ sets out i (drop i ns))
-
-sets-out : (vs l : List ℕ) (i : ℕ) → length l ≤ i → sets l i vs ≡ l
-sets-out [] l i h = refl
-sets-out (v ∷ vs) l i h = rw (set-out l i v h) (sets-out vs l (suc i) (omega arith))
-
-module _ (ns out₀ out : List ℕ) (i : ℕ) (c : Storing ns out₀ out i) where
-  pub storing-full : length out ≤ i → out ≡ sets out₀ 0 ns
-  storing-full h = sym (c .1 ∙ sets-out (drop i ns) out i h)
-
-  pub storing-done : length ns ≤ i → out ≡ sets out₀ 0 ns
-  storing-done h = sym (c .1 ∙ rw (drop-of-length-le ns h) refl)
-
-  pub storing-on : i < length ns → Storing ns out₀ (set out i (getD ns i 0)) (i + 1)
-  storing-on h = (length-set out i (getD ns i 0) ∙ c .0, c .1 ∙ rw (drop-cons ns i 0 h, add-one i) refl)
-
--- ---- `read_profile`
 
 module _ (s p : List ℕ) (out : List ℤ) (ns places : List ℕ) where
   pub read-refused : (q : Bool) (f : Fault) → Checks s p (length out) places (Checked.Refused q f)

@@ -1,8 +1,8 @@
 -- From what the parts of a file say to what checking a profile says: no place of the code is named here.
-use mathlib.Core.Path.{_≡_, refl, ap, _∙_}
+use mathlib.Core.Path.{_≡_, refl, _∙_}
 use mathlib.Core.Bool.{false}
 use mathlib.Core.List.{List}
-use Prim.Native.Nat.{ℕ, _+_, _-_}
+use Prim.Native.Nat.{ℕ, _+_}
 use native.Mathlib.Numerals.{add-one}
 use Rattle.terms.specs.Logic.{zero-one}
 use Rattle.terms.specs.Refusals.{fault-at}
@@ -12,24 +12,16 @@ use Rattle.label_spec.specs.declared.Labelled.{Labelled}
 use Rattle.file_spec.specs.declared.Span.{Span}
 use Rattle.file_spec.specs.Texts.{gatheredFrom}
 use Rattle.file_spec.specs.File.{FileAnswer, refuse-file, accept-file, byRecords, readFile}
-use Rattle.file_body.specs.declared.TablePlace.{TablePlace}
-use Rattle.file_body.specs.declared.Tabled.{Tabled}
+use Rattle.file_tabled.specs.declared.TablePlace.{TablePlace}
+use Rattle.file_tabled.specs.declared.Tabled.{Tabled}
 use Rattle.file_body.specs.Checks.{tabled, StageChecks}
 use Rattle.file_check.proofs.StageLaws.{labels-refused, labels-placed}
 use Rattle.profile_spec.specs.declared.Profiled.{Profiled}
 use Rattle.profile_spec.specs.Wanted.{wanted}
 use Rattle.profile_spec.specs.Profile.{profiled, allNumbers, refuse-profile, byProfiled, byProfile, byFile, readProfile}
-use Rattle.profile_records.specs.Post.{Surveys}
-use Rattle.profile_check.specs.declared.Checked.{Checked}
-use Rattle.profile_check.specs.Post.{checkedBy, ChecksRecords, Right, Checks}
-
--- ---- `check_records`
-
-pub records-checked : (s : List ℕ) (start end : ℕ) (p : List ℕ) (k : TablePlace) (places : List ℕ) (x : Profiled) → Surveys s start end p places x
-    → (r : Checked) → r ≡ checkedBy end k x → ChecksRecords s start end p k places r
-records-checked s start end p k places x h r e = record { is = e ∙ ap (checkedBy end k) (h .is); shows = λ g. h .shows (h .is ∙ g) }
-
--- ---- `check_profile`
+use Rattle.profile_judged.specs.declared.Checked.{Checked}
+use Rattle.profile_judged.specs.Judged.{checkedBy, ChecksRecords}
+use Rattle.profile_check.specs.Post.{Right, Checks}
 
 module _ (s p : List ℕ) (room : ℕ) (places : List ℕ) where
   refused-file : (c a : ℕ) → readFile s room ≡ refuse-file c a → readProfile s p room ≡ refuse-profile false c a

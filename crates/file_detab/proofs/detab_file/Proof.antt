@@ -3,7 +3,7 @@ use mathlib.Core.Path.{sym, _∙_}
 use native.Mathlib.Omega.{arith}
 use lib.ListN.{length}
 use borrow.Author.Needs.{needs}
-use Rattle.file_texts.specs.Spans.{Within}
+use Rattle.file_marks.specs.Spans.{Within}
 use Rattle.file_detab.proofs.Bodies.{left-as-it-is, body-converted}
 use Rattle.file_detab.proofs.detab_file.Statement.{statement}
 use Rattle.file_detab.proofs.detab_file.Tie as tie

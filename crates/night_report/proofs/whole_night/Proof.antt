@@ -1,7 +1,7 @@
 -- `night_report::whole_night` meets its contract: at each turn the totals so far and the rest of the spool come to what the whole spool comes to.
 use mathlib.Core.Path.{sym, _∙_}
 use native.Mathlib.Omega.{arith}
-use Rattle.spool.proofs.SpoolLaws.{file-in}
+use Rattle.spool_record.proofs.SpoolLaws.{file-in}
 use Rattle.night_totals.proofs.TotalLaws.{wider}
 use Rattle.night_report.proofs.WalkLaws.{Walked, walked-start, told-in, walked-file, walked-over, walked-stopped}
 use borrow.Author.Needs.{needs}

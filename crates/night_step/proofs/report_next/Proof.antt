@@ -3,7 +3,7 @@ use mathlib.Core.Path.{sym, _∙_}
 use native.Mathlib.Omega.{arith}
 use native.Mathlib.Numerals.{add-one}
 use borrow.Author.Tests.{not-true, not-false}
-use Rattle.spool.proofs.SpoolLaws.{file-in}
+use Rattle.spool_record.proofs.SpoolLaws.{file-in}
 use Rattle.night_totals.proofs.TotalLaws.{wider}
 use Rattle.night_report.proofs.WalkLaws.{told-in}
 use Rattle.night_step.proofs.StepLaws.{legal-in, next-strange, next-over, next-stopped, next-file}
