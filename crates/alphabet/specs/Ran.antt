@@ -1,7 +1,7 @@
 -- What reading a run of digits ensures, and what that says of the run. Assumes nothing.
 use mathlib.Core.Path.{_≡_, refl, sym, ap, _∙_}
 use mathlib.Core.Bool.{true, false}
-use mathlib.Core.List.{List}
+use mathlib.Core.List.{List, [], _∷_}
 use mathlib.Core.Logic.{_⊎_, ⊎-elim}
 use Prim.Native.Nat.{ℕ, zero, suc, _+_, _-_, _*_, _^_, _≤_, _<_}
 use native.Mathlib.Omega.{arith}
@@ -11,7 +11,7 @@ use lib.Dec.{ltb, lit<}
 use lib.ListN.{length, drop}
 use borrow.Author.Tests.{ltb-true, ltb-false}
 use Rattle.terms.specs.Logic.{pick, by-case}
-use Rattle.alphabet_spec.specs.Digits.{within, long, run, digits}
+use Rattle.alphabet_spec.specs.Digits.{within, Run, long, run, digits}
 use Rattle.alphabet_spec.specs.Entries.{entryAt}
 use Rattle.alphabet_spec.specs.EntryLaws.{entry-in}
 use Rattle.alphabet_spec.specs.DigitLaws.{digits-stop, digits-on, digit-at}
@@ -174,3 +174,34 @@ pub record Few (s : List ℕ) (i v w j b : ℕ) : Type 0 where
   pub run : Ran s i v 3 w j (entryAt s j)
   pub stands : b ≡ standing s j
   pub grows : v ≤ w
+
+-- ---- the first digit of a run, and those after it
+
+-- a run with one digit fewer
+abbrev less : Run → Run
+less long = long
+less (run v n) = run v (n - 1)
+
+one-less : (v n : ℕ) → less (run v (suc n)) ≡ run v n
+one-less v n = let z : suc n - 1 ≡ n = omega arith in ap (run v) z
+
+counted : (s : List ℕ) (m v n : ℕ) → less (digits s m v (suc n)) ≡ digits s m v n
+unfolding digits
+counted [] m v n = one-less v n
+counted (b ∷ s) zero v n = by-case (λ t. less (pick t long (run v (suc n))) ≡ pick t long (run v n)) (within 48 10 b) (λ _. refl) (λ _. one-less v n)
+counted (b ∷ s) (suc m) v n =
+    by-case (λ t. less (pick t (digits s m (v * 10 + (b - 48)) (suc (suc n))) (run v (suc n))) ≡ pick t (digits s m (v * 10 + (b - 48)) (suc n)) (run v n)) (within 48 10 b)
+    (λ _. counted s m (v * 10 + (b - 48)) (suc n)) (λ _. one-less v n)
+
+-- a run that begins with a digit, and may have m more
+module _ (s : List ℕ) (i : ℕ) {m w j e : ℕ} (r : Ran s i 0 (suc m) w j e) (l : entryAt s i < 16) where
+  pub first-low : i < j
+  first-low = by-case (λ t. ltb i j ≡ t → i < j) (ltb i j) (λ _ x. ltb-true i j x)
+      (λ _ x. let y = ltb-false i j x in let b = r .low in let z : j ≡ i = omega arith in let k : e < 16 = rw (r .stands, z) l in let f = r .full k in absurd (omega arith)) refl
+
+  pub first-there : digits (drop (suc i) s) m (entryAt s i) 0 ≡ pick (ltb e 16) long (run w (j - (i + 1)))
+  first-there =
+      let z : j - i - 1 ≡ j - (i + 1) = omega arith in let q : 0 * 10 + entryAt s i ≡ entryAt s i = omega arith in
+      let d : digits (drop (suc i) s) m (0 * 10 + entryAt s i) 1 ≡ pick (ltb e 16) long (run w (j - i)) = sym (digits-on s i (suc m) 0 0 l) ∙ ran-is r in
+      sym (counted (drop (suc i) s) m (entryAt s i) 0) ∙ ap less (rw q at d)
+      ∙ by-case (λ t. less (pick t long (run w (j - i))) ≡ pick t long (run w (j - (i + 1)))) (ltb e 16) (λ _. refl) (λ _. ap (run w) z)

@@ -3,7 +3,7 @@ use mathlib.Core.Path.{_≡_, refl, sym, ap, _∙_, subst}
 use mathlib.Core.Bool.{Bool, true, false}
 use mathlib.Core.List.{List}
 use mathlib.Core.Logic.{_⊎_, ⊎-elim}
-use Prim.Native.Nat.{ℕ, zero, suc, _+_, _-_, _*_, _^_, _%_, _≤_, _<_}
+use Prim.Native.Nat.{ℕ, zero, suc, _+_, _-_, _*_, _^_, _≤_, _<_}
 use native.Mathlib.Omega.{arith}
 use native.Mathlib.Numerals.{add-one}
 use native.Mathlib.Nat.{mul-lt-mul-of-pos-right, mul-assoc}
@@ -18,24 +18,25 @@ use Rattle.alphabet_spec.specs.Entries.{code, entryAt, entry, kindOf}
 use Rattle.alphabet_spec.specs.EntryLaws.{at-entry, at-kind}
 use Rattle.alphabet_spec.specs.Kinds.{tabs-too}
 use Rattle.alphabet_spec.specs.KindLaws.{Back, kind-back}
-use Rattle.alphabet_spec.specs.DigitLaws.{digit-at}
-use Rattle.alphabet.specs.Ran.{Ran, ran-is, ran-below}
+use Rattle.alphabet.specs.Ran.{Ran, ran-is, ran-below, first-low, first-there}
 use Rattle.table_spec.specs.Values.{headed-at}
 use Rattle.table_spec.specs.Reading.{Tokens, head, fault, Mode, fresh, inner, Rest, starts, unit, scaled, pointed, thousandths, headed, opening, step}
 use Rattle.table_lines.specs.Seen.{behind, later-seen, seen-kind, seen-step, not-behind}
 use Rattle.table_lines.specs.Ends.{LineOpens}
-use Rattle.table_lines.specs.Heads.{wholeRoom, Scaled, Pointed, Topped, Headed}
+use Rattle.table_lines.specs.Heads.{Scaled, Pointed, Topped, Headed}
 use Rattle.table_lines.specs.declared.HeadRead.{HeadRead}
 use Rattle.table_lines.specs.declared.HeadRead.the-variants.{Abscissa, NoHead}
 use Rattle.table_lines.proofs.LineEnds.{starts-not, starts-kind}
 
--- the place after a run, with no blank behind it
-pub clear-after : {s : List ℕ} {i v most w j e : ℕ} → Ran s i v most w j e → behind s i ≡ false → behind s j ≡ false
+-- the place after a run, with no blank behind it; after one digit or more, whatever stood before them
+clear-run : {s : List ℕ} {i v most w j e : ℕ} → Ran s i v most w j e → i < j → behind s j ≡ false
 unfolding behind
+clear-run {s} {j = j} r l = let d = r .all (j - 1) (omega arith) (omega arith) in rw (ne-eqb j 0 (λ y. omega arith)) (ne-eqb (entryAt s (j - 1)) 112 (λ y. omega arith))
+
+pub clear-after : {s : List ℕ} {i v most w j e : ℕ} → Ran s i v most w j e → behind s i ≡ false → behind s j ≡ false
 clear-after {s} {i} {v} {most} {w} {j} {e} r h =
     by-case (λ t. ltb i j ≡ t → behind s j ≡ false) (ltb i j)
-    (λ _ x. let l = ltb-true i j x in let d = r .all (j - 1) (omega arith) (omega arith) in
-    rw (ne-eqb j 0 (λ y. omega arith)) (ne-eqb (entryAt s (j - 1)) 112 (λ y. omega arith)))
+    (λ _ x. clear-run r (ltb-true i j x))
     (λ _ x. let l = ltb-false i j x in let k = r .low in let z : j ≡ i = omega arith in rw z h) refl
 
 -- ---- after the whole number
@@ -107,8 +108,7 @@ small-head true g h e l = omega arith
 small-head false g h e l = omega arith
 
 -- a head that begins with a digit, or with a sign: what its whole number and what follows make
-module _ {s : List ℕ} (i : ℕ) {v most w j e : ℕ} (minus : Bool) (c : Byte) (h : i < length s) (k : kindOf (entryAt s i) ≡ c) (nb : entryAt s i ≡ 112 → ⊥)
-    (r : Ran s (i + 1) v most w j e)
+module _ (s : List ℕ) (i w j e : ℕ) (minus : Bool) (c : Byte) (h : i < length s) (k : kindOf (entryAt s i) ≡ c) (low : i < j) (cl : behind s j ≡ false)
     (f : (K : ℕ → Mode → Tokens) → opening K i (drop (suc i) s) c ≡ headed K i minus (thousandths (drop (suc i) s) (pick (ltb e 16) long (run w (j - (i + 1)))))) where
   pub no-head : e < 16 → Headed s i NoHead
   unfolding step thousandths
@@ -116,7 +116,7 @@ module _ {s : List ℕ} (i : ℕ) {v most w j e : ℕ} (minus : Bool) (c : Byte)
 
   thousandths-at : 16 ≤ e → thousandths (drop (suc i) s) (pick (ltb e 16) long (run w (j - (i + 1)))) ≡ pointed (drop j s) w (j - (i + 1))
   unfolding thousandths
-  thousandths-at l = let low = r .low in let z : suc i + (j - (i + 1)) ≡ j = omega arith in rw (le-ltb e 16 l, drop-drop (j - (i + 1)) (suc i) s, z) refl
+  thousandths-at l = let z : suc i + (j - (i + 1)) ≡ j = omega arith in rw (le-ltb e 16 l, drop-drop (j - (i + 1)) (suc i) s, z) refl
 
   pub no-fraction : 16 ≤ e → Pointed s j w minus NoHead → Headed s i NoHead
   unfolding step
@@ -126,18 +126,17 @@ module _ {s : List ℕ} (i : ℕ) {v most w j e : ℕ} (minus : Bool) (c : Byte)
   head-bytes : {x u n : ℕ} → 16 ≤ e → Scaled s j w minus x u n
       → (K : Rest) → opening K i (drop (suc i) s) (kind tabs-too (getD s i 0)) ≡ head i x u (K (n - suc i) (inner false))
   head-bytes {x} {u} {n} l p K =
-      let low = r .low in let a = p .low in
-      let z : j - (i + 1) + (n - j) ≡ n - suc i = omega arith in
+      let a = p .low in let z : j - (i + 1) + (n - j) ≡ n - suc i = omega arith in
       rw (at-kind s i h ∙ k) (f K ∙ rw (thousandths-at l, p .law (j - (i + 1)), z, ← p .is) refl)
 
   pub topped : {x u n : ℕ} → 16 ≤ e → Scaled s j w minus x u n → Topped s i x u n
   unfolding step
   topped {x} {u} {n} l p =
-      let low = r .low in let a = p .low in let b = p .small in
+      let a = p .low in let b = p .small in
       record {
         low = omega arith;
         high = p .high;
-        clear = p .clear (clear-after r (not-behind s i nb));
+        clear = p .clear cl;
         small = small-head minus (p .size) x (p .is) b;
         coarsest = p .coarsest;
         bytes = head-bytes l p;
@@ -186,12 +185,12 @@ pub run-there : (s : List ℕ) (i : ℕ) {v most w j e : ℕ} → Ran s (i + 1) 
 run-there s i {v} {most} {w} {j} {e} r = subst (λ (k : ℕ). digits (drop k s) most v 0 ≡ pick (ltb e 16) long (run w (j - (i + 1)))) (add-one i) (ran-is r)
 
 module _ (s : List ℕ) (i : ℕ) {w j x : ℕ} where
-  pub digit-opens : (e : ℕ) → Ran s (i + 1) e 6 w j x
+  digit-opens : (e : ℕ) → e ≡ entryAt s i → e < 16 → Ran s i 0 7 w j x
       → (K : ℕ → Mode → Tokens) → opening K i (drop (suc i) s) (digit e) ≡ headed K i false (thousandths (drop (suc i) s) (pick (ltb x 16) long (run w (j - (i + 1)))))
   unfolding opening
-  digit-opens e r K = rw (run-there s i r) refl
+  digit-opens e g l r K = rw (g, first-there s i r (rw g at l)) refl
 
-  pub sign-opens : (m : Bool) → Ran s (i + 1) 0 7 w j x → (j ≡ i + 1 → ⊥)
+  sign-opens : (m : Bool) → Ran s (i + 1) 0 7 w j x → (j ≡ i + 1 → ⊥)
       → (K : ℕ → Mode → Tokens) → opening K i (drop (suc i) s) (sign m) ≡ headed K i m (thousandths (drop (suc i) s) (pick (ltb x 16) long (run w (j - (i + 1)))))
   unfolding opening
   sign-opens m r n K = let low = r .low in let l : 0 < j - (i + 1) = omega (arith, n) in rw (run-there s i r, some-more (ltb x 16) w (j - (i + 1)) l) refl
@@ -229,58 +228,66 @@ no-blank-here : {s : List ℕ} {i e : ℕ} → LineOpens s i e → entryAt s i �
 no-blank-here o y = o .no-blank (o .stands ∙ y)
 
 module _ (s : List ℕ) (i e : ℕ) {w j x : ℕ} (o : LineOpens s i e) where
-  module _ (l : e < 16) (r : Ran s (i + 1) e 6 w j x) where
-    digit-small : w < 10000000
-    digit-small = let g = o .stands in let d = digit-at s i (rw g at l) in let b = ran-below r in let z = d .2 in omega arith
+  module _ (l : e < 16) (r : Ran s i 0 7 w j x) where
+    digit-low : i < j
+    digit-low = first-low s i r (rw (o .stands) at l)
 
     digit-long : x < 16 → Headed s i NoHead
-    digit-long k = no-head i false (digit e) (o .inside) (ap kindOf (sym (o .stands)) ∙ digit-kind e l) (no-blank-here o) r (digit-opens s i e r) k
+    digit-long =
+        no-head s i w j x false (digit e) (o .inside) (ap kindOf (sym (o .stands)) ∙ digit-kind e l) digit-low (clear-run r digit-low) (digit-opens s i e (o .stands) l r)
 
     digit-headed : 16 ≤ x → (y : HeadRead) → Pointed s j w false y → Headed s i y
-    digit-headed k = headed-by i false (digit e) (o .inside) (ap kindOf (sym (o .stands)) ∙ digit-kind e l) (no-blank-here o) r (digit-opens s i e r) k
+    digit-headed =
+        headed-by s i w j x false (digit e) (o .inside) (ap kindOf (sym (o .stands)) ∙ digit-kind e l) digit-low (clear-run r digit-low) (digit-opens s i e (o .stands) l r)
 
-  module _ (l : 128 ≤ e) (r : Ran s (i + 1) 0 7 w j x) where
-    sign-small : w < 10000000
-    sign-small = let b = ran-below r in omega arith
+  module _ (l : 128 ≤ e) (r : Ran s (i + 1) 0 7 w j x) (m : j ≡ i + 1 → ⊥) where
+    sign-low : i < j
+    sign-low = let a = r .low in omega arith
 
-    module _ (m : j ≡ i + 1 → ⊥) where
-      sign-long : x < 16 → Headed s i NoHead
-      sign-long = no-head i (leb 144 e) (sign (leb 144 e)) (o .inside) (ap kindOf (sym (o .stands)) ∙ sign-kind e l (o .before-point)) (no-blank-here o) r (sign-opens s i (leb 144 e) r m)
+    sign-clear : behind s j ≡ false
+    sign-clear = clear-after r (not-behind s i (no-blank-here o))
 
-      sign-headed : 16 ≤ x → (y : HeadRead) → Pointed s j w (leb 144 e) y → Headed s i y
-      sign-headed = headed-by i (leb 144 e) (sign (leb 144 e)) (o .inside) (ap kindOf (sym (o .stands)) ∙ sign-kind e l (o .before-point)) (no-blank-here o) r (sign-opens s i (leb 144 e) r m)
+    sign-long : x < 16 → Headed s i NoHead
+    sign-long =
+        no-head s i w j x (leb 144 e) (sign (leb 144 e)) (o .inside) (ap kindOf (sym (o .stands)) ∙ sign-kind e l (o .before-point)) sign-low sign-clear (sign-opens s i (leb 144 e) r m)
+
+    sign-headed : 16 ≤ x → (y : HeadRead) → Pointed s j w (leb 144 e) y → Headed s i y
+    sign-headed =
+        headed-by s i w j x (leb 144 e) (sign (leb 144 e)) (o .inside) (ap kindOf (sym (o .stands)) ∙ sign-kind e l (o .before-point)) sign-low sign-clear (sign-opens s i (leb 144 e) r m)
 
 -- ---- whatever begins a head
 
--- a sign's entry has no digit
-pub sign-first : (s : List ℕ) (i e : ℕ) → i < length s → e ≡ entryAt s i → 128 ≤ e → e < 160 → e % 16 ≡ 0
-unfolding entry
-sign-first s i e h g l k =
-    let c : kind tabs-too (getD s i 0) ≡ sign (leb 144 e) = at-kind s i h ∙ ap kindOf (sym g) ∙ sign-kind e l k in
-    let z : e ≡ code (sign (leb 144 e)) = g ∙ at-entry s i h ∙ ap code c in
-    by-case (λ t. e ≡ code (sign t) → e % 16 ≡ 0) (leb 144 e) (λ _ x. omega arith) (λ _ x. omega arith) z
+-- where its digits begin: at the place itself, or after a sign
+abbrev pub From : ℕ → ℕ → ℕ → Type 0
+From i e from = ((e < 128) × (from ≡ i)) ⊎ ((128 ≤ e) × (from ≡ i + 1))
 
-module _ (s : List ℕ) (i e : ℕ) (o : LineOpens s i e) (k : e < 16 ⊎ 128 ≤ e) where
-  pub head-fits : (e % 16 + 1) * 10 ^ wholeRoom e ≤ 10000000000000000000
-  head-fits = ⊎-elim (λ l. rw (lt-ltb e 16 l) (omega arith)) (λ l. rw (le-ltb e 16 (omega arith)) (omega arith)) k
+module _ (s : List ℕ) (i e : ℕ) {from w j x : ℕ} (o : LineOpens s i e) (k : From i e from) (r : Ran s from 0 7 w j x) where
+  pub head-small : w < 10000000
+  head-small = let b = ran-below r in omega arith
 
-  module _ {w j x : ℕ} (r : Ran s (i + 1) (e % 16) (wholeRoom e) w j x) where
-    digit-run : e < 16 → Ran s (i + 1) e 6 w j x
-    digit-run l = let z : e % 16 ≡ e = omega arith in rw (lt-ltb e 16 l, z) at r
+  digit-run : from ≡ i → Ran s i 0 7 w j x
+  digit-run q = rw q at r
 
-    sign-run : 128 ≤ e → Ran s (i + 1) 0 7 w j x
-    sign-run l = rw (le-ltb e 16 (omega arith), sign-first s i e (o .inside) (o .stands) l (o .before-point)) at r
+  sign-run : from ≡ i + 1 → Ran s (i + 1) 0 7 w j x
+  sign-run q = rw q at r
 
-    pub head-small : w < 10000000
-    head-small = ⊎-elim (λ l. digit-small s i e o l (digit-run l)) (λ l. sign-small s i e o l (sign-run l)) k
+  digit-first : from ≡ i → i < j → e < 16
+  digit-first q l = let d = digit-run q .all i (omega arith) l in let g = o .stands in omega arith
 
-    pub head-long : x < 16 → Headed s i NoHead
-    head-long h =
-        ⊎-elim (λ l. digit-long s i e o l (digit-run l) h) (λ l. let z = sign-run l .full h in sign-long s i e o l (sign-run l) (λ y. omega arith) h) k
+  pub head-long : x < 16 → Headed s i NoHead
+  head-long h =
+      ⊎-elim (λ q. let a = q .1 in let z = r .full h in digit-long s i e o (digit-first a (omega arith)) (digit-run a) h)
+      (λ q. let a = q .1 in let z = r .full h in sign-long s i e o (q .0) (sign-run a) (λ y. omega arith) h) k
 
-    pub head-alone : 128 ≤ e → j ≡ i + 1 → Headed s i NoHead
-    head-alone l = sign-alone s i e o l (sign-run l)
+  pub head-alone : j ≡ from → Headed s i NoHead
+  head-alone n =
+      ⊎-elim (λ q. let a = q .1 in
+      by-case (λ t. ltb e 16 ≡ t → Headed s i NoHead) (ltb e 16) (λ _ y. let m = digit-low s i e o (ltb-true e 16 y) (digit-run a) in absurd (omega arith))
+      (λ _ y. value-first s i e o (ltb-false e 16 y) (q .0)) refl)
+      (λ q. let a = q .1 in sign-alone s i e o (q .0) (sign-run a) (omega arith)) k
 
-    pub head-headed : 16 ≤ x → (128 ≤ e → j ≡ i + 1 → ⊥) → (y : HeadRead) → Pointed s j w (leb 144 e) y → Headed s i y
-    head-headed h m y p =
-        ⊎-elim (λ l. digit-headed s i e o l (digit-run l) h y (rw (lt-leb 144 e (omega arith)) at p)) (λ l. sign-headed s i e o l (sign-run l) (m l) h y p) k
+  pub head-headed : 16 ≤ x → (j ≡ from → ⊥) → (y : HeadRead) → Pointed s j w (leb 144 e) y → Headed s i y
+  head-headed h n y p =
+      ⊎-elim (λ q. let a = q .1 in let b = r .low in let l = q .0 in
+      digit-headed s i e o (digit-first a (omega (arith, n))) (digit-run a) h y (rw (lt-leb 144 e (omega arith)) at p))
+      (λ q. let a = q .1 in sign-headed s i e o (q .0) (sign-run a) (λ z. n (z ∙ sym a)) h y p) k

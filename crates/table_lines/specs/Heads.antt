@@ -3,9 +3,7 @@ use mathlib.Core.Path.{_≡_}
 use mathlib.Core.Bool.{Bool, false}
 use mathlib.Core.List.{List}
 use Prim.Native.Nat.{ℕ, suc, _+_, _-_, _<_, _≤_}
-use lib.Dec.{ltb}
 use lib.ListN.{length, getD, drop}
-use Rattle.terms.specs.Logic.{pick}
 use Rattle.alphabet_spec.specs.Kinds.{tabs-too}
 use Rattle.alphabet_spec.specs.Bytes.{kind}
 use Rattle.table_spec.specs.Values.{headed-at}
@@ -13,10 +11,6 @@ use Rattle.table_spec.specs.Reading.{head, fault, no-head, sized, fresh, inner,
 use Rattle.table_lines.specs.Seen.{seen, behind}
 use Rattle.table_lines.specs.declared.HeadRead.{HeadRead}
 use Rattle.table_lines.specs.declared.HeadRead.the-variants.{Abscissa, NoHead}
-
--- how many digits may follow the byte with the entry e that begins a head: seven with the first, or seven after a sign
-abbrev pub wholeRoom : ℕ → ℕ
-wholeRoom e = pick (ltb e 16) 6 7
 
 -- what follows the whole number w of a head, at the place i: its thousandths, its unit u and the place j after them
 pub record Scaled (s : List ℕ) (i w : ℕ) (minus : Bool) (h u j : ℕ) : Type 0 where

@@ -13,10 +13,8 @@ ghost use Rattle.table_lines.specs.Heads.{Pointed, Headed};
 use alphabet::CR;
 use alphabet::DOLLAR;
 use alphabet::END;
-use alphabet::KIND;
 use alphabet::LF;
 use alphabet::MINUS;
-use alphabet::PAST_DIGITS;
 use alphabet::PLUS;
 use alphabet::POINT;
 use alphabet::Run;
@@ -191,25 +189,18 @@ fn fraction(s: &[u8], w: Run, minus: bool) -> HeadRead
     abscissa(minus, size, unit, end)
 }
 
-// The head at a place whose entry is e: a digit and six more, or a sign and seven digits, and perhaps a fraction.
+// The head at a place whose entry is e: one to seven digits, perhaps a sign before them, and perhaps a fraction.
 pub fn head(s: &[u8], at: usize, e: u64) -> HeadRead
     requires { ⌜ LineOpens (now s) at e ⌝ }
     ensures { λ r. ⌜ Headed (now (s .entry)) at r ⌝ }
 {
-    if e >= PAST_DIGITS {
-        if e < PLUS {
-            return HeadRead::NoHead;
-        }
-    }
-    let next = at + 1;
-    let w = digits(s, next, e % KIND, if e < PAST_DIGITS { 6 } else { 7 });
+    let from = if e < PLUS { at } else { at + 1 };
+    let w = digits(s, from, 0, 7);
     if is_digit(w.b) {
         return HeadRead::NoHead;
     }
-    if e >= PAST_DIGITS {
-        if w.at == next {
-            return HeadRead::NoHead;
-        }
+    if w.at == from {
+        return HeadRead::NoHead;
     }
     fraction(s, w, e >= MINUS)
 }

@@ -1,7 +1,7 @@
 -- From the run of digits that was read to the token of a value. No place of the code is named here. Assumes nothing.
 use mathlib.Core.Path.{_≡_, refl, sym, ap, _∙_}
 use mathlib.Core.Bool.{Bool, true, false}
-use mathlib.Core.List.{List, [], _∷_}
+use mathlib.Core.List.{List}
 use Prim.Native.Nat.{ℕ, zero, suc, _+_, _-_, _*_, _^_, _/_, _%_, _≤_, _<_}
 use native.Mathlib.Omega.{arith}
 use native.Mathlib.Numerals.{add-one}
@@ -12,13 +12,13 @@ use borrow.Author.Tests.{eq-eqb, ne-eqb, lt-ltb, le-ltb, lt-leb, le-leb, ltb-tru
 use mathlib.Core.Logic.{_⊎_, inl, inr, ⊎-elim}
 use Rattle.terms.specs.Logic.{pick, by-case}
 use Rattle.alphabet_spec.specs.Kinds.{Lead, sqz, dif, dup, tabs-too, Pseudo, sqz-up, sqz-down, dif-zero, dif-up, dif-down, dup-low, dup-nine}
-use Rattle.alphabet_spec.specs.Digits.{within, Run, long, run, digits}
+use Rattle.alphabet_spec.specs.Digits.{long, run, digits}
 use Rattle.alphabet_spec.specs.Bytes.{Byte, digit, lead, sign, quest, blank, point, lf, cr, dollar, other, kind}
 use Rattle.alphabet_spec.specs.KindLaws.{Back, kind-back}
 use Rattle.alphabet_spec.specs.Entries.{code, entry, entryAt, kindOf}
 use Rattle.alphabet_spec.specs.EntryLaws.{entry-in, at-entry}
-use Rattle.alphabet_spec.specs.DigitLaws.{digits-on, digit-at}
-use Rattle.alphabet.specs.Ran.{AllDigits, Ran, ran-is, ran-below}
+use Rattle.alphabet_spec.specs.DigitLaws.{digit-at}
+use Rattle.alphabet.specs.Ran.{AllDigits, Ran, ran-below, first-low, first-there}
 use Rattle.table_spec.specs.Values.{Value, own, gap, by, times, valueOf, room}
 use Rattle.table_spec.specs.Reading.{Tokens, value, fault, Mode, inner, valued, inside, step}
 use Rattle.table_lines.specs.Seen.{behind, here, later-seen, later-none, seen-kind, byte-back, not-behind}
@@ -204,40 +204,13 @@ signed-number s i e g l h Misspelled p = ⊎-elim (sign-alone s i e g l h (p .ru
 
 -- ---- the first digit of a run, and those after it
 
--- a run with one digit fewer
-abbrev less : Run → Run
-less long = long
-less (run v n) = run v (n - 1)
-
-one-less : (v n : ℕ) → less (run v (suc n)) ≡ run v n
-one-less v n = let z : suc n - 1 ≡ n = omega arith in ap (run v) z
-
-counted : (s : List ℕ) (m v n : ℕ) → less (digits s m v (suc n)) ≡ digits s m v n
-unfolding digits
-counted [] m v n = one-less v n
-counted (b ∷ s) zero v n = by-case (λ t. less (pick t long (run v (suc n))) ≡ pick t long (run v n)) (within 48 10 b) (λ _. refl) (λ _. one-less v n)
-counted (b ∷ s) (suc m) v n =
-    by-case (λ t. less (pick t (digits s m (v * 10 + (b - 48)) (suc (suc n))) (run v (suc n))) ≡ pick t (digits s m (v * 10 + (b - 48)) (suc n)) (run v n)) (within 48 10 b)
-    (λ _. counted s m (v * 10 + (b - 48)) (suc n)) (λ _. one-less v n)
-
 module _ (s : List ℕ) (i : ℕ) {w j f : ℕ} (r : Ran s i 0 10 w j f) (l : entryAt s i < 16) where
-  first-low : i < j
-  first-low = by-case (λ t. ltb i j ≡ t → i < j) (ltb i j) (λ _ x. ltb-true i j x)
-      (λ _ x. let y = ltb-false i j x in let b = r .low in let z : j ≡ i = omega arith in let k : f < 16 = rw (r .stands, z) l in let m = r .full k in absurd (omega arith)) refl
-
-  first-there : digits (drop (suc i) s) 9 (entryAt s i) 0 ≡ pick (ltb f 16) long (run w (j - (i + 1)))
-  first-there =
-      let z : j - i - 1 ≡ j - (i + 1) = omega arith in let q : 0 * 10 + entryAt s i ≡ entryAt s i = omega arith in
-      let d : digits (drop (suc i) s) 9 (0 * 10 + entryAt s i) 1 ≡ pick (ltb f 16) long (run w (j - i)) = sym (digits-on s i 10 0 0 l) ∙ ran-is r in
-      sym (counted (drop (suc i) s) 9 (entryAt s i) 0) ∙ ap less (rw q at d)
-      ∙ by-case (λ t. less (pick t long (run w (j - i))) ≡ pick t long (run w (j - (i + 1)))) (ltb f 16) (λ _. refl) (λ _. ap (run w) z)
-
   first-followed : Followed s i j f
   unfolding behind
   first-followed =
-      let m = first-low in let d = r .all (j - 1) (omega arith) (omega arith) in
+      let m = first-low s i r l in let d = r .all (j - 1) (omega arith) (omega arith) in
       record {
-        low = first-low;
+        low = m;
         high = r .high;
         all = λ k a b. r .all k (omega arith) b;
         stands = r .stands;

@@ -73,23 +73,14 @@ fn after_run(c: Cur, w: Way) -> Cur
         };
     }
     let step = apart(before, q);
-    if q < before {
-        return Cur {
-            at,
-            k,
-            q,
-            want,
-            step,
-            form: DIF_MINUS,
-        };
-    }
+    let form = if q < before { DIF_MINUS } else { DIF };
     Cur {
         at,
         k,
         q,
         want,
         step,
-        form: DIF,
+        form,
     }
 }
 
@@ -109,15 +100,12 @@ pub fn differences(s: &[u8], points: usize, out: &mut [i32], c: Cur) -> Cur
         q: c.q,
         end: run_end(past, c.at, points - c.k),
     };
-    loop {
+    while w.at < w.end {
         let at = w.at;
-        if at >= w.end {
-            return after_run(c, w);
+        w = onward(s, out, w);
+        if w.at == at {
+            break;
         }
-        let r = onward(s, out, w);
-        if r.at == at {
-            return after_run(c, r);
-        }
-        w = r;
     }
+    after_run(c, w)
 }

@@ -51,40 +51,48 @@ loop-holds c =
       refl,
     )
 
-after-run-requires : tie.Need-after-run-requires Inv-loop μ-loop
-after-run-requires c κs = search needs
-
-same-length : tie.Need-same-length Inv-loop μ-loop
-same-length c = search needs
-
-returns-2 : tie.Need-returns-2 Inv-loop μ-loop
-returns-2 c = let l = c .before .before .before in rw (c .after-run .ensures) (onward-end (l .loop .w) (start l .pre .1) (l .loop .inv .1))
-
 onward-requires : tie.Need-onward-requires Inv-loop μ-loop
 onward-requires c κs =
-    let e = c .before in let i = e .before .before .loop .inv .0 in let p = i .past in let l = e .if2 .left in
+    let e = c .before in let i = e .before .before .loop .inv .0 in let p = i .past in let l = e .if2 .taken in
     record { safe = i; room = omega arith; some = l }
 
-after-run-requires-2 : tie.Need-after-run-requires-2 Inv-loop μ-loop
-after-run-requires-2 c κs = search needs
+-- back from what stood at the way's place
+abbrev onward-at : tie.After-struct-known3 Inv-loop μ-loop → tie.After-onward Inv-loop μ-loop
+onward-at c = c .before .before
 
-same-length-2 : tie.Need-same-length-2 Inv-loop μ-loop
-same-length-2 c = search needs
+abbrev loop-at : tie.After-onward Inv-loop μ-loop → tie.At-loop Inv-loop μ-loop
+loop-at o = o .before .before .before .before
 
-returns-3 : tie.Need-returns-3 Inv-loop μ-loop
-returns-3 c =
-    let o = c .before .before .before .before in let l = o .before .before .before .before in let p = start l .pre .1 in
-    rw (c .after-run2 .ensures) (onward-end (o .onward .result) p (o .onward .ensures .been _ _ _ p (l .loop .inv .2) (l .loop .inv .1)))
+-- the way that was gone on
+been : (o : tie.After-onward Inv-loop μ-loop) → let l = loop-at o in let a = start l .args in Been (a .points) (a .s .now) (a .c) (o .onward .result) (a .out .now) (o .onward .last .1 .0)
+been o = let l = loop-at o in o .onward .ensures .been _ _ _ (start l .pre .1) (l .loop .inv .2) (l .loop .inv .1)
 
 loop-less : tie.Need-loop-less Inv-loop μ-loop
 loop-less c =
-    let o = c .before .before .before in let l = o .before .before .before .before in let i = l .loop .inv .2 in let f = o .onward .ensures .fewer in
+    let o = onward-at (c .before) in let i = loop-at o .loop .inv .2 in let f = o .onward .ensures .fewer in
     ⊎-elim (λ x. absurd (c .if3 .left x)) (λ x. omega arith) (o .onward .ensures .moves)
 
 loop-again : tie.Need-loop-again Inv-loop μ-loop
 loop-again c =
-    let o = c .before .before .before in let l = o .before .before .before .before in let p = start l .pre .1 in let i = l .loop .inv .2 in let f = o .onward .ensures .fewer in
-    (o .onward .ensures .safe, o .onward .ensures .been _ _ _ p i (l .loop .inv .1), omega arith, search needs)
+    let o = onward-at (c .before) in let i = loop-at o .loop .inv .2 in let f = o .onward .ensures .fewer in (o .onward .ensures .safe, been o, omega arith, search needs)
+
+after-run-requires : tie.Need-after-run-requires Inv-loop μ-loop
+after-run-requires c κs = search needs
+
+-- where the run ends: the way that it has gone, and as many entries as were lent
+ended : (c : tie.Joined2 Inv-loop μ-loop) → let a = start (c .before .before) .args in
+    Been (a .points) (a .s .now) (a .c) (c .if2 .w) (a .out .now) (c .if2 .out) × (length (c .if2 .out) ≡ length (a .out .now))
+ended c =
+    let i = c .before .before .loop .inv in
+    ⊎-elim (λ x. rw (x .1, x .2) (i .1, i .3))
+    (λ x. let o : tie.After-onward Inv-loop μ-loop = record { before = record { before = record { before = c .before; if2 = x .0 }; onward-arg = x .1 }; onward = x .2 } in
+    rw (x .6, x .7) (been o, search needs)) (c .if2 .came)
+
+same-length : tie.Need-same-length Inv-loop μ-loop
+same-length c = ended (c .before) .1
+
+returns-2 : tie.Need-returns-2 Inv-loop μ-loop
+returns-2 c = let j = c .before in rw (c .after-run .ensures) (onward-end (j .if2 .w) (start (j .before .before) .pre .1) (ended j .0))
 
 pub differences-spec : {M : Type 1} → statement M
 differences-spec =
@@ -98,12 +106,9 @@ differences-spec =
     sub-run-end
     run-end-requires
     loop-holds
+    onward-requires
+    loop-less
+    loop-again
     after-run-requires
     same-length
-    returns-2
-    onward-requires
-    after-run-requires-2
-    same-length-2
-    returns-3
-    loop-less
-    loop-again)
+    returns-2)
