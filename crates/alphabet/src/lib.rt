@@ -1,4 +1,4 @@
-// The alphabet of a table (01, "Values"): the entry of what stands at a place, and the one loop that reads digits.
+// The alphabet of a table (01, "Values"): the entry of what stands at a place, and the loops that read digits: under a limit that comes with the call, or under one that the compiler knows.
 ghost use mathlib.Core.Path.{_≡_};
 ghost use Prim.Native.Nat.{_+_, _*_, _^_, _<_, _≤_};
 ghost use lib.ListN.{length};
