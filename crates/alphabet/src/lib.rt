@@ -1,4 +1,6 @@
 // The alphabet of a table (01, "Values"): the entry of what stands at a place, and the loops that read digits: under a limit that comes with the call, or under one that the compiler knows.
+#![tactic(auto)]
+
 ghost use Rattle.std.specs.Prelude.{◌≡◌, ◌+◌, ◌*◌, ◌^◌, ◌<◌, ◌≤◌, length};
 ghost use Rattle.alphabet_spec.specs.Entries.{entry_at};
 ghost use Rattle.alphabet.specs.Ran.{RunEnd, Ran, Few};

@@ -1,5 +1,7 @@
 // The entry of a byte (01, "Values"), by ranges. An entry is 16 times the byte's kind, and its digit. Kinds: 0 digit, 1 DUP,
 // 2 DIF +, 3 DIF -, 4 SQZ +, 5 SQZ -, 6 missing, 7 blank, 8 +, 9 -, 10 point, 11 LF, 12 CR, 13 $, 15 outside the alphabet.
+#![tactic(auto)]
+
 ghost use Rattle.std.specs.Prelude.{◌≡◌};
 ghost use Rattle.alphabet_spec.specs.Entries.{«entry»};
 ghost use Rattle.byte_entry.specs.Ranged.{«either»};

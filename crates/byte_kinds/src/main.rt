@@ -1,4 +1,6 @@
 // The byte table of before T-05, and a comparison of all 256 bytes with it (02, T-05: "The old table stays in the tests and is compared for all 256 bytes").
+#![tactic(auto)]
+
 
 // Standard output.
 const OUTPUT: i32 = 1;

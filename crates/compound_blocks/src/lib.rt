@@ -1,4 +1,6 @@
 // The data blocks of a file that is not refused, in one pass with no stack (02, T-07): a block that holds blocks has said LINK, so at END only the block that the last TITLE opened can be one.
+#![tactic(auto)]
+
 ghost use Rattle.std.specs.Prelude.{◌≡◌, true, false, ◌+◌, ◌*◌, ◌<◌, ◌≤◌, length, drop};
 ghost use Rattle.std.proofs.lemmas.List.Edits.{sets};
 ghost use Rattle.label_spec.specs.Labels.{from};

@@ -1,4 +1,6 @@
 // Finding the data blocks of a file (02, T-07): the survey, then BLOCKS (25, 32), and only then the blocks are stored. A refusal leaves every lent number as it was.
+#![tactic(auto)]
+
 ghost use Rattle.std.specs.Prelude.{◌≡◌, ◌<◌, length};
 ghost use Rattle.label.specs.Answers.{found_in};
 ghost use Rattle.file_marks.specs.Spans.{Within};

@@ -1,4 +1,6 @@
 // "Labels are compared within their own block only" (02, T-07): a scan of the block's labels, which passes over inner blocks.
+#![tactic(auto)]
+
 ghost use Rattle.std.specs.Prelude.{◌≡◌, true, false, ◌+◌, ◌<◌, ◌≤◌, length};
 ghost use Rattle.label_spec.specs.Names.{name_in};
 ghost use Rattle.label_spec.specs.Labels.{from, hashed};

@@ -1,4 +1,6 @@
 // A data block of a file, read where it stands (02, T-07), and a record of it, passed on from `compound_record`. `compound_find::find_blocks` tells its places.
+#![tactic(auto)]
+
 ghost use Rattle.compound_read.specs.Answers.{ReadsBlock};
 
 pub use compound_record::find_in_block;

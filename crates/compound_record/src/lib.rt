@@ -1,4 +1,6 @@
 // A record of a data block of a file (02, T-07). `compound_find::find_blocks` tells its places; `compound_read` passes the function on.
+#![tactic(auto)]
+
 ghost use Rattle.std.specs.Prelude.{◌≡◌, length};
 ghost use Rattle.label_spec.specs.Names.{norm};
 ghost use Rattle.label.specs.Answers.{FindIn};

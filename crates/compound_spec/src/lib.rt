@@ -1,4 +1,6 @@
 // The types that the definition of what a compound file says and its code share (02, T-07).
+#![tactic(auto)]
+
 use file_spec::FileTable;
 use label_spec::Found;
 use terms::{Fault, Refusal};

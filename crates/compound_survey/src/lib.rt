@@ -1,4 +1,6 @@
 // The survey of a file's blocks (02, T-07): its length, TITLE, and the walk over the outermost block.
+#![tactic(auto)]
+
 ghost use Rattle.compound_survey.specs.Told.{Surveys};
 
 use compound_spec::{Block, Surveyed};

@@ -1,4 +1,6 @@
 // The walk over the blocks of a file (02, T-07): 20, 22, 23, 24 and 33, what a block's own labels say, and how many data blocks stand in it.
+#![tactic(auto)]
+
 ghost use Rattle.std.specs.Prelude.{◌≡◌, ◌+◌, ◌<◌, length};
 ghost use Rattle.terms.specs.Logic.{both};
 ghost use Rattle.terms.specs.Refusals.{fault_at};

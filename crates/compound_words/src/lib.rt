@@ -1,4 +1,6 @@
 // What a block's own labels say (02, T-07): whether it is LINK, whether it has a table, and its BLOCKS.
+#![tactic(auto)]
+
 ghost use Rattle.std.specs.Prelude.{◌≡◌, true, ◌-◌, ◌≤◌, length, take, drop};
 ghost use Rattle.terms.specs.Logic.{pick};
 ghost use Rattle.label_spec.specs.Names.{name_in, sames};

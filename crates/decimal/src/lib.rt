@@ -1,4 +1,6 @@
 // The numbers of a file (01, The file, "Numbers"): how one is read.
+#![tactic(auto)]
+
 ghost use Rattle.std.specs.Prelude.{◌≤◌, length};
 ghost use Rattle.decimal.specs.Found.{UnsignedFound, NumberFound};
 

@@ -1,4 +1,6 @@
 // The digits of a number of a file (01, The file, "Numbers"): with at most one point, or digits only.
+#![tactic(auto)]
+
 ghost use Rattle.std.specs.Prelude.{◌≡◌, ◌≤◌, length};
 ghost use Rattle.decimal_spec.specs.Number.{mantissa_of};
 ghost use Rattle.decimal_digits.specs.Found.{MantissaFound, CountFound};

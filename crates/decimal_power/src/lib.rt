@@ -1,4 +1,6 @@
 // The exponent of a number of a file (01, The file, "Numbers").
+#![tactic(auto)]
+
 ghost use Rattle.std.specs.Prelude.{◌≤◌, length};
 ghost use Rattle.decimal_power.specs.Found.{ExponentFound, PowerFound};
 

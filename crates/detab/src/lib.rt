@@ -1,4 +1,6 @@
 // The converter of old tables (02, T-13): in the lent bytes, each tab outside a comment becomes a space, and every other byte stays.
+#![tactic(auto)]
+
 ghost use Rattle.std.specs.Prelude.{◌≡◌, false, drop};
 ghost use Rattle.table_spec.specs.Tabs.{commented, changed, spaced};
 

@@ -1,5 +1,7 @@
 // The program that converts old files (02, T-13): reads a file from standard input and writes it with a space for each tab in its body, or in the body of each data block of a compound file.
 // A file without a body to be found is written as it is, and that is said on standard error. A read that fails or ends early ends the input: what came before it is the file.
+#![tactic(auto)]
+
 use compound_spec::BlocksFound;
 use report::{INPUT, OUTPUT};
 

@@ -1,4 +1,6 @@
 // Figures of records: factors, quotients, sizes with their signs, and whether an ordinate agrees with FIRSTY (01, "The file", "Numbers").
+#![tactic(auto)]
+
 ghost use Rattle.std.specs.Prelude.{◌≡◌, ◌<◌, ◌≤◌, eqb};
 ghost use Rattle.table_spec.specs.Frame.{largest_abscissa, zero_ordinate, ordinate_of};
 ghost use Rattle.table_spec.specs.Values.{signed};

@@ -1,5 +1,7 @@
 // Reading a file (01, "The file"): it is first checked (`file_check`), with nothing to write to, and then its ordinates are stored. So a refusal leaves every lent ordinate as it was.
 // The file is lent and never written to.
+#![tactic(auto)]
+
 ghost use Rattle.std.specs.Prelude.{◌≡◌, ◌-◌, ◌≤◌, length};
 ghost use Rattle.label_spec.specs.File.{longest_file};
 ghost use Rattle.table_spec.specs.Reading.{stored};

@@ -1,4 +1,6 @@
 // Checking the body of a file's table (01, "The file"), in the frame that was found, and FIRSTY, with nothing to write to.
+#![tactic(auto)]
+
 ghost use Rattle.std.specs.Prelude.{◌-◌, ◌≤◌, length};
 ghost use Rattle.label_spec.specs.File.{longest_file};
 ghost use Rattle.file_spec.specs.File.{by_table};

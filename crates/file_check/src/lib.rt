@@ -1,4 +1,6 @@
 // Checking a file (01, "The file"): labels, the seven records, their numbers, the table, and FIRSTY, with nothing to write to; `file` then stores the ordinates.
+#![tactic(auto)]
+
 ghost use Rattle.std.specs.Prelude.{◌-◌, ◌≤◌, length};
 ghost use Rattle.label_spec.specs.File.{longest_file};
 ghost use Rattle.file_spec.specs.Texts.{gathered_from, text_in, listed_in};

@@ -1,4 +1,6 @@
 // The converter of old files (02, T-13): in the lent bytes, each tab in the body of the table, outside comments, becomes a space, and every other byte stays.
+#![tactic(auto)]
+
 ghost use Rattle.std.specs.Prelude.{◌≡◌, length};
 ghost use Rattle.file_gather.specs.Bounds.{AllWithin};
 ghost use Rattle.file_spec.specs.Texts.{text_in, listed_in};

@@ -1,4 +1,6 @@
 // The seven records of a file (01, "The file"): their texts among the labels.
+#![tactic(auto)]
+
 ghost use Rattle.std.specs.Prelude.{◌≡◌, ◌≤◌, ◌<◌, length};
 ghost use Rattle.file_spec.specs.Texts.{text_of, gathered_from};
 ghost use Rattle.label.specs.Answers.{found_in};

@@ -1,4 +1,6 @@
 // What the caller of the file's writer gives (02, T-04): the title (37), and the five decimals (26).
+#![tactic(auto)]
+
 ghost use Rattle.std.specs.Prelude.{◌≡◌, ◌<◌};
 ghost use Rattle.file_spec.specs.Figures.{exceeding};
 ghost use Rattle.figure.specs.Bounds.{GivenIn, FactorIn};

@@ -1,1 +1,3 @@
 // Laws about files that are accepted: no code.
+#![tactic(auto)]
+

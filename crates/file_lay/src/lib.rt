@@ -1,4 +1,6 @@
 // A file that can be written, laid into the lent bytes (02, T-04). Inner functions: what is given was taken by the tests before.
+#![tactic(auto)]
+
 ghost use Rattle.std.specs.Prelude.{◌≡◌, ◌≤◌, length};
 ghost use Rattle.terms.specs.Refusals.{fault_at};
 ghost use Rattle.table_spec.specs.Writing.{fitted};

@@ -1,4 +1,6 @@
 // The records of one line of a written file (02, T-04), into the lent bytes at a place. Past their end nothing is stored, so that a heading can be measured with none lent.
+#![tactic(auto)]
+
 ghost use Rattle.std.specs.Prelude.{[], ◌∷◌, ◌++◌, ◌+◌, ◌^◌, ◌≤◌, ◌<◌, length};
 ghost use Rattle.table_spec.specs.Groups.{plain_text};
 ghost use Rattle.decimal_spec.specs.Number.{bound};

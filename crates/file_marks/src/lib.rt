@@ -1,4 +1,6 @@
 // The text of a record, byte by byte (01, "The file"): where a fault in it stands, and the list of XYDATA.
+#![tactic(auto)]
+
 ghost use Rattle.std.specs.Prelude.{◌≡◌, ◌-◌, ◌≤◌, length, drop};
 ghost use Rattle.file_spec.specs.Texts.{«spacing», text_in, mark_in, mark_of, LIST, ended, listed_in};
 ghost use Rattle.file_marks.specs.Spans.{Within, ListedWithin, list_step};

@@ -1,4 +1,6 @@
 // How long a file is that can be written (02, T-10). An inner function: what is given was taken by the tests before.
+#![tactic(auto)]
+
 ghost use Rattle.std.specs.Prelude.{◌≡◌, ◌≤◌, length};
 ghost use Rattle.table_spec.specs.Writing.{wrote};
 ghost use Rattle.file_lines.specs.Lines.{AllWritable};

@@ -1,4 +1,6 @@
 // Bytes, counts and decimals of a written file (02, T-04), into the lent bytes at a place. Past their end nothing is stored.
+#![tactic(auto)]
+
 ghost use Rattle.std.specs.Prelude.{◌∷◌, ◌+◌, ◌^◌, ◌≤◌, ◌<◌, length};
 ghost use Rattle.table_spec.specs.Groups.{plain_text};
 ghost use Rattle.decimal_spec.specs.Number.{bound};

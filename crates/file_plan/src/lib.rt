@@ -1,4 +1,6 @@
 // What is tested before a file is written (02, T-04), and before its length is told (T-10): the title, the decimals, F and L, the frame and the ordinates. Nothing is written.
+#![tactic(auto)]
+
 ghost use Rattle.file_write_spec.specs.File.{file_exact, write_file};
 ghost use Rattle.figure.specs.Carried.{Carried};
 ghost use Rattle.file_plan.specs.Stages.{Scaled, exact_in, in_frame, from_numbers, Plans, PlansAll};

@@ -1,4 +1,6 @@
 // The numbers of the six records of a file that stand before the table (01, "The file").
+#![tactic(auto)]
+
 ghost use Rattle.std.specs.Prelude.{◌≡◌, length};
 ghost use Rattle.file_spec.specs.Figures.{figures_of};
 ghost use Rattle.figure.specs.Bounds.{Small};

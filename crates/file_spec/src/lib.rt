@@ -1,8 +1,10 @@
 // The types that the definition of what a file says and its code share (01, "The file").
+#![tactic(auto)]
+
 use terms::{Fault, Refusal};
 
 // The text of a record: the part of the file from one place up to another.
-#[derive(Drop)]
+#[derive(Clone, Copy)]
 pub struct Span {
     pub from: usize,
     pub to: usize,
@@ -28,7 +30,7 @@ pub enum Gathered {
 }
 
 // A decimal: a mantissa below 10^9 with its sign, and its power of ten, counted from -200 on.
-#[derive(Drop)]
+#[derive(Clone, Copy)]
 pub struct Decimal {
     pub minus: bool,
     pub mantissa: u64,
@@ -43,7 +45,7 @@ pub enum Given {
 }
 
 // The numbers of the six records before the table.
-#[derive(Drop)]
+#[derive(Clone, Copy)]
 pub struct Numbers {
     pub xfactor: Decimal,
     pub yfactor: Decimal,

@@ -1,4 +1,6 @@
 // What checking a file answers (01, "The file"): its table and where its body stands, or a fault, with its place counted in the file.
+#![tactic(auto)]
+
 ghost use Rattle.std.specs.Prelude.{◌≡◌, ◌+◌, ◌≤◌};
 ghost use Rattle.label_spec.specs.File.{longest_file};
 ghost use Rattle.terms.specs.Refusals.{fault_at};

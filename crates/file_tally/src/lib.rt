@@ -1,4 +1,6 @@
 // The report of a file (02, T-11): it is read as a simple one, and its ordinates are gone over once.
+#![tactic(auto)]
+
 ghost use Rattle.file_tally.specs.Says.{ReportSays};
 
 use file_spec::FileRead;

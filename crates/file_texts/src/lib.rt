@@ -1,4 +1,6 @@
 // The number that the text of a record is (01, "The file").
+#![tactic(auto)]
+
 ghost use Rattle.std.specs.Prelude.{◌≡◌, length};
 ghost use Rattle.file_spec.specs.Texts.{text_in};
 ghost use Rattle.file_spec.specs.Figures.{decimal_in, exceeding, count_in};

@@ -1,4 +1,6 @@
 // Writing a file (02, T-04): title, N, five decimals and ordinates into the lent bytes, or a refusal, which leaves them as they were; and how long the file is (T-10).
+#![tactic(auto)]
+
 ghost use Rattle.std.specs.Prelude.{length};
 ghost use Rattle.file_write_spec.specs.File.{file_exact, write_file};
 ghost use Rattle.file_lay.specs.Answers.{FileTells};

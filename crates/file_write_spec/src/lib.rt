@@ -1,9 +1,11 @@
 // The types that the definition of the written file and its code share (02, T-04).
+#![tactic(auto)]
+
 use file_spec::Exactness;
 use terms::Fault;
 
 // A decimal as the caller gives it: a whole mantissa, and the exponent of ten.
-#[derive(Drop)]
+#[derive(Clone, Copy)]
 pub struct GivenDecimal {
     pub mantissa: i64,
     pub exponent: i64,

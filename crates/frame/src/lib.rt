@@ -1,10 +1,12 @@
 // The frame of a table (01, "The frame of a table"): its limits, the constructor that refuses, and the check of a head.
+#![tactic(auto)]
+
 ghost use Rattle.std.specs.Prelude.{◌≡◌, ◌<◌, ◌≤◌};
 ghost use Rattle.table_spec.specs.Frame.{passes, apart};
 ghost use Rattle.frame.specs.Legal.{framed, lifted, Sound};
 
 // F and L, each plus 10,000,000,000 so that none is negative, and N.
-#[derive(Drop)]
+#[derive(Clone, Copy)]
 pub struct Frame {
     pub first: u64,
     pub last: u64,

@@ -1,5 +1,7 @@
 // The functions that C calls for the data blocks of a compound file (include/lastarunc.h; 02, T-07). Each fills its answer, a struct of 64-bit numbers for C, and returns the first of them,
 // `refused`: 0 for acceptance. Every argument is answered, every number is set, and what is not given is 0.
+#![tactic(auto)]
+
 ghost use Rattle.host_blocks.specs.Answers.{BlocksTold, BlockTold, BlockRecordTold};
 
 use host_read::{tell_block, tell_blocks, tell_record};

@@ -1,4 +1,6 @@
 // The functions that C calls to convert an old table or file in place (include/lastarunc.h; 02, T-13).
+#![tactic(auto)]
+
 ghost use Rattle.host_detab.specs.Answers.{TableConverted, FileConverted};
 
 // Converts the body of an old table in place (02, T-13): a space for each tab outside comments.

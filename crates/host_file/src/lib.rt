@@ -1,5 +1,7 @@
 // The functions that C calls to read a file and to find a record (include/lastarunc.h; 02, T-01). Each fills its answer, a struct of 64-bit numbers for C, and returns the first of them,
 // `refused`: 0 for acceptance. Every argument is answered, every number is set, and what is not given is 0.
+#![tactic(auto)]
+
 ghost use Rattle.host_file.specs.Answers.{FileTold, RecordTold};
 
 use host_read::{tell_file, tell_record};

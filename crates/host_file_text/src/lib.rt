@@ -1,5 +1,7 @@
 // The functions that C calls to write a file and to measure it (include/lastarunc.h; 02, T-04, T-10). Each fills its answer, a struct of 64-bit numbers for C, and returns the first of them,
 // `refused`: 0 for acceptance. Every argument is answered, every number is set, and what is not given is 0.
+#![tactic(auto)]
+
 ghost use Rattle.std.specs.Prelude.{◌≡◌};
 ghost use Rattle.host_file_text.specs.Answers.{scales_of, file_numbers, FileTextTold, FileLengthTold};
 ghost use Rattle.host_numbers.specs.Numbers.{Told};

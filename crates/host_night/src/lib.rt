@@ -1,6 +1,8 @@
 // The function that C calls for the night's report (include/lastarunc.h; 02, T-11): one step of the walk.
 // It fills its answer, a struct of 64-bit numbers for C, and returns the first of them, `refused`.
 // Every argument is answered and every number is set. `progress` is a struct too: six zeros are the start of a walk, and it has the totals so far.
+#![tactic(auto)]
+
 ghost use Rattle.host_night.specs.Told.{StepTold};
 
 use night_numbers::{keep, progress_of, tell_end, tell_file};

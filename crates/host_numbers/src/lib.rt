@@ -1,4 +1,6 @@
 // Numbers with a sign, and truths, as C has them in 64 bits.
+#![tactic(auto)]
+
 ghost use Rattle.std.specs.Prelude.{◌≡◌};
 ghost use Rattle.host_numbers.specs.Numbers.{bits, flag};
 

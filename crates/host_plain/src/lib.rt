@@ -1,4 +1,6 @@
 // The plain engine for C (02, T-14), in an archive of its own: compiled with the first engine, the functions that both call are no longer inlined there, which costs it 7 to 19 in a hundred.
+#![tactic(auto)]
+
 ghost use Rattle.host_table.specs.Answers.{TableTold};
 
 // Reads a table by the plain engine (02, T-14): as `lastarunc_read_table` does, word for word.

@@ -1,5 +1,7 @@
 // The function that C calls to read a profile (include/lastarunc.h; 02, T-09).
 // It fills its answer, a struct of 64-bit numbers for C, and returns the first of them, `refused`: 0 for acceptance. Every number is set, and what is not given is 0.
+#![tactic(auto)]
+
 ghost use Rattle.host_profile.specs.Answers.{ProfileTold};
 
 use host_numbers::{bits_of, flag_of};

@@ -1,4 +1,6 @@
 // What a C host is told of a file, a record and data blocks (02, T-01, T-07): the numbers of its answer, of which the first, `refused`, is returned. C calls `host_file` and `host_blocks`.
+#![tactic(auto)]
+
 ghost use Rattle.host_numbers.specs.Numbers.{Told};
 ghost use Rattle.host_read.specs.Answers.{file_numbers, record_numbers, blocks_numbers, block_numbers};
 

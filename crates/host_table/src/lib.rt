@@ -1,5 +1,7 @@
 // The function that C calls to read a table (include/lastarunc.h; 02, T-01). It stands alone, so that the compiler makes one function of the whole reader.
 // It fills its answer, a struct of 64-bit numbers for C, and returns the first of them, `refused`: 0 for acceptance. Every number is set, and what is not given is 0.
+#![tactic(auto)]
+
 ghost use Rattle.host_numbers.specs.Numbers.{Told};
 ghost use Rattle.host_table.specs.Answers.{table_numbers, TableTold};
 

@@ -1,5 +1,7 @@
 // The functions that C calls to write a table and to measure its text (include/lastarunc.h; 02, T-01, T-02, T-10). Each fills its answer, a struct of 64-bit numbers for C, and returns the
 // first of them, `refused`: 0 for acceptance. Every argument is answered, every number is set, and what is not given is 0.
+#![tactic(auto)]
+
 ghost use Rattle.host_text.specs.Answers.{no_form, FormOf, written_numbers, TextTold, FormTold, TextLengthTold};
 ghost use Rattle.host_numbers.specs.Numbers.{no_flags, Told};
 ghost use Rattle.table_spec.specs.declared.Style.TheVariants.{Difdup};

@@ -1,4 +1,6 @@
 // The program (01, "Bench samples"): reads a file from standard input and prints its table, or why it is refused. A read that fails or ends early ends the input: what came before it is the file.
+#![tactic(auto)]
+
 use file_spec::{FileRead, FileTable};
 use report::{INPUT, OUTPUT};
 use terms::Refusal;

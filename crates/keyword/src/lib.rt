@@ -1,4 +1,6 @@
 // A text against a keyword: byte for byte, blanks, line ends and comments around it dropped (02, T-07 and T-09).
+#![tactic(auto)]
+
 ghost use Rattle.std.specs.Prelude.{◌≡◌, ◌≤◌, length};
 ghost use Rattle.keyword_spec.specs.Keywords.{is_word};
 ghost use Rattle.keyword.specs.Post.{Worded};

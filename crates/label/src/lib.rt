@@ -1,4 +1,6 @@
 // The records of a file (01, The file), found by their names.
+#![tactic(auto)]
+
 ghost use Rattle.std.specs.Prelude.{◌≡◌, true, false, ◌+◌, ◌-◌, ◌<◌, ◌≤◌, length, take, drop};
 ghost use Rattle.label_spec.specs.Names.{norm};
 ghost use Rattle.label_spec.specs.Labels.{from, hashed};

@@ -1,4 +1,6 @@
 // The next label of a file by itself (01, The file), before it is compared with those before it, and whether two labels have one name.
+#![tactic(auto)]
+
 ghost use Rattle.std.specs.Prelude.{◌≡◌, ◌<◌, ◌≤◌, length};
 ghost use Rattle.label_spec.specs.Names.{name_in};
 ghost use Rattle.terms.specs.Refusals.{fault_at};

@@ -1,1 +1,3 @@
 // No code: what is proved of the definitions of label_spec.
+#![tactic(auto)]
+

@@ -1,4 +1,6 @@
 // Labels: `##` first on a line (blanks aside), a name, then that line's first `=` (01, The file).
+#![tactic(auto)]
+
 ghost use Rattle.std.specs.Prelude.{◌≡◌, true, false, ◌+◌, ◌<◌, ◌≤◌, length};
 ghost use Rattle.label_spec.specs.Names.{blank};
 ghost use Rattle.label_spec.specs.Labels.{hashed};

@@ -1,4 +1,6 @@
 // Names of labels: they compare in upper case without blanks, `-`, `/`, `_` (01, The file).
+#![tactic(auto)]
+
 ghost use Rattle.std.specs.Prelude.{◌≡◌, ◌<◌, ◌≤◌, length};
 ghost use Rattle.label_spec.specs.Names.{ignored, upper, norm, name_in, sames, TITLE, END};
 ghost use Rattle.label_names.specs.Post.{Kept, empty, first_of, unlike};

@@ -1,4 +1,6 @@
 // Records of a text that begins with a `##`, or that is a page: a run of records without TITLE or END (02, T-07 and T-09).
+#![tactic(auto)]
+
 ghost use Rattle.std.specs.Prelude.{◌≡◌, true, ◌<◌, length};
 ghost use Rattle.label_spec.specs.Names.{norm};
 ghost use Rattle.label_spec.specs.Labels.{hashed};

@@ -1,4 +1,6 @@
 // Bytes that are passed over before TITLE and around numbers (01, The file).
+#![tactic(auto)]
+
 ghost use Rattle.std.specs.Prelude.{◌≡◌, ◌+◌, ◌<◌, ◌≤◌, length, get_or};
 ghost use Rattle.label_spec.specs.Space.{space, opens};
 ghost use Rattle.label_space.specs.Passed.{Passed};

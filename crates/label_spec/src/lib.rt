@@ -1,4 +1,6 @@
 // What is found in a file. Definitions and code share these types (01, The file).
+#![tactic(auto)]
+
 use terms::{Fault, Refusal};
 
 // Where a byte that was looked for stands.

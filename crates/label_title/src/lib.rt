@@ -1,4 +1,6 @@
 // TITLE first (01, The file): only blank or comment lines precede it.
+#![tactic(auto)]
+
 ghost use Rattle.std.specs.Prelude.{◌≡◌, true};
 ghost use Rattle.label_spec.specs.Labels.{hashed};
 ghost use Rattle.terms.specs.Refusals.{fault_at};

@@ -1,4 +1,6 @@
 // The labels of a file (01, The file): TITLE first, then one walk up to END.
+#![tactic(auto)]
+
 ghost use Rattle.std.specs.Prelude.{◌≡◌, false, [], ◌≤◌, length};
 ghost use Rattle.label_spec.specs.Labels.{from};
 ghost use Rattle.terms.specs.Refusals.{fault_at};

@@ -1,4 +1,6 @@
 // The whole number nearest to a quotient (01, The file), held to a limit, and whether it is exact (02, T-08). Inner functions: the divisor is above 0 and the numbers fit.
+#![tactic(auto)]
+
 ghost use Rattle.std.specs.Prelude.{◌≡◌, ◌<◌, ◌≤◌};
 ghost use Rattle.decimal_spec.specs.Quotient.{Nearest, IsQuotient, zero_quotient, beyond_quotient};
 

@@ -1,6 +1,8 @@
 // The program of the night's report (02, T-11): a spool on standard input; on standard output a line for each file, then the totals, then how the spool ended.
 // What the fault of a refused file means goes to standard error.
 // A read that fails or ends early ends the input: what came before it is the spool.
+#![tactic(auto)]
+
 use night_print::{print_file, print_stopped, print_whole};
 use night_spec::Reported;
 use report::INPUT;

@@ -1,4 +1,6 @@
 // The numbers of a walk over a spool and of a report, as C has them (include/lastarunc.h; 02, T-11).
+#![tactic(auto)]
+
 ghost use Rattle.std.specs.Prelude.{◌≡◌};
 ghost use Rattle.night_numbers.specs.Numbers.{number_of, level_bits, progress_of, numbers_of, end_answer, account_answer, file_answer};
 ghost use Rattle.host_numbers.specs.Numbers.{refused_of};

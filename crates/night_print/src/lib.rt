@@ -1,4 +1,6 @@
 // What the program of the night's report prints (02, T-11): a line for each file, the totals, and how the spool ended. What is printed is tested against stored output; nothing is claimed of it.
+#![tactic(auto)]
+
 use night_spec::{Account, FileReport, Level, Progress, Totals};
 use report::OUTPUT;
 use terms::{Fault, Refusal};

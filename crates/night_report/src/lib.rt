@@ -1,5 +1,7 @@
 // The night's report (02, T-11): a spool is walked file by file, each file is read as a simple one and reported, and the totals go over the accepted ones.
 // The spool is lent and never written to; the lent ordinates are working room, and hold afterwards what the accepted files left there, one after the other.
+#![tactic(auto)]
+
 ghost use Rattle.night_report.specs.Says.{NightSays};
 
 use file_tally::report_file;

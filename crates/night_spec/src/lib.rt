@@ -1,4 +1,6 @@
 // The types that the definition of the night's report and its code share (02, T-11).
+#![tactic(auto)]
+
 use terms::{Fault, Refusal};
 
 // What stands at a place of a spool: a file, from one place up to another; no byte more; or why the spool is refused. A spool is no text, so its refusal has no line and no column.

@@ -1,4 +1,6 @@
 // The night's report step by step (02, T-11), with the totals so far: each step reads one file of the spool, which is lent and never written to; the lent ordinates are working room.
+#![tactic(auto)]
+
 ghost use Rattle.night_step.specs.Says.{NextSays};
 
 use file_tally::report_file;

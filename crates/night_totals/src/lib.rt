@@ -1,4 +1,6 @@
 // The totals of a night's report (02, T-11): one file more, the start of a walk, and whether a walk can have come so far. No file is read here.
+#![tactic(auto)]
+
 ghost use Rattle.std.specs.Prelude.{◌≡◌, ◌≤◌, nat_abs};
 ghost use Rattle.night_spec.specs.Night.{with_file, with_report};
 ghost use Rattle.night_spec.specs.Steps.{no_progress, totals_legal, walk_legal};

@@ -1,4 +1,6 @@
 // What the report of a file says of its ordinates (02, T-11). An ordinate y stands as y + 2^31, a missing one as 0, so that every sum is a number from 0 on.
+#![tactic(auto)]
+
 ghost use Rattle.std.specs.Prelude.{◌≡◌, map, ◌*◌, ◌<◌, ◌≤◌, length, take};
 ghost use Rattle.std.proofs.Math.IntN.{sub_ℕ};
 ghost use Rattle.table_spec.specs.Frame.{ordinate_of};

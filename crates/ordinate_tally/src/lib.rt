@@ -1,4 +1,6 @@
 // What ordinates come to (02, T-11), gone over once. An ordinate y stands as y + 2^31, a missing one as 0, so that every sum is a number from 0 on.
+#![tactic(auto)]
+
 ghost use Rattle.std.specs.Prelude.{◌≡◌, map, ◌<◌, ◌≤◌, length, take};
 ghost use Rattle.table_spec.specs.Frame.{ordinate_of};
 ghost use Rattle.ordinate_tally.specs.Tally.{less_of, great_of, faint_of, with_ordinate, Tallied};

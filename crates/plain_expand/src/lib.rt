@@ -1,4 +1,6 @@
 // A line of the plain engine is expanded (02, T-14): what stands next on it, and the rest of a row, into the part of the lent slice where it will lie.
+#![tactic(auto)]
+
 ghost use Rattle.std.specs.Prelude.{◌<◌, ◌≤◌, length};
 ghost use Rattle.plain_values.specs.Means.{form_of, Right};
 ghost use Rattle.plain_expand.specs.Grows.{NextSays, Stands, Expands};

@@ -1,5 +1,7 @@
 // THE PLAIN ENGINE (02, T-14), to teach from: a line is expanded to a row of ordinates (plain_rows), the row is checked, and the rows are laid one after another. The body is gone over twice: first to
 // check all rows, then to lay them, so that a refusal leaves every lent ordinate as it was.
+#![tactic(auto)]
+
 ghost use Rattle.std.specs.Prelude.{◌≡◌};
 ghost use Rattle.frame.specs.Legal.{Sound};
 ghost use Rattle.table_spec.specs.Reading.{read_lines, read, stored};

@@ -1,5 +1,7 @@
 // A line of the plain engine (02, T-14): it is expanded to its row, the row is checked, and its points are laid. No row is kept: a check asks only for its first ordinate, its last one, its count, its
 // form and its first fault, so a row is expanded into the part of the lent slice where it will lie.
+#![tactic(auto)]
+
 ghost use Rattle.std.specs.Prelude.{◌≡◌, true, false};
 ghost use Rattle.frame.specs.Legal.{Sound};
 ghost use Rattle.table_lines.specs.Ends.{LineOpens};
@@ -15,7 +17,7 @@ use table_pass::index_of;
 use table_values::{LineRead, Row};
 
 // The front of a row: the place of its head, and whether the head passes; what its first value stands for, its place and the place after it.
-#[derive(Drop)]
+#[derive(Clone, Copy)]
 pub struct Front {
     pub at: usize,
     pub passes: bool,

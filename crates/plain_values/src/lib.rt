@@ -1,4 +1,6 @@
 // What a value stands for (01, "Meaning"), for the plain engine (02, T-14): no byte and no slice is named here. An ordinate is y + 2^31, and 0 a missing one.
+#![tactic(auto)]
+
 ghost use Rattle.std.specs.Prelude.{◌≡◌, false, ◌⊎◌, ◌+◌, ◌<◌, ◌≤◌};
 ghost use Rattle.table_spec.specs.Values.{own, by, times, By, is_dif};
 ghost use Rattle.table_numbers.specs.Numbers.{value_at, below};
@@ -9,7 +11,7 @@ use signed::ZERO_ORDINATE;
 use table_ordinates::{moved_by, shifted};
 
 // The form of the value before (01, "A DUP has the form of what it repeats"): an ordinate of its own; a missing one; a difference, minus or not, and its size; or a DUP, of a difference or not.
-#[derive(Drop)]
+#[derive(Clone, Copy)]
 pub enum Form {
     Own,
     Missing,
@@ -18,7 +20,7 @@ pub enum Form {
 }
 
 // The ordinates that a value stands for: n of them, each a difference from the one before, the first from q; the last one, and the form.
-#[derive(Drop)]
+#[derive(Clone, Copy)]
 pub struct Points {
     pub q: u64,
     pub minus: bool,

@@ -1,5 +1,7 @@
 // Reading a file of the ion mobility profile, with the site's page lent beside it (02, T-09; document 001). It is first checked, with nothing lent written to, and then its ordinates and the
 // numbers that show its fifteen texts are stored. So a refusal leaves both as they were.
+#![tactic(auto)]
+
 ghost use Rattle.std.specs.Prelude.{◌≡◌, length};
 ghost use Rattle.profile.specs.Answers.{ProfileSays};
 

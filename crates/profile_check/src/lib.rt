@@ -1,4 +1,6 @@
 // Checking a file of the ion mobility profile, with the site's page lent beside it, with nothing to store its ordinates in (02, T-09; document 001).
+#![tactic(auto)]
+
 ghost use Rattle.std.specs.Prelude.{◌≡◌, length};
 ghost use Rattle.profile_check.specs.Post.{Checks};
 

@@ -1,4 +1,6 @@
 // Where the texts of the fifteen records of the ion mobility profile stand: in the file, or else on the site's page lent beside it (02, T-09; document 001).
+#![tactic(auto)]
+
 ghost use Rattle.std.specs.Prelude.{◌≡◌, ◌<◌, ◌≤◌, length};
 ghost use Rattle.label_spec.specs.Names.{norm};
 ghost use Rattle.profile_spec.specs.declared.Located.{Located};

@@ -1,4 +1,6 @@
 // The fifteen records of a file of the ion mobility profile whose table was checked (02, T-09; document 001): 30 and 31.
+#![tactic(auto)]
+
 ghost use Rattle.std.specs.Prelude.{◌≡◌, ◌≤◌, length};
 ghost use Rattle.terms.specs.Refusals.{fault_at};
 ghost use Rattle.profile_judged.specs.declared.Checked.{Checked};

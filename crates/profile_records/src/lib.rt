@@ -1,4 +1,6 @@
 // What the fifteen records of the ion mobility profile say, and the numbers that show where their texts stand (02, T-09; document 001).
+#![tactic(auto)]
+
 ghost use Rattle.std.specs.Prelude.{◌≡◌, [], ◌+◌, ◌≤◌, length};
 ghost use Rattle.std.proofs.lemmas.List.Edits.{sets};
 ghost use Rattle.terms.specs.Logic.{pick};

@@ -1,4 +1,6 @@
 // The types that the definition of the ion mobility profile and its code share (02, T-09).
+#![tactic(auto)]
+
 use file_spec::FileTable;
 use terms::Refusal;
 

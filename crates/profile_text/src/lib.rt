@@ -1,4 +1,6 @@
 // The text of a record, from the file if it has one, otherwise from the site's page lent beside it (02, T-09).
+#![tactic(auto)]
+
 ghost use Rattle.std.specs.Prelude.{◌≡◌, ◌-◌, ◌≤◌, length, take, drop};
 ghost use Rattle.label_spec.specs.Names.{norm};
 ghost use Rattle.label_spec.specs.Records.{record_for};

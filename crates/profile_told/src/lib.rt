@@ -1,4 +1,6 @@
 // What a reader of the ion mobility profile is told (02, T-09): the refusal, on the page or in the file, and the numbers that show its texts.
+#![tactic(auto)]
+
 ghost use Rattle.std.specs.Prelude.{◌≡◌};
 ghost use Rattle.std.proofs.lemmas.List.Edits.{sets};
 ghost use Rattle.profile_spec.specs.Profile.{refuse_profile, told_profile};

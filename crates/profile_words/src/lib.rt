@@ -1,4 +1,6 @@
 // The words that are listed for the records of the ion mobility profile: fixed byte strings, compared with the texts of a file or of a page (02, T-09; document 001).
+#![tactic(auto)]
+
 ghost use Rattle.std.specs.Prelude.{◌≡◌};
 ghost use Rattle.profile_spec.specs.Wanted.{kth, polarities, modes, xunits, yunits};
 ghost use Rattle.profile_spec.specs.Profile.{any_word, listed};

@@ -1,5 +1,7 @@
 // The rounded quotient of two decimals (01, The file: "from a table of powers of ten"), for F, L and FIRSTY, and whether it is exact (02, T-08).
 // An inner function: mantissas are below 10^9, and the divisor is above 0.
+#![tactic(auto)]
+
 ghost use Rattle.std.specs.Prelude.{◌≡◌, ◌-◌, ◌*◌, ◌<◌, ◌^◌};
 ghost use Rattle.decimal_spec.specs.Number.{bound};
 ghost use Rattle.decimal_spec.specs.Quotient.{quotient_of};

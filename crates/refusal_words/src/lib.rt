@@ -1,4 +1,6 @@
 // What refusals mean, in words, on standard error. What is printed is tested against stored output; nothing is claimed of it.
+#![tactic(auto)]
+
 
 // Standard error.
 pub const ERRORS: i32 = 2;

@@ -1,6 +1,8 @@
 // Runs the samples of samples/ and the stored cases of the second reader (second/README.md, "The stored cases"): tables
 // to read, tables to write and read back, and files to read. Standard input has the cases, the file stdout their
 // answers.
+#![tactic(auto)]
+
 use replay_file_writes::file_write_case;
 use replay_input::{next_asked, next_number};
 use replay_reads::{body_case, file_case, old_body_case, old_file_case};

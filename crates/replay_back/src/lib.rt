@@ -1,4 +1,6 @@
 // Whether a table that `replay` wrote reads back (second/README.md, "The stored cases").
+#![tactic(auto)]
+
 use replay_input::Asked;
 use replay_show::FILL;
 use terms::TableRead;

@@ -1,4 +1,6 @@
 // A file that `replay` wrote: whether it reads back, and itself (second/README.md, "The stored cases").
+#![tactic(auto)]
+
 use file_spec::{Exactness, FileRead, FileTable};
 use file_write_spec::FileLength;
 use replay_back::{WRITTEN, same};

@@ -1,4 +1,6 @@
 // The cases of `replay` that are files to write, and to read back (second/README.md, "The stored cases").
+#![tactic(auto)]
+
 use file_write_spec::{FileWritten, Scales};
 use replay_back::{TEXT, WRITTEN};
 use replay_file_back::show_file_text;

@@ -1,4 +1,6 @@
 // The input of `replay`: numbers, ordinates and bytes, and what stands before each case (second/README.md, "The stored cases").
+#![tactic(auto)]
+
 use file_write_spec::{GivenDecimal, Scales};
 
 // What stands before each case: F, L and N, the room that is lent, and how many bytes or ordinates follow.

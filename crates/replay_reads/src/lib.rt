@@ -1,4 +1,6 @@
 // The cases of `replay` that are read: tables and files, and old ones, which are converted first (second/README.md, "The stored cases").
+#![tactic(auto)]
+
 use file_spec::FileRead;
 use replay_input::{Asked, take_bytes};
 use replay_show::{FILL, READ, show_file, show_read};

@@ -1,4 +1,6 @@
 // What `replay` prints of the answers of readers, and whether lent memory was touched: it is filled first, and a line `touched` tells that an entry past the answer was altered.
+#![tactic(auto)]
+
 use file_spec::{FileRead, FileTable};
 use terms::{Refusal, TableRead};
 

@@ -1,4 +1,6 @@
 // The cases of `replay` that are tables to write, and to read back (second/README.md, "The stored cases").
+#![tactic(auto)]
+
 use replay_back::{TEXT, WRITTEN, reads_back};
 use replay_input::{Asked, take_ordinates};
 use replay_show::show_touched_text;

@@ -1,4 +1,6 @@
 // What the programs print (01, "Bench samples"): ordinates, abscissas and refusals. What is printed is tested against stored output; nothing is claimed of it.
+#![tactic(auto)]
+
 use refusal_words::{ERRORS, explain_number, say};
 use signed::ZERO_ORDINATE;
 use terms::Refusal;

@@ -1,4 +1,6 @@
 // Ordinates between the lent slice and the code (01, "The frame of a table"): an entry y of the slice is the ordinate y + 2^31, and -2,147,483,648, the mark of a missing one, is 0.
+#![tactic(auto)]
+
 ghost use Rattle.std.specs.Prelude.{◌≡◌, map, ◌<◌, length, get_or};
 ghost use Rattle.table_spec.specs.Frame.{ordinate_of, entry_for};
 

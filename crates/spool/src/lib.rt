@@ -1,4 +1,6 @@
 // The walker over a spool (02, T-11), which holds the spool and how far it has come. The spool is lent and never written to.
+#![tactic(auto)]
+
 ghost use Rattle.std.specs.Prelude.{◌≡◌};
 ghost use Rattle.night_spec.specs.Spool.{record_at};
 

@@ -1,4 +1,6 @@
 // What stands at a place of a spool (02, T-11). The spool is lent and never written to.
+#![tactic(auto)]
+
 ghost use Rattle.std.specs.Prelude.{◌≡◌, ◌+◌, ◌<◌, ◌≤◌, length};
 ghost use Rattle.night_spec.specs.Spool.{record_at, length_at, refused_at};
 

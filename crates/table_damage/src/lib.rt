@@ -1,1 +1,3 @@
 // No code: a damaged line is caught (02, T-12).
+#![tactic(auto)]
+

@@ -1,4 +1,6 @@
 // The tests before a table is written (01, "The written text"): its frame, and an ordinate for each of its points.
+#![tactic(auto)]
+
 ghost use Rattle.table_given.specs.Checks.{Checks};
 
 use frame::{Frame, Framed};

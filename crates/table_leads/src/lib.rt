@@ -1,4 +1,6 @@
 // An ordinate of its own at a place (01, "Values": AFFN, PAC and SQZ): with what it begins, its number and its sign.
+#![tactic(auto)]
+
 ghost use Rattle.std.specs.Prelude.{◌≡◌, true, ◌+◌, ◌<◌, ◌≤◌, length};
 ghost use Rattle.alphabet_spec.specs.Digits.{within};
 ghost use Rattle.alphabet.specs.Standing.{«standing»};

@@ -1,5 +1,7 @@
 // The length of the lines of a body (02, T-06, "Eighty bytes is the rule"). From a line's first byte the end is looked for at the back of the 80 bytes that it may have: CR LF after them,
 // or else the last LF among 81. What lies before it belongs to lines that are short enough, so that most bytes of a body are not looked at.
+#![tactic(auto)]
+
 ghost use Rattle.std.specs.Prelude.{◌≡◌, true, ◌+◌, ◌<◌, length};
 ghost use Rattle.table_spec.specs.Frame.{longest_line};
 ghost use Rattle.table_spec.specs.Reading.{long_line};

@@ -1,4 +1,6 @@
 // Lines of a body (01, "Spelling of a body"): blanks, comments, ends of lines, the start of the next line, and heads.
+#![tactic(auto)]
+
 ghost use Rattle.std.specs.Prelude.{◌≡◌, ◌<◌, ◌≤◌, length};
 ghost use Rattle.alphabet_spec.specs.Entries.{entry_at};
 ghost use Rattle.alphabet.specs.Standing.{«standing»};

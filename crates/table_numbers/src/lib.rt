@@ -1,4 +1,6 @@
 // The numbers of values (01, "Values"): a pseudo-digit, a sign, or a digit directly after a blank, and the digits that follow.
+#![tactic(auto)]
+
 ghost use Rattle.std.specs.Prelude.{◌≡◌, ◌⊎◌, ◌<◌, ◌≤◌, length};
 ghost use Rattle.alphabet_spec.specs.Entries.{entry_at};
 ghost use Rattle.table_numbers.specs.Numbers.{«most», Plain, Numbered};

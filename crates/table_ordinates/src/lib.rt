@@ -1,4 +1,6 @@
 // Ordinates that move by differences, and are stored in the lent slice (01, "Meaning"). An ordinate is y + 2^31, and 0 a missing one.
+#![tactic(auto)]
+
 ghost use Rattle.std.specs.Prelude.{◌≡◌, map, ◌+◌, ◌<◌, ◌≤◌, set};
 ghost use Rattle.std.proofs.lemmas.List.Edits.{sets};
 ghost use Rattle.table_spec.specs.Frame.{entry_for};

@@ -1,4 +1,6 @@
 // Runs of ordinates of their own (01, "Values": AFFN, PAC and SQZ), by a loop that asks for nothing else and leaves the rest to the values of a line.
+#![tactic(auto)]
+
 ghost use Rattle.std.specs.Prelude.{◌≡◌};
 ghost use Rattle.table_value.specs.States.{Sits, Went};
 ghost use Rattle.table_owns.specs.Ways.{reached};

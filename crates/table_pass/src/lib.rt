@@ -1,4 +1,6 @@
 // One pass over a body, line after line (01, "Spelling of a body", "Checks"): it answers, and stores each ordinate that there is room for.
+#![tactic(auto)]
+
 ghost use Rattle.std.specs.Prelude.{◌≡◌};
 ghost use Rattle.frame.specs.Legal.{Sound};
 ghost use Rattle.table_lines.specs.Ends.{LineOpens};

@@ -1,5 +1,7 @@
 // Reading a table (01, "Spelling of a body", "Refusal numbers"). The body is gone over twice by one pass: first to answer, with room for the first ordinate only, then to store. So a
 // refusal leaves every lent ordinate as it was.
+#![tactic(auto)]
+
 ghost use Rattle.std.specs.Prelude.{◌≡◌, ◌<◌, length};
 ghost use Rattle.frame.specs.Legal.{Sound};
 ghost use Rattle.table_spec.specs.Reading.{read_lines, read, read_table, stored};

@@ -1,4 +1,6 @@
 // Runs of short differences, and of DUPs of them (01, "Values", "Meaning"): what most of a table is, by a loop that asks for nothing else and leaves the rest to the values of a line.
+#![tactic(auto)]
+
 ghost use Rattle.std.specs.Prelude.{◌≡◌, ◌+◌, ◌≤◌, length};
 ghost use Rattle.table_steps.specs.Ways.{reached};
 ghost use Rattle.table_runs.specs.Roomy.{Roomy};

@@ -1,4 +1,6 @@
 // A short value at a place (01, "Values"): a difference, or a DUP, of at most four digits, where five bytes stand.
+#![tactic(auto)]
+
 ghost use Rattle.std.specs.Prelude.{◌≡◌, ◌+◌, ◌≤◌, length};
 ghost use Rattle.alphabet.specs.Standing.{«standing»};
 ghost use Rattle.table_shorts.specs.Short.{Short, Counted};

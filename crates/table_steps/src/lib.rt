@@ -1,4 +1,6 @@
 // A step of a run (01, "Meaning"): past one short difference, or past the DUP of the last one.
+#![tactic(auto)]
+
 ghost use Rattle.std.specs.Prelude.{◌≡◌};
 ghost use Rattle.alphabet.specs.Standing.{«standing»};
 ghost use Rattle.table_steps.specs.Ways.{apart, Fare, Onward};

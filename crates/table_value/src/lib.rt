@@ -1,4 +1,6 @@
 // One value of a line (01, "Values", "Meaning"): what it does to the state within the line, which goes in and comes back by value.
+#![tactic(auto)]
+
 ghost use Rattle.std.specs.Prelude.{◌≡◌, ◌<◌, ◌≤◌, leb};
 ghost use Rattle.alphabet_spec.specs.Entries.{entry_at};
 ghost use Rattle.table_spec.specs.Values.{own, by, times};
@@ -12,7 +14,7 @@ use table_ordinates::{moved_by, put, repeat, shifted};
 // Within a line: the place; how many points; the ordinate before (0: none on this line, or missing); the ordinate that a check line's first value must equal (0: not
 // asked); the size of the last difference; and the form of the value before: 0 none, or a DUP that is not DIF; 1 a DUP that is; 2 a value of its own; from DIF on a
 // difference, and from DIF_MINUS on one that is minus.
-#[derive(Drop)]
+#[derive(Clone, Copy)]
 pub struct Cur {
     pub at: usize,
     pub k: usize,

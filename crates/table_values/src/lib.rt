@@ -1,4 +1,6 @@
 // The values of a line (01, "Values", "Meaning"), one after the other. The state goes in and comes back by value.
+#![tactic(auto)]
+
 ghost use Rattle.std.specs.Prelude.{◌≡◌, ◌≤◌, length};
 ghost use Rattle.table_lines.specs.Ends.{Blanked};
 ghost use Rattle.table_values.specs.Lines.{dif_form, placed, row_after, FirstValue, Lined};

@@ -1,4 +1,6 @@
 // Writing a table in one of the four forms (01, "The written text"; 02, T-02).
+#![tactic(auto)]
+
 ghost use Rattle.std.specs.Prelude.{◌≤◌, length};
 ghost use Rattle.table_spec.specs.declared.Style.TheVariants.{Difdup};
 ghost use Rattle.frame.specs.Legal.{Sound};

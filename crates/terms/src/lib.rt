@@ -1,4 +1,6 @@
 // The types that definitions and code share (01, "Refusal numbers"; 02, T-01), and the one place where a fault is made.
+#![tactic(auto)]
+
 ghost use Rattle.std.specs.Prelude.{◌≡◌};
 ghost use Rattle.terms.specs.Refusals.{fault_at};
 

@@ -1,4 +1,6 @@
 // What the readers share: a text is lent bytes, and past its end nothing stands (01, "The file"); and the line and column of a place in it (02, T-01).
+#![tactic(auto)]
+
 ghost use Rattle.std.specs.Prelude.{◌≡◌, suc, ◌<◌, eqb, length, get_or};
 ghost use Rattle.terms.specs.Logic.{pick};
 ghost use Rattle.terms.specs.Refusals.{refusal_in};

@@ -1,4 +1,6 @@
 // Differences that stand alone, as most points of most tables do, in one short loop over a line (01, "The written text"), without a jump on a sign or on how many digits there are. Inner functions.
+#![tactic(auto)]
+
 ghost use Rattle.std.specs.Prelude.{◌≡◌, true, ◌+◌, ◌-◌, ◌*◌, ◌^◌, ◌≤◌, ◌<◌, length, get_or};
 ghost use Rattle.std.proofs.lemmas.List.Edits.{sets};
 ghost use Rattle.table_spec.specs.Frame.{apart};

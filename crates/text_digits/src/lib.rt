@@ -1,4 +1,6 @@
 // The digits of values in full (02, T-02), counted by a number's bits and, where all their bytes are lent, stored two at a time. Inner functions.
+#![tactic(auto)]
+
 ghost use Rattle.std.specs.Prelude.{◌≡◌, ◌+◌, ◌/◌, ◌%◌, ◌≤◌, ◌<◌, eqb, length};
 ghost use Rattle.terms.specs.Logic.{pick};
 ghost use Rattle.table_text.specs.Digits.{further, Digits};

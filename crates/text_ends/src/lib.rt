@@ -1,4 +1,6 @@
 // The start and the end of a text (01, "The written text"), with its last check line. Inner functions: the frame is a sound one, and places are far from the largest number.
+#![tactic(auto)]
+
 ghost use Rattle.std.specs.Prelude.{◌≡◌, false, ◌∷◌, ◌^◌, ◌≤◌, ◌<◌};
 ghost use Rattle.table_spec.specs.declared.Style.TheVariants.{Difdup};
 ghost use Rattle.table_spec.specs.Writing.{close};

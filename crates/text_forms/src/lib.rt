@@ -1,4 +1,6 @@
 // The text in one of the four forms (01, "The written text"; 02, T-02), its length, and whether it fits. Inner functions: the frame is a sound one, with an ordinate for each point.
+#![tactic(auto)]
+
 ghost use Rattle.std.specs.Prelude.{◌≡◌, ◌≤◌, leb, length};
 ghost use Rattle.table_spec.specs.declared.Style.TheVariants.{Difdup};
 ghost use Rattle.table_spec.specs.Groups.{in_full};

@@ -1,4 +1,6 @@
 // Groups of equal tokens, found and stored (01, "The written text"). Inner functions: an index within the ordinates, places far from the largest number.
+#![tactic(auto)]
+
 ghost use Rattle.std.specs.Prelude.{◌≡◌, ◌++◌, ◌+◌, ◌^◌, ◌≤◌, ◌<◌, length, drop};
 ghost use Rattle.std.proofs.lemmas.List.Edits.{sets};
 ghost use Rattle.alphabet_spec.specs.Kinds.{dup};

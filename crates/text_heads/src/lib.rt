@@ -1,4 +1,6 @@
 // Heads into the lent bytes, and how many bytes they have (01, "The written text"). Inner functions: the frame is a sound one, and places are far from the largest number.
+#![tactic(auto)]
+
 ghost use Rattle.std.specs.Prelude.{◌≡◌, ◌+◌, ◌^◌, ◌≤◌, ◌<◌, length};
 ghost use Rattle.table_spec.specs.Numerals.{magnitude};
 ghost use Rattle.frame.specs.Legal.{Sound};

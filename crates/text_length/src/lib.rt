@@ -1,4 +1,6 @@
 // The length of a written text, without writing it: groups that are only counted. Inner functions: the frame is a sound one, and the ordinates are its points.
+#![tactic(auto)]
+
 ghost use Rattle.std.specs.Prelude.{◌≡◌, true, ◌+◌, ◌^◌, ◌≤◌, ◌<◌, length};
 ghost use Rattle.table_spec.specs.declared.Style.TheVariants.{Difdup};
 ghost use Rattle.table_spec.specs.Writing.{lines_of};

@@ -1,4 +1,6 @@
 // Groups on lines (01, "The written text"): the lines of a written text, one group after the other. Inner functions: the frame is a sound one, and places are far from the largest number.
+#![tactic(auto)]
+
 ghost use Rattle.std.specs.Prelude.{◌+◌, ◌^◌, ◌≤◌, ◌<◌, length};
 ghost use Rattle.table_text.specs.Pieces.{head_of, ordinates};
 ghost use Rattle.text_tokens.specs.Tokens.{Found};

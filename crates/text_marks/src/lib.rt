@@ -1,4 +1,6 @@
 // How a form marks the values that it writes in full, and how many bytes a value has (02, T-02). Inner functions: the lent table is the definition's, an ordinate has 32 bits.
+#![tactic(auto)]
+
 ghost use Rattle.std.specs.Prelude.{◌≡◌, ◌≤◌, ◌<◌, length};
 ghost use Rattle.terms.specs.Logic.{pick};
 ghost use Rattle.text_digits.specs.Counts.{counts};
@@ -10,7 +12,7 @@ use table_text::digits::{DIGIT, SQZ, SQZ_MINUS};
 use text_digits::digits_in;
 
 // How a form writes its values: is there a space before a missing one, before one that is not negative, before one that is; has the last a minus; and to what their first digits are added.
-#[derive(Drop)]
+#[derive(Clone, Copy)]
 pub struct Marks {
     pub gap: bool,
     pub up: bool,

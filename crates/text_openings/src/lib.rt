@@ -1,4 +1,6 @@
 // How a line begins (01, "The written text"): a head, or a check line's head and value. Inner functions: the frame is a sound one, and places are far from the largest number.
+#![tactic(auto)]
+
 ghost use Rattle.std.specs.Prelude.{true, false, ◌+◌, ◌^◌, ◌≤◌, ◌<◌};
 ghost use Rattle.table_spec.specs.declared.Style.TheVariants.{Difdup};
 ghost use Rattle.table_spec.specs.Writing.{check};
@@ -13,7 +15,7 @@ use table_text::digits::{SQZ, SQZ_MINUS, further_digits, put_end, put_number};
 use text_heads::put_head;
 
 // How far the writing has come: points given, the place after the last byte, the bytes of the line so far, the last ordinate, and whether its form is DIF.
-#[derive(Drop)]
+#[derive(Clone, Copy)]
 pub struct State {
     pub given: usize,
     pub at: usize,

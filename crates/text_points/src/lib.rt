@@ -1,4 +1,6 @@
 // Groups of equal differences counted point by point, without a jump on whether a difference is the one before it: where differences repeat, nothing foretells which do. Inner functions.
+#![tactic(auto)]
+
 ghost use Rattle.std.specs.Prelude.{◌≡◌, true, ◌+◌, ◌^◌, ◌≤◌, ◌<◌, length};
 ghost use Rattle.terms.specs.Logic.{pick};
 ghost use Rattle.table_spec.specs.Frame.{apart};

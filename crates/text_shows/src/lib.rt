@@ -1,4 +1,6 @@
 // A value written in full, in the lent bytes (02, T-02). Inner functions: all bytes of the value are lent.
+#![tactic(auto)]
+
 ghost use Rattle.std.specs.Prelude.{◌≡◌, ◌+◌, ◌≤◌, ◌<◌, length};
 ghost use Rattle.std.proofs.lemmas.List.Edits.{sets};
 ghost use Rattle.text_digits.specs.Pairs.{pairs};

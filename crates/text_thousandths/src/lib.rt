@@ -1,4 +1,6 @@
 // The abscissa of a point in thousandths, and those that stand after the point (01, "The written text"). Inner functions: the frame is a sound one, and places are far from the largest number.
+#![tactic(auto)]
+
 ghost use Rattle.std.specs.Prelude.{◌≡◌, ◌+◌, ◌^◌, ◌≤◌, ◌<◌, length};
 ghost use Rattle.table_spec.specs.Frame.{nearest};
 ghost use Rattle.table_spec.specs.Numerals.{fraction};

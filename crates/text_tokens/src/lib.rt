@@ -1,4 +1,6 @@
 // Tokens, and what a group of equal ones is (01, "The written text"). Inner functions: ordinates of 32 bits.
+#![tactic(auto)]
+
 ghost use Rattle.std.specs.Prelude.{◌≡◌, ◌-◌, ◌≤◌, ◌<◌};
 ghost use Rattle.text_tokens.specs.Tokens.{lead_of, TokenFor};
 
@@ -7,7 +9,7 @@ use table_text::digits::{DIF, DIF_MINUS, DIF_ZERO, MISSING, SQZ, SQZ_MINUS};
 
 // A token: its number is `size`, and its first digit is written as `base` plus the digit. The next ordinate has the same token if it plus `down` is the one
 // before it plus `up`, and it is missing or not as `dif` says, which is true of the DIF form.
-#[derive(Drop)]
+#[derive(Clone, Copy)]
 pub struct Token {
     pub base: u64,
     pub size: u64,

@@ -1,4 +1,6 @@
 // The values of one line (02, T-02: "at most 80 bytes a line, as many values as fit"): stored, or only counted. Inner functions: the line has its head and no value yet.
+#![tactic(auto)]
+
 ghost use Rattle.std.specs.Prelude.{◌≡◌, [], ◌∷◌, map, ◌+◌, ◌^◌, ◌≤◌, ◌<◌, length};
 ghost use Rattle.table_spec.specs.Frame.{ordinate_of};
 ghost use Rattle.table_text.specs.Pieces.{Put};

@@ -1,4 +1,6 @@
 // Values in full on lines: the text of AFFN, PAC and SQZ (02, T-02). Inner functions: the frame is a sound one, and the ordinates are its points.
+#![tactic(auto)]
+
 ghost use Rattle.std.specs.Prelude.{◌≡◌, true, map, ◌≤◌, length};
 ghost use Rattle.table_spec.specs.Frame.{ordinate_of};
 ghost use Rattle.table_spec.specs.Groups.{in_full};
