@@ -93,7 +93,7 @@ parts_of (whole {n = n} {w = w} {s = s} a l r p) = record { whole_number = w; co
 parts_of (pointed {n = n} {w = w} {u = u} a l r f p) =
     record { whole_number = w; count = n; between = 46 ∷ u; some_digit = a; few = l; before = r; behind = a_point f p }
 
-of_parts : {n h x w : ℕ} {t u s : List ℕ} → 0 < n → n ≤ 7 → SpelledDigits n 0 w t u → Following w h x u s → Magnitude h x t s
+of_parts : {n x w h : ℕ} {t u s : List ℕ} → 0 < n → n ≤ 7 → SpelledDigits n 0 w t u → Following w h x u s → Magnitude h x t s
 of_parts a l r (no_point p) = whole a l r p
 of_parts a l r (a_point f p) = pointed a l r f p
 
