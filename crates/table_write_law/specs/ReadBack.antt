@@ -14,8 +14,8 @@ use Rattle.signed.specs.Scale.{lift_small, lower_lift}
 use Rattle.frame.specs.FrameLaws.{legal_abscissa}
 use Rattle.table_law.specs.Spelling.{Spells}
 use Rattle.table_law.specs.Small.{Small}
-use Rattle.table_law.specs.Complete.{complete}
-use Rattle.table_law.specs.Outcome.{spells_accepted, accepted_stored}
+use Rattle.table_law.proofs.Complete.{complete}
+use Rattle.table_law.proofs.Outcome.{spells_accepted, accepted_stored}
 use Rattle.table_write_law.specs.Written.{Takes, written_body}
 use Rattle.table_write_law.specs.Lengths.{written_is_a_body, written_ceiling}
 use Rattle.table_write_law.specs.EightyBytes.{LinedOf, Inner, Lined, inner_lined, lined_short, written_lined}

@@ -4,7 +4,7 @@ use Prim.Native.Nat.{◌-◌, ◌≤◌}
 use native.Mathlib.Omega.{arith}
 use lib.ListN.{length}
 use borrow.Author.Rules.{rules}
-use Rattle.alphabet_spec.specs.EntryLaws.{entry_in}
+use Rattle.alphabet_spec.proofs.EntryLaws.{entry_in}
 use Rattle.table_spec.specs.Reading.{fresh}
 use Rattle.table_lines.specs.Seen.{seen}
 use Rattle.table_lines.proofs.LineEnds.{start_end}
