@@ -1,18 +1,12 @@
 -- The data blocks of a file that is not refused, found in one pass with no stack: a block that holds blocks has said LINK, so at END only the block that the last TITLE opened can be a data block.
-use Rattle.std.specs.Prelude.{◌≡◌, Bool, ℕ, zero, suc, ◌+◌, ◌≤◌, ltb, length, take}
-use Rattle.std.proofs.Math.Path.{refl}
-use Rattle.std.proofs.Common.{ap, subst, arith}
-use Rattle.std.proofs.Math.Bool.{true, false}
+use Rattle.std.specs.Prelude.{ℕ, zero, suc, ◌+◌, length}
 use mathlib.Core.List.{List, [], ◌∷◌}
-use Rattle.terms.specs.Logic.{pick, both}
-use Rattle.label_spec.specs.declared.Opened.{Opened}
+use Rattle.terms.specs.Logic.{pick}
 use Rattle.label_spec.specs.Names.{sames, TITLE, END}
-use Rattle.label_spec.specs.Labels.{Walk, over, bad, label, from}
-use Rattle.label_spec.specs.File.{twice}
+use Rattle.label_spec.specs.Labels.{Walk, over, bad, label}
 use Rattle.label_spec.specs.Records.{mark_of}
 use Rattle.compound_spec.specs.declared.Block.{Block}
-use Rattle.compound_spec.specs.Blocks.{says, Level, fresh, noted, deepest, Survey, refused, ended, push, block_of, closed, tested, turn, nested, within_title}
-use Rattle.compound_law.specs.Plain.{AllLink}
+use Rattle.compound_spec.specs.Blocks.{says}
 
 -- The block that the last TITLE opened: it is still open and has not said LINK, its TITLE's `##` and `=` stand at these places; or it is no data block.
 pub data Last : Type 0 where

@@ -6,11 +6,10 @@ use Rattle.std.proofs.Common.{sym, ap, arith, add-one, add-suc, suc-add, length-
 use Rattle.std.proofs.Math.ListN.{length}
 use Rattle.terms.specs.Logic.{pick, by_case}
 use Rattle.table_spec.specs.Frame.{Rules, longest_line}
-use Rattle.table_spec.specs.Values.{Form, Own, Spot, first, after, last_or, index}
+use Rattle.table_spec.specs.Values.{Form, Spot, first, after, last_or, index}
 use Rattle.table_spec.specs.Reading.{Tokens, over, fault, head, value, line, fresh, tokens, Says, adds, refuses, says, Answer, refuse, accept, push, bare, dif_before}
-use Rattle.table_spec.specs.Reading.{took, checked, finish, judge, read_lines, line_length, LongLine, all_short, long_at, long_line, sooner, read}
-use Rattle.table_spec.specs.ReadingLaws.{push_none, push_push, long_first, begun}
-use Rattle.line_law.specs.Every.{every}
+use Rattle.table_spec.specs.Reading.{took, checked, finish, judge, line_length, LongLine, all_short, long_at, long_line, sooner}
+use Rattle.table_spec.specs.ReadingLaws.{push_none, long_first, begun}
 use Rattle.line_law.specs.Places.{Placed, tokens_placed, AnswerIn, judge_in, LongIn, long_in}
 use Rattle.line_law.specs.Linewise.{and_then, NoLf, linewise, within_line}
 use Rattle.line_law.specs.WholeLine.{Done, refused, went, add, resume, takes, does, line_does, reading, Closed, HeadsClosed, line_starts, push_add, resume_pick, Before}

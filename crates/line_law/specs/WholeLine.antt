@@ -1,18 +1,16 @@
 -- THE LAW OF A WHOLE LINE: what a line does to the state of reading, its length tested first (02, T-06), and that reading goes on from there. Assumes nothing.
 -- The state between lines: the points given, the last of them, and the spot.
-use Rattle.std.specs.Prelude.{◌≡◌, Bool, true, false, List, [], ◌∷◌, ◌++◌, ℕ, suc, ◌+◌, ◌<◌, ltb, leb}
+use Rattle.std.specs.Prelude.{◌≡◌, Bool, true, false, List, [], ◌++◌, ℕ, ◌+◌, ◌<◌, ltb, leb}
 use Rattle.std.proofs.Math.Path.{refl}
-use Rattle.std.proofs.Common.{sym, ap, arith, add-one, add-suc, suc-add, length-append, ltb-false, le-ltb, lt-ltb}
+use Rattle.std.proofs.Common.{arith}
 use Rattle.std.proofs.Math.ListN.{length}
-use Rattle.terms.specs.Logic.{pick, by_case}
+use Rattle.terms.specs.Logic.{pick}
 use Rattle.table_spec.specs.Frame.{Rules, longest_line}
 use Rattle.table_spec.specs.Values.{Form, Own, Spot, first, after, last_or, index}
-use Rattle.table_spec.specs.Reading.{Tokens, over, fault, head, value, line, fresh, tokens, Says, adds, refuses, says, Answer, refuse, accept, push, bare, dif_before}
-use Rattle.table_spec.specs.Reading.{took, checked, finish, judge, read_lines, line_length, LongLine, all_short, long_at, long_line, sooner, read}
-use Rattle.table_spec.specs.ReadingLaws.{push_none, push_push, long_first, begun}
+use Rattle.table_spec.specs.Reading.{Tokens, over, fault, head, value, line, fresh, tokens, Says, adds, refuses, says, Answer, refuse, push, bare, dif_before}
+use Rattle.table_spec.specs.Reading.{judge, read_lines, line_length, long_line, sooner, read}
+use Rattle.table_spec.specs.ReadingLaws.{push_push}
 use Rattle.line_law.specs.Every.{every}
-use Rattle.line_law.specs.Places.{Placed, tokens_placed, AnswerIn, judge_in, LongIn, long_in}
-use Rattle.line_law.specs.Linewise.{and_then, NoLf, linewise, within_line}
 
 -- ---- what a line does
 

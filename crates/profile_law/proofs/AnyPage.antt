@@ -6,7 +6,7 @@ use mathlib.Core.List.{List, [], ◌∷◌}
 use Rattle.terms.specs.Logic.{pick, zero_one}
 use Rattle.label_spec.specs.Labels.{from}
 use Rattle.label_spec.specs.File.{labelled}
-use Rattle.label_spec.specs.Records.{record_of, as_record, record_for}
+use Rattle.label_spec.specs.Records.{record_of, as_record}
 use Rattle.label_spec.specs.declared.Found.{Found}
 use Rattle.label_spec.specs.declared.Labelled.{Labelled}
 use Rattle.label_spec.specs.declared.Record.{Record}
@@ -17,7 +17,7 @@ use Rattle.profile_spec.specs.declared.Located.{Located}
 use Rattle.profile_spec.specs.declared.Profiled.{Profiled}
 use Rattle.profile_spec.specs.Wanted.{Wanted, wanted, kth}
 use Rattle.profile_spec.specs.Profile.{placed, located, text_at, listed, word_at, judged, words, present, records, profiled, numbers, all_numbers}
-use Rattle.profile_spec.specs.Profile.{ProfileAnswer, refuse_profile, accept_profile, by_profiled, by_profile, by_file, read_profile}
+use Rattle.profile_spec.specs.Profile.{by_profiled, by_profile, by_file, read_profile}
 use Rattle.profile_law.specs.Fifteen.{long}
 use Rattle.profile_law.specs.Titles.{name_untitled, record_after}
 use Rattle.profile_law.specs.AnyPage.{HasAll, in_file}

@@ -8,7 +8,7 @@ use Rattle.alphabet_spec.proofs.KindLaws.{digit_kind, Back, is_digit, kind_digit
 use Rattle.alphabet_spec.specs.SpelledDigits.{SpelledDigits, none, more}
 use Rattle.alphabet_spec.proofs.SpelledDigitLaws.{NoDigit, first_digit, digits_run, digits_some, Follows, follows, Begins, begins}
 use Rattle.table_spec.specs.Values.{headed_at}
-use Rattle.table_spec.specs.Reading.{Tokens, head, HeadDigits, no_head, sized, unit, starts, scaled, pointed as after-whole, thousandths, Mode, fresh, inner, headed, opening, step, tokens}
+use Rattle.table_spec.specs.Reading.{Tokens, head, HeadDigits, no_head, sized, unit, starts, scaled, pointed as after-whole, thousandths, fresh, inner, headed, opening, step, tokens}
 use Rattle.table_law.specs.Spelling.{LastPlace, ones, tenths, hundredths, thousandths as third-place, Magnitude, whole, pointed, Head, unsigned, positive, negative}
 use Rattle.table_law.specs.Runs.{Past, here, byte, past_drop, past_past, digits_past}
 use Rattle.table_law.specs.Heads.{lengthens, Apart, Following, no_point, a_point, Parts, skip, MagnitudeIs, HeadIs}

@@ -1,5 +1,5 @@
 -- What reading a table answers, and what the lent slice then holds, in the terms of spelling: the frame's and the body's limits and the room included (01, "Refusal numbers"). Assumes nothing.
-use Rattle.std.specs.Prelude.{◌≡◌, true, false, cond, ◌↔◌, ℕ, suc, ◌+◌, ◌-◌, ◌≤◌, ◌<◌, ℤ, pos, negsuc, length, take, get_or}
+use Rattle.std.specs.Prelude.{◌≡◌, false, ◌↔◌, ℕ, ◌+◌, ◌-◌, ◌≤◌, ◌<◌, ℤ, length, take, get_or}
 use Rattle.std.proofs.Math.Path.{refl, ap}
 use Rattle.std.proofs.Common.{sym, ◌∙◌, arith, zero-add, take_at, drop_at, get_or-drop, get_or-take}
 use mathlib.Core.List.{List, ◌++◌, map}
@@ -7,8 +7,8 @@ use Rattle.std.proofs.Math.Dec.{ltb, leb}
 use Rattle.std.proofs.lemmas.List.{length-map}
 use Rattle.std.proofs.Math.ListN.{drop, get_or-map}
 use Rattle.std.proofs.Math.Seq.{sets-eq, length-sets}
-use borrow.Author.Tests.{ltb-true, ltb-false, leb-true, le-leb, le-ltb}
-use Rattle.terms.specs.Logic.{pick, by_case, zero_one}
+use borrow.Author.Tests.{ltb-false, leb-true, le-leb, le-ltb}
+use Rattle.terms.specs.Logic.{pick, by_case}
 use Rattle.table_spec.specs.Frame.{Rules, rules, longest_body, frame_legal, abscissa, entry_for}
 use Rattle.table_spec.specs.Reading.{Answer, refuse, accept, read, read_table, stored}
 use Rattle.table_spec.specs.ReadingLaws.{no_accept}

@@ -1,16 +1,11 @@
 -- Heads that are spelled and heads that are read, both ways (01, "Head. Optional sign, 1 to 7 digits, then optionally a point and 0 to 3 digits"). Assumes nothing.
-use Rattle.std.specs.Prelude.{◌≡◌, refl, Bool, true, false, List, [], ◌∷◌, ℕ, zero, suc, ◌+◌, ◌*◌, ◌≤◌, ◌<◌, eqb, drop}
-use Rattle.std.proofs.Common.{sym, ap, ◌∙◌, arith, add-zero, add-suc, lit≤, drop-drop, eqb-true}
-use Rattle.terms.specs.Logic.{pick, by_case, no_way}
-use Rattle.alphabet_spec.specs.Digits.{Run, long, run, digits, some}
+use Rattle.std.specs.Prelude.{◌≡◌, refl, Bool, true, false, List, [], ◌∷◌, ℕ, suc, ◌*◌, ◌≤◌, ◌<◌, drop}
 use Rattle.alphabet_spec.specs.Bytes.{Byte, digit, lead, sign, quest, blank, point, lf, cr, dollar, other, kind}
-use Rattle.alphabet_spec.proofs.KindLaws.{digit_kind, Back, is_digit, kind_digit}
-use Rattle.alphabet_spec.specs.SpelledDigits.{SpelledDigits, none, more}
-use Rattle.alphabet_spec.proofs.SpelledDigitLaws.{NoDigit, first_digit, digits_run, digits_some, Follows, follows, Begins, begins}
+use Rattle.alphabet_spec.specs.SpelledDigits.{SpelledDigits}
 use Rattle.table_spec.specs.Values.{headed_at}
-use Rattle.table_spec.specs.Reading.{Tokens, head, HeadDigits, no_head, sized, unit, starts, scaled, pointed as after-whole, thousandths, Mode, fresh, inner, headed, opening, step, tokens}
-use Rattle.table_law.specs.Spelling.{LastPlace, ones, tenths, hundredths, thousandths as third-place, Magnitude, whole, pointed, Head, unsigned, positive, negative}
-use Rattle.table_law.specs.Runs.{Past, here, byte, past_drop, past_past, digits_past}
+use Rattle.table_spec.specs.Reading.{HeadDigits, no_head, sized, Mode, tokens}
+use Rattle.table_law.specs.Spelling.{LastPlace, Magnitude, Head}
+use Rattle.table_law.specs.Runs.{Past, here, byte}
 
 -- ---- texts that do not make a head or a number before them longer: they begin with neither a digit nor a point
 

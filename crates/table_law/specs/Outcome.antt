@@ -1,19 +1,13 @@
 -- What reading a table answers, and what the lent slice then holds, in the terms of spelling: the frame's and the body's limits and the room included (01, "Refusal numbers"). Assumes nothing.
-use Rattle.std.specs.Prelude.{◌≡◌, true, false, cond, ◌↔◌, ℕ, suc, ◌+◌, ◌-◌, ◌≤◌, ◌<◌, ℤ, pos, negsuc, length, take, get_or}
-use Rattle.std.proofs.Math.Path.{refl, ap}
-use Rattle.std.proofs.Common.{sym, ◌∙◌, arith, zero-add, take_at, drop_at, get_or-drop, get_or-take}
-use mathlib.Core.List.{List, ◌++◌, map}
-use Rattle.std.proofs.Math.Dec.{ltb, leb}
-use Rattle.std.proofs.lemmas.List.{length-map}
-use Rattle.std.proofs.Math.ListN.{drop, get_or-map}
-use Rattle.std.proofs.Math.Seq.{sets-eq, length-sets}
-use borrow.Author.Tests.{ltb-true, ltb-false, leb-true, le-leb, le-ltb}
-use Rattle.terms.specs.Logic.{pick, by_case, zero_one}
-use Rattle.table_spec.specs.Frame.{Rules, rules, longest_body, frame_legal, abscissa, entry_for}
-use Rattle.table_spec.specs.Reading.{Answer, refuse, accept, read, read_table, stored}
-use Rattle.table_spec.specs.ReadingLaws.{no_accept}
-use Rattle.table_law.specs.Spelling.{Spells}
-use Rattle.table_law.specs.Small.{Small}
+use Rattle.std.specs.Prelude.{◌≡◌, true, cond, ◌↔◌, ℕ, suc, ◌-◌, ◌≤◌, ℤ, pos, negsuc, length}
+use Rattle.std.proofs.Math.Path.{refl}
+use Rattle.std.proofs.Common.{arith}
+use mathlib.Core.List.{List}
+use Rattle.std.proofs.Math.Dec.{ltb}
+use borrow.Author.Tests.{ltb-true}
+use Rattle.terms.specs.Logic.{by_case, zero_one}
+use Rattle.table_spec.specs.Frame.{longest_body, frame_legal, entry_for}
+use Rattle.table_spec.specs.Reading.{refuse, stored}
 
 -- frame and body are within their limits, and there is room for N ordinates: neither 1 nor 2 is given
 pub record Allowed (f l : ℤ) (n : ℕ) (s : List ℕ) (space : ℕ) : Type 0 where
