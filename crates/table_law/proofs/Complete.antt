@@ -7,7 +7,7 @@ use Rattle.std.proofs.Math.ListN.{length, length-append}
 use borrow.Author.Tests.{le-ltb, le-leb}
 use Rattle.terms.specs.Logic.{zero_one, no_way}
 use Rattle.alphabet_spec.specs.Bytes.{kind}
-use Rattle.alphabet_spec.specs.KindLaws.{pseudo_kind, blank_kind}
+use Rattle.alphabet_spec.proofs.KindLaws.{pseudo_kind, blank_kind}
 use Rattle.table_spec.specs.Frame.{Rules}
 use Rattle.table_spec.specs.Values.{Value, Form, Own, is_dif, Spot, first, after, index}
 use Rattle.table_spec.specs.Reading.{fresh, inner, opening, inside, step, stop, tokens, accept, push, bare, dif_before, took, checked, finish, judge, read_lines, sooner, read}
@@ -16,10 +16,11 @@ use Rattle.table_law.specs.Spelling.{Spelled, plus, minus, plain, sqz_zero, sqz_
 use Rattle.table_law.specs.Spelling.{comment as end_comment, Line, done}
 use Rattle.table_law.specs.Spelling.{blank as with-blank, value as with_value, EndsInDif, own_not, gap_not, dif_does, dup_as, Belongs, last_given, next_point, Body, end}
 use Rattle.table_law.specs.Spelling.{indent, passed, row, Spells}
-use Rattle.table_law.specs.Heads.{lengthens, Apart, head_read}
-use Rattle.table_law.specs.Tokens.{end_fresh, end_inner, value_read}
-use Rattle.table_law.specs.Meaning.{stands_says}
-use Rattle.table_law.specs.LineLengths.{spelled_short}
+use Rattle.table_law.specs.Heads.{lengthens, Apart}
+use Rattle.table_law.proofs.Heads.{head_read}
+use Rattle.table_law.proofs.Tokens.{end_fresh, end_inner, value_read}
+use Rattle.table_law.proofs.Meaning.{stands_says}
+use Rattle.table_law.proofs.LineLengths.{spelled_short}
 
 -- ---- "A digit run is always as long as it can be": what stands after a head or a value does not make it longer
 

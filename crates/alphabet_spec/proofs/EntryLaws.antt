@@ -1,10 +1,10 @@
 -- From the entry of a byte back to its kind, and from there to the byte at a place (`at_kind`). Assumes nothing.
-use Rattle.std.specs.Prelude.{◌≡◌, refl, Bool, true, false, List, ℕ, ◌+◌, ◌-◌, ◌≤◌, ◌<◌, ltb, length, get_or}
+use Rattle.std.specs.Prelude.{◌≡◌, refl, Bool, true, false, List, ℕ, ◌+◌, ◌≤◌, ◌<◌, ltb, length, get_or}
 use Rattle.std.proofs.Common.{sym, ap, ◌∙◌, arith, lt-ltb, le-ltb, ltb-true, ltb-false}
 use Rattle.terms.specs.Logic.{by_case, ten}
 use Rattle.alphabet_spec.specs.Kinds.{Lead, sqz, dif, dup, Pseudo, sqz_up, sqz_down, dif_zero, dif_up, dif_down, dup_low, dup_nine, tabs_too}
 use Rattle.alphabet_spec.specs.Bytes.{Byte, digit, lead, sign, quest, blank, point, lf, cr, dollar, other, kind}
-use Rattle.alphabet_spec.specs.KindLaws.{Back, kind_back}
+use Rattle.alphabet_spec.proofs.KindLaws.{Back, kind_back}
 use Rattle.alphabet_spec.specs.Entries.{lead_code, code, entry, entry_at, kind_of}
 
 -- ---- from an entry to the kind

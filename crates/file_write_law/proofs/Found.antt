@@ -15,7 +15,7 @@ use Rattle.label_spec.specs.Labels.{from, hashed}
 use Rattle.label_spec.specs.File.{longest_file, titled, opened_at, opened, member, twice, judged, placed, after_title, labelled}
 use Rattle.label_spec.specs.Records.{record_of}
 use Rattle.decimal_spec.specs.Number.{bound}
-use Rattle.table_write_law.specs.EightyBytes.{LinedOf, Inner}
+use Rattle.table_write_law.proofs.EightyBytes.{LinedOf, Inner}
 use Rattle.file_spec.specs.declared.Needed.{Needed}
 use Rattle.file_spec.specs.declared.Gathered.TheVariants as gathered
 use Rattle.file_spec.specs.declared.Figures.TheVariants as figures
@@ -26,10 +26,12 @@ use Rattle.file_write_spec.specs.Records.{Entry, crlf, entry_text, entries_text,
 use Rattle.table_spec.specs.Groups.{plain_text}
 use Rattle.file_write_spec.specs.Decimals.{decimal_text}
 use Rattle.file_write_spec.specs.File.{title_legal, scales_legal, numbers, needed, end_line, file_entries, file_text}
-use Rattle.file_write_law.specs.Labels.{walk_settles, plain, named, Good, AllGood, labels, records_walk}
+use Rattle.file_write_law.specs.Labels.{plain, named, Good, AllGood, labels}
+use Rattle.file_write_law.proofs.Labels.{walk_settles, records_walk}
 use Rattle.file_write_law.specs.Texts.{after, nth, span_of, record_labels, Texts, texts_are}
 use Rattle.file_write_law.specs.Numbers.{decimal_in_lem, factor_in, count_in_lem}
-use Rattle.file_write_law.specs.Settled.{OneLine, line_settles, count_line, decimal_line, lined_settles}
+use Rattle.file_write_law.specs.Settled.{OneLine, count_line, decimal_line}
+use Rattle.file_write_law.proofs.Settled.{line_settles, lined_settles}
 use Rattle.file_write_law.specs.Lengths.{title_fits, scales_fit, file_most}
 
 -- what is asked of the parts of a file

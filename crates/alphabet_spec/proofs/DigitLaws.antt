@@ -5,9 +5,9 @@ use Rattle.terms.specs.Logic.{by_case}
 use Rattle.alphabet_spec.specs.Kinds.{tabs_too}
 use Rattle.alphabet_spec.specs.Digits.{run, one_more, digits}
 use Rattle.alphabet_spec.specs.Bytes.{Byte, digit, lead, sign, quest, blank, point, lf, cr, dollar, other, kind}
-use Rattle.alphabet_spec.specs.KindLaws.{Back, kind_back, is_digit, back_digit, digit_within}
+use Rattle.alphabet_spec.proofs.KindLaws.{Back, kind_back, is_digit, back_digit, digit_within}
 use Rattle.alphabet_spec.specs.Entries.{code, entry, entry_at, kind_of}
-use Rattle.alphabet_spec.specs.EntryLaws.{at_kind, at_entry, entry_in}
+use Rattle.alphabet_spec.proofs.EntryLaws.{at_kind, at_entry, entry_in}
 
 -- the entry of a digit is the digit
 pub digit_at : (s : List ℕ) (i : ℕ) → entry_at s i < 16 → (i < length s) × (get_or s i 0 ≡ 48 + entry_at s i) × (entry_at s i < 10)

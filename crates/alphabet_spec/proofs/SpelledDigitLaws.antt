@@ -4,7 +4,7 @@ use Rattle.std.specs.Prelude.{◌≡◌, refl, false, List, [], ◌∷◌, ℕ, 
 use Rattle.std.proofs.Common.{sym, ap, ◌∙◌, subst, arith, add-zero, zero-add, add-suc, suc-add, ltb-true, leb-true}
 use Rattle.terms.specs.Logic.{pick, by_case, zero_one, both_true}
 use Rattle.alphabet_spec.specs.Digits.{within, Run, long, run, one_more, digits, some}
-use Rattle.alphabet_spec.specs.KindLaws.{digit_within}
+use Rattle.alphabet_spec.proofs.KindLaws.{digit_within}
 use Rattle.alphabet_spec.specs.SpelledDigits.{SpelledDigits, none, more}
 
 -- ---- spelled digits are the run that is read, where no further digit follows

@@ -12,7 +12,7 @@ use borrow.Author.Tests.{ltb-false, leb-true}
 use Rattle.terms.specs.Logic.{pick, by_case, no_way}
 use Rattle.alphabet_spec.specs.Digits.{Run, long, run, digits, some}
 use Rattle.alphabet_spec.specs.Bytes.{Byte, digit, lead, sign, quest, blank, point, lf, cr, dollar, other, kind}
-use Rattle.alphabet_spec.specs.KindLaws.{Back, kind_back}
+use Rattle.alphabet_spec.proofs.KindLaws.{Back, kind_back}
 use Rattle.table_spec.specs.Frame.{Rules}
 use Rattle.table_spec.specs.Values.{Value, own, gap, Form, Own, Gap, By, Dup, is_dif, Spot, first, after, last_or, room, value_of, index, headed_at}
 use Rattle.table_spec.specs.Reading.{Tokens, over, fault, HeadDigits, no_head, sized, value, line, Ending, ends as ends-in, none as no_end, ending, thousandths, Mode, fresh, inner, Rest, ended}
@@ -21,11 +21,12 @@ use Rattle.table_spec.specs.Reading.{checked, finish, judge, read_lines, long_li
 use Rattle.table_spec.specs.ReadingLaws.{no_accept}
 use Rattle.table_law.specs.Spelling.{Spelled, missing, Stands, LineEnd, over as end_over, Line, done, blank as with-blank, value as with_value}
 use Rattle.table_law.specs.Spelling.{EndsInDif, own_not, gap_not, dif_does, dup_as, Belongs, last_given, next_point, Body, end, indent, passed, row, Spells}
-use Rattle.table_law.specs.Heads.{HeadIs, unsigned_is, signed_is as signed-head}
-use Rattle.table_law.specs.Tokens.{EndIs, ending_is, ValueIs, packed_is, plain_is, signed_is}
-use Rattle.table_law.specs.Meaning.{Said, said}
-use Rattle.table_law.specs.LineLengths.{short_spelled, sooner_accept}
-use Rattle.table_law.specs.Complete.{complete}
+use Rattle.table_law.specs.Heads.{HeadIs}
+use Rattle.table_law.proofs.Heads.{unsigned_is, signed_is as signed-head}
+use Rattle.table_law.proofs.Tokens.{EndIs, ending_is, ValueIs, packed_is, plain_is, signed_is}
+use Rattle.table_law.proofs.Meaning.{Said, said}
+use Rattle.table_law.proofs.LineLengths.{short_spelled, sooner_accept}
+use Rattle.table_law.proofs.Complete.{complete}
 
 -- ---- answers that accept
 

@@ -15,13 +15,15 @@ use Rattle.table_spec.specs.Groups.{form, sqz_text, token_text, dup_text, group}
 use Rattle.table_spec.specs.Writing.{put, check, open_line, go_on, close, text, lines_of, written}
 use Rattle.table_law.specs.Spelling as sp
 use Rattle.table_law.specs.Spelling.{Short}
-use Rattle.table_write_law.specs.Written.{Takes}
-use Rattle.table_write_law.specs.Lengths.{check_most, head_most}
+use Rattle.table_write_law.proofs.Written.{Takes}
+use Rattle.table_write_law.specs.Lengths.{check_most}
+use Rattle.table_write_law.proofs.Lengths.{head_most}
 use Rattle.table_spec.specs.declared.Style.{Style}
 use Rattle.table_spec.specs.declared.Style.TheVariants.{Affn, Pac, Sqz, Difdup}
 use Rattle.table_spec.specs.Groups.{form, sqz_text, plain_text, pac_text, affn_text, own_text, gap_text, seen_after, token_text, more_of, dup_text, group}
 use Rattle.table_write_law.specs.Tokens.{more_le}
-use Rattle.table_write_law.specs.Lengths.{group_slim, check_most, head_most}
+use Rattle.table_write_law.specs.Lengths.{group_slim, check_most}
+use Rattle.table_write_law.proofs.Lengths.{head_most}
 
 -- a text after c bytes of its first line: lines of at most 80 bytes, each of them such a byte, and after each line CR LF
 pub data LinedOf (P : ℕ → Type 0) : ℕ → List ℕ → Type 0 where

@@ -14,14 +14,14 @@ use Rattle.signed.specs.Scale.{lift_small, lower_lift}
 use Rattle.frame.specs.FrameLaws.{legal_abscissa}
 use Rattle.table_law.specs.Spelling.{Spells}
 use Rattle.table_law.specs.Small.{Small}
-use Rattle.table_law.specs.Complete.{complete}
-use Rattle.table_law.specs.Outcome.{spells_accepted, accepted_stored}
-use Rattle.table_write_law.specs.Written.{Takes, written_body}
-use Rattle.table_write_law.specs.Lengths.{written_is_a_body, written_ceiling}
-use Rattle.table_write_law.specs.EightyBytes.{LinedOf, Inner, Lined, inner_lined, lined_short, written_lined}
+use Rattle.table_law.proofs.Complete.{complete}
+use Rattle.table_law.proofs.Outcome.{spells_accepted, accepted_stored}
+use Rattle.table_write_law.proofs.Written.{Takes, written_body}
+use Rattle.table_write_law.proofs.Lengths.{written_is_a_body, written_ceiling}
+use Rattle.table_write_law.proofs.EightyBytes.{LinedOf, Inner, Lined, inner_lined, lined_short, written_lined}
 use Rattle.terms.specs.Logic.{pick, by_case}
 use Rattle.table_spec.specs.declared.Style.{Style}
-use Rattle.table_write_law.specs.Lengths.{written_most, written_is_a_body, written_ceiling}
+use Rattle.table_write_law.proofs.Lengths.{written_most, written_is_a_body, written_ceiling}
 
 -- the text of every list that the writer takes, in each of the four forms, is a spelling of it: its lines are short too
 pub written_spells : (st : Style) (first last n : ℕ) (ys : List ℕ) → Takes first last n → Small ys → length ys ≡ n → Spells (rules first last n) ys (written st first last n ys)

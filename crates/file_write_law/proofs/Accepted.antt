@@ -11,8 +11,8 @@ use Rattle.table_spec.specs.Frame.{frame_legal, abscissa_legal}
 use Rattle.table_spec.specs.Reading.{read_table, stored}
 use Rattle.table_spec.specs.Writing.{Outcome, declined, wrote, fitted, write_table}
 use Rattle.table_spec.specs.declared.Style.TheVariants.{Difdup}
-use Rattle.table_write_law.specs.EightyBytes.{Lined, inner_lined}
-use Rattle.table_write_law.specs.ReadBack.{Entries, wrote_inner, wrote_most, reads_back, gives_back}
+use Rattle.table_write_law.proofs.EightyBytes.{Lined, inner_lined}
+use Rattle.table_write_law.proofs.ReadBack.{Entries, wrote_inner, wrote_most, reads_back, gives_back}
 use Rattle.decimal_spec.specs.declared.Rounded.{Rounded}
 use Rattle.file_spec.specs.declared.Listed.TheVariants as listed
 use Rattle.file_spec.specs.Texts.{spacing, LIST, listed_as, listed_in}
@@ -21,8 +21,9 @@ use Rattle.file_write_spec.specs.declared.Scales.{Scales}
 use Rattle.file_write_spec.specs.Records.{crlf}
 use Rattle.file_write_spec.specs.File.{title_legal, scales_legal, numbers, within_limit, first_quotient, last_quotient, first_of, last_of, ordinates, firsty_agrees, file_exact, limited}
 use Rattle.file_write_spec.specs.File.{body_text, text_of_file, by_frame, write_file}
-use Rattle.file_write_law.specs.Lengths.{title_fits, scales_fit, file_most, file_lined}
-use Rattle.file_write_law.specs.Found.{Parts, whole_file, spans, file_short, labelled_is, gathered_is, texts_written, figures_are}
+use Rattle.file_write_law.specs.Lengths.{title_fits, scales_fit, file_most}
+use Rattle.file_write_law.proofs.Lengths.{file_lined}
+use Rattle.file_write_law.proofs.Found.{Parts, whole_file, spans, file_short, labelled_is, gathered_is, texts_written, figures_are}
 
 -- the list is the one asked for, and the body starts on the next line
 listed_is : (body : List ℕ) → listed_in (LIST ++ crlf ++ body) ≡ listed.Body 13
@@ -59,7 +60,7 @@ pub record Taken (title : List ℕ) (n : ℕ) (c : Scales) (es : List ℤ) : Typ
   pub begins : firsty_agrees c n es ≡ true
 
 module _ (title : List ℕ) (n : ℕ) (c : Scales) (es : List ℤ) where
-  abbrev body : List ℕ
+  abbrev pub body : List ℕ
   body = body_text title n c es
 
   points_few : Taken title n c es → n ≤ 65536
@@ -69,7 +70,7 @@ module _ (title : List ℕ) (n : ℕ) (c : Scales) (es : List ℤ) where
       let d = both_true (leb 1 n) _ b.1 in leb-true n 65536 (both_true (leb n 65536) _ d.1).0
 
   -- the writer of tables writes the same body
-  body_wrote : Taken title n c es → write_table Difdup (first_of c n) (last_of c n) n es (length body) ≡ wrote body
+  pub body_wrote : Taken title n c es → write_table Difdup (first_of c n) (last_of c n) n es (length body) ≡ wrote body
   unfolding write_table
   body_wrote k = rw (k.legal, le-ltb (length es) n k.enough, le-ltb (length body) (length body) (omega arith)) refl
 
@@ -159,11 +160,3 @@ module _ (title : List ℕ) (n : ℕ) (c : Scales) (es : List ℤ) where
             let k = went w in
             let b = reads_back Difdup (first_of c n) (last_of c n) n es (length body) body h (body_wrote k.0) room r in
             rw (← k.1, file_table title c n body (parts k.0) room _ _ refl refl k.0.first k.0.last, b, k.0.begins) refl
-
-        -- the slice then holds the entries that were written, and its others as they were
-        pub gives_back_file : (out : List ℤ) → n ≤ length out → stored_file out (read_file s (length out)) ≡ take n es ++ drop n out
-        unfolding stored
-        gives_back_file out r =
-            let k = body_wrote (went w).0 in
-            let b = reads_back Difdup (first_of c n) (last_of c n) n es (length body) body h k (length out) r in
-            rw (accepts_written (length out) r) (rw b at (gives_back Difdup (first_of c n) (last_of c n) n es (length body) body h k out r))

@@ -9,7 +9,7 @@ use Rattle.terms.specs.Logic.{pick, both, by_case}
 use Rattle.terms.specs.Places.{inside}
 use Rattle.alphabet_spec.specs.Digits.{Run, long, run, digits}
 use Rattle.alphabet_spec.specs.SpelledDigits.{SpelledDigits, none, more}
-use Rattle.alphabet_spec.specs.SpelledDigitLaws.{NoDigit, spelled_drop, digits_run, run_spelled}
+use Rattle.alphabet_spec.proofs.SpelledDigitLaws.{NoDigit, spelled_drop, digits_run, run_spelled}
 use Rattle.decimal_spec.specs.declared.Mantissa.{Mantissa}
 use Rattle.decimal_spec.specs.declared.Exponent.{Exponent}
 use Rattle.decimal_spec.specs.declared.Number.{Number}

@@ -6,15 +6,16 @@ use Rattle.terms.specs.Logic.{pick, by_case}
 use Rattle.alphabet_spec.specs.Kinds.{Lead, sqz, dif, dup, Pseudo, sqz_up, sqz_down, dif_zero, dif_up, dif_down}
 use Rattle.alphabet_spec.specs.Digits.{Run, long, run, digits, some}
 use Rattle.alphabet_spec.specs.Bytes.{Byte, digit, lead, sign, quest, blank, point, lf, cr, dollar, other, kind}
-use Rattle.alphabet_spec.specs.KindLaws.{digit_kind, pseudo_kind, Back}
+use Rattle.alphabet_spec.proofs.KindLaws.{digit_kind, pseudo_kind, Back}
 use Rattle.alphabet_spec.specs.SpelledDigits.{SpelledDigits, none, more}
-use Rattle.alphabet_spec.specs.SpelledDigitLaws.{first_digit, digits_run, digits_some, Follows, follows, Begins, begins}
+use Rattle.alphabet_spec.proofs.SpelledDigitLaws.{first_digit, digits_run, digits_some, Follows, follows, Begins, begins}
 use Rattle.table_spec.specs.Values.{Value, own, room, value_of}
 use Rattle.table_spec.specs.Reading.{Tokens, value, line, comment, Ending, ends as ends-in, none as no_end, ending, fresh, inner, valued, opening, inside, step, stop, tokens}
 use Rattle.table_law.specs.Spelling.{Spelled, plus, minus, plain, sqz_zero, sqz_more, dif_zero as dif_none, dif_more, dup_more, missing, Comment, cut, ends, any}
 use Rattle.table_law.specs.Spelling.{LineEnd, over as end_over, lf as end_lf, cr_lf, comment as end_comment}
 use Rattle.table_law.specs.Runs.{Past, here, byte, digits_past}
-use Rattle.table_law.specs.Heads.{Apart, apart_digit, skip}
+use Rattle.table_law.specs.Heads.{Apart, skip}
+use Rattle.table_law.proofs.Heads.{apart_digit}
 
 -- ---- an end of a line that is spelled is read
 
