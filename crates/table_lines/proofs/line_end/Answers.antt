@@ -2,7 +2,7 @@
 use mathlib.Core.Path.{sym, ◌∙◌}
 use Prim.Native.Nat.{◌+◌, ◌-◌}
 use native.Mathlib.Omega.{arith}
-use Rattle.alphabet_spec.specs.EntryLaws.{entry_in}
+use Rattle.alphabet_spec.proofs.EntryLaws.{entry_in}
 use Rattle.table_spec.specs.Reading.{comment}
 use Rattle.table_lines.proofs.LineEnds.{end_over, end_lf, end_cr, end_comment, end_no_cr, end_no_dollar, end_bad}
 use borrow.Author.Rules.{rules}
