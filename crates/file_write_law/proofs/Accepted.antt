@@ -1,6 +1,6 @@
 -- 02, T-04: "Our reader must accept each file written and return the same ordinates, F and L"; T-08: and the same exactness.
 -- Each line has at most 80 bytes, and the file is within its limit. Assumes nothing.
-use Rattle.std.specs.Prelude.{◌≡◌, Bool, true, false, List, ◌++◌, ℕ, ◌+◌, ◌*◌, ◌≤◌, ltb, leb, ℤ, length, take, drop}
+use Rattle.std.specs.Prelude.{◌≡◌, Bool, true, false, List, ◌++◌, ℕ, ◌+◌, ◌*◌, ◌≤◌, ltb, leb, ℤ, length}
 use Rattle.std.proofs.Math.Path.{refl}
 use Rattle.std.proofs.Common.{arith}
 use borrow.Author.Tests.{le-ltb, ltb-false, leb-true}
@@ -8,15 +8,15 @@ use Rattle.terms.specs.Logic.{pick, both_true, zero_one}
 use Rattle.label_spec.specs.Names.{blank}
 use Rattle.label_spec.specs.File.{longest_file}
 use Rattle.table_spec.specs.Frame.{frame_legal, abscissa_legal}
-use Rattle.table_spec.specs.Reading.{read_table, stored}
+use Rattle.table_spec.specs.Reading.{read_table}
 use Rattle.table_spec.specs.Writing.{Outcome, declined, wrote, fitted, write_table}
 use Rattle.table_spec.specs.declared.Style.TheVariants.{Difdup}
 use Rattle.table_write_law.proofs.EightyBytes.{Lined, inner_lined}
-use Rattle.table_write_law.proofs.ReadBack.{Entries, wrote_inner, wrote_most, reads_back, gives_back}
+use Rattle.table_write_law.proofs.ReadBack.{Entries, wrote_inner, wrote_most, reads_back}
 use Rattle.decimal_spec.specs.declared.Rounded.{Rounded}
 use Rattle.file_spec.specs.declared.Listed.TheVariants as listed
 use Rattle.file_spec.specs.Texts.{spacing, LIST, listed_as, listed_in}
-use Rattle.file_spec.specs.File.{accept_file, by_first, table_by, last_by, abscissas_by, list_by, figures_by, records_by, labels_by, read_file_by, read_file, stored_file}
+use Rattle.file_spec.specs.File.{accept_file, by_first, table_by, last_by, abscissas_by, list_by, figures_by, records_by, labels_by, read_file_by, read_file}
 use Rattle.file_write_spec.specs.declared.Scales.{Scales}
 use Rattle.file_write_spec.specs.Records.{crlf}
 use Rattle.file_write_spec.specs.File.{title_legal, scales_legal, numbers, within_limit, first_quotient, last_quotient, first_of, last_of, ordinates, firsty_agrees, file_exact, limited}

@@ -6,7 +6,7 @@ use Rattle.terms.specs.Logic.{pick, both, both_true, no_way}
 use Rattle.label_spec.specs.declared.Spot.TheVariants.{Place}
 use Rattle.label_spec.specs.Names.{blank, norm, sames}
 use Rattle.label_spec.specs.NameLaws.{sames_eq}
-use Rattle.label_spec.specs.Labels.{Walk, over, label, longest_name, eq_in, headed, step, walk}
+use Rattle.label_spec.specs.Labels.{label, longest_name, eq_in, headed, step, walk}
 use Rattle.file_write_spec.specs.Records.{Entry, entry_text, entries_text}
 use Rattle.file_write_law.specs.Labels.{Settles, plain, named, size, Good, AllGood, labels}
 

@@ -1,13 +1,9 @@
 -- The walk over written records meets exactly their labels, in order (01, "The file"; 02, T-04). Assumes nothing.
-use Rattle.std.specs.Prelude.{◌≡◌, refl, Bool, true, false, List, [], ◌∷◌, ◌++◌, ℕ, suc, ◌+◌, ◌-◌, eqb, leb, length}
-use Rattle.std.proofs.Common.{sym, ap, ◌∙◌, append_assoc, arith, add-zero, ne_eqb}
-use Rattle.std.proofs.Math.Seq.{take-append_seam}
-use Rattle.terms.specs.Logic.{pick, both, both_true, no_way}
-use Rattle.label_spec.specs.declared.Spot.TheVariants.{Place}
+use Rattle.std.specs.Prelude.{◌≡◌, Bool, true, false, List, [], ◌∷◌, ℕ, ◌+◌, eqb, leb, length}
+use Rattle.terms.specs.Logic.{pick, both}
 use Rattle.label_spec.specs.Names.{blank, norm, sames}
-use Rattle.label_spec.specs.NameLaws.{sames_eq}
-use Rattle.label_spec.specs.Labels.{Walk, over, label, longest_name, eq_in, headed, step, walk}
-use Rattle.file_write_spec.specs.Records.{Entry, entry_text, entries_text}
+use Rattle.label_spec.specs.Labels.{Walk, over, label, longest_name}
+use Rattle.file_write_spec.specs.Records.{Entry}
 
 -- the text t, from a place where only blanks stand before it on its line (or not), has no line that begins with `#`, and ends with LF
 abbrev pub Settles : Bool → List ℕ → Type 0

@@ -1,25 +1,22 @@
 -- How long a written file is: its body and at most 253 bytes, in lines of at most 80 (01, "At most 1,048,576 bytes"; 02, T-04 and T-06). Assumes nothing.
 use Rattle.std.specs.Prelude.{◌≡◌, Bool, true, false, ℕ, suc, ◌+◌, ◌^◌, ◌≤◌, ◌<◌, ltb, leb, ℤ, pos, negsuc, nat_abs, length}
 use Rattle.std.proofs.Math.Path.{refl}
-use Rattle.std.proofs.Common.{sym, ap, ◌∙◌, subst, ltb-true, leb-true}
-use mathlib.Core.List.{List, [], ◌∷◌, ◌++◌, append_assoc}
+use Rattle.std.proofs.Common.{ltb-true, leb-true}
+use mathlib.Core.List.{List, []}
 use native.Mathlib.Omega.{arith}
 use Rattle.std.proofs.Math.ListN.{length-append}
 use Rattle.terms.specs.Logic.{pick, both, both_true, no_way}
 use Rattle.label_spec.specs.Names.{TITLE, END}
 use Rattle.table_spec.specs.Groups.{plain_text}
-use Rattle.table_spec.specs.Frame.{longest_line}
 use Rattle.table_write_law.specs.Numbers.{low_length}
-use Rattle.table_write_law.proofs.EightyBytes.{over, ends, byte, Ordinary, Lined, onward}
 use Rattle.decimal_spec.specs.Number.{bound}
-use Rattle.file_spec.specs.Texts.{XFACTOR, YFACTOR, FIRSTX, LASTX, NPOINTS, FIRSTY, XYDATA, LIST}
 use Rattle.file_write_spec.specs.declared.GivenDecimal.{GivenDecimal}
 use Rattle.file_write_spec.specs.declared.Scales.{Scales}
-use Rattle.file_write_spec.specs.Records.{crlf, entry_text, entries_text, line}
+use Rattle.file_write_spec.specs.Records.{crlf}
 use Rattle.file_write_spec.specs.Decimals.{mantissa_text, exponent_text, decimal_text, negative, decimal_taken, factor_taken}
-use Rattle.file_write_spec.specs.File.{printable, dollars, title_legal, scales_legal, table, needed, end_line, file_entries, file_text}
+use Rattle.file_write_spec.specs.File.{printable, dollars, title_legal, scales_legal, file_entries, file_text}
 use Rattle.file_write_law.specs.Texts.{entries_length}
-use Rattle.file_write_law.specs.Settled.{OneLine, title_line, count_line, decimal_line}
+use Rattle.file_write_law.specs.Settled.{OneLine, title_line}
 
 -- ---- what is asked of the parts, taken apart
 

@@ -1,15 +1,12 @@
 -- No line of a written text begins with `#`, and each text ends a line: so no label ends a text too early, and each stands first on its line. Assumes nothing.
-use Rattle.std.specs.Prelude.{◌≡◌, refl, Bool, true, false, List, [], ◌∷◌, ◌++◌, ℕ, suc, ◌+◌, ◌/◌, ◌%◌, eqb, leb, ℤ, pos, negsuc}
-use Rattle.std.proofs.Common.{sym, subst, arith, ne_eqb, leb-true}
-use Rattle.terms.specs.Logic.{pick, both, both_true, no_way}
-use Rattle.label_spec.specs.Names.{blank}
+use Rattle.std.specs.Prelude.{◌≡◌, true, List, [], ◌∷◌, ◌++◌, ℕ, suc, ◌+◌, ◌/◌, ◌%◌, leb, ℤ, pos, negsuc}
+use Rattle.std.proofs.Common.{arith, leb-true}
+use Rattle.terms.specs.Logic.{both, both_true}
 use Rattle.table_spec.specs.Groups.{plain_text}
-use Rattle.table_write_law.proofs.EightyBytes.{LinedOf, over, ends, byte, Ordinary, Inner, high, Each, Above, joined, plain_above}
+use Rattle.table_write_law.proofs.EightyBytes.{Ordinary, high, Each, Above, joined, plain_above}
 use Rattle.file_write_spec.specs.declared.GivenDecimal.{GivenDecimal}
-use Rattle.file_write_spec.specs.Records.{crlf}
 use Rattle.file_write_spec.specs.Decimals.{mantissa_text, exponent_text, decimal_text}
 use Rattle.file_write_spec.specs.File.{printable}
-use Rattle.file_write_law.specs.Labels.{Settles}
 
 -- ---- one line: no CR and no LF stands in it
 

@@ -1,8 +1,8 @@
 -- The abscissa of a point, rounded to the nearest thousandth, passes the check of heads in every frame (01, "Checks" and "The written text"; 02, T-03), so refusal 14 is never needed.
 -- m is one less than the number of points. Assumes nothing.
-use Rattle.std.specs.Prelude.{◌≡◌, Bool, true, false, ℕ, ◌+◌, ◌-◌, ◌*◌, ◌/◌, ◌%◌, ◌≤◌, ◌<◌, eqb}
+use Rattle.std.specs.Prelude.{◌≡◌, Bool, true, false, ℕ, ◌+◌, ◌-◌, ◌*◌, ◌/◌, ◌≤◌, ◌<◌, eqb}
 use Rattle.std.proofs.Math.Path.{refl}
-use Rattle.std.proofs.Common.{ap, ◌∙◌, arith, mul-add, add-mul, mul_comm, div-add-mod', mod-lt, mul-le-mul_right, le-div_iff_mul-le, div-lt_iff_lt-mul, le-leb, eq-eqb, ne_eqb, eqb-true}
+use Rattle.std.proofs.Common.{ap, ◌∙◌, arith, mul-add, add-mul, mul_comm, mul-le-mul_right, le-div_iff_mul-le, div-lt_iff_lt-mul, le-leb, eq-eqb, ne_eqb, eqb-true}
 use Rattle.std.proofs.lemmas.Bool.{eqb-false}
 use Rattle.terms.specs.Logic.{pick, by_case}
 use Rattle.table_spec.specs.Frame.{apart, exact, nearest, twice_off, within_spacing, within_unit, passes}

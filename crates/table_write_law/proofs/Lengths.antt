@@ -1,29 +1,20 @@
 -- How long the written text is at most in each of the four forms (02, T-02): 15 bytes for each point and 44 more, so never longer than a body may be. Assumes nothing.
 -- A line that is full has at least five points on it. In DIFDUP a point pays 10 bytes for its token and 5 towards the next line's end, head and check value; in the others 12 and 3.
-use Rattle.std.specs.Prelude.{◌≡◌, refl, Bool, ltb, leb}
-use Rattle.std.proofs.Math.Bool.{true, false}
-use mathlib.Core.List.{List, [], ◌∷◌, ◌++◌}
-use Prim.Native.Nat.{ℕ, zero, suc, ◌+◌, ◌-◌, ◌*◌, ◌/◌, ◌%◌, ◌≤◌, ◌<◌}
+use Rattle.std.specs.Prelude.{◌≡◌, refl}
+use Rattle.std.proofs.Math.Bool.{true}
+use mathlib.Core.List.{List, [], ◌∷◌}
+use Prim.Native.Nat.{ℕ, ◌+◌, ◌*◌, ◌≤◌, ◌<◌}
 use native.Mathlib.Omega.{arith}
-use Rattle.std.proofs.Common.{not-suc-le-zero, le_of_suc-le-suc}
-use Rattle.std.proofs.Math.ListN.{length, length-append}
-use borrow.Author.Tests.{leb-false}
-use Rattle.terms.specs.Logic.{pick, by_case}
-use Rattle.alphabet_spec.specs.Kinds.{Lead, sqz, dif, dup}
-use Rattle.table_spec.specs.Frame.{nearest, zero_ordinate, longest_body, longest_line}
-use Rattle.table_spec.specs.Values.{Form, Own, Gap, By, Dup, is_dif}
-use Rattle.table_spec.specs.Numerals.{low, numeral, head_text}
-use Rattle.table_spec.specs.Groups.{form, sqz_text, token_text, many, dup_text, group}
-use Rattle.table_spec.specs.Writing.{put, check, open_line, go_on, close, text, lines_of, written}
-use Rattle.table_write_law.specs.Numbers.{numeral_length}
+use Rattle.std.proofs.Math.ListN.{length}
+use Rattle.table_spec.specs.Frame.{nearest, longest_body}
+use Rattle.table_spec.specs.Numerals.{head_text}
+use Rattle.table_spec.specs.Writing.{written}
 use Rattle.table_write_law.proofs.Abscissas.{nearest_range}
 use Rattle.table_write_law.specs.Heads.{head_length}
-use Rattle.table_write_law.specs.Tokens.{many_le, form_cases}
 use Rattle.table_write_law.proofs.Written.{Takes}
 use Rattle.table_spec.specs.declared.Style.{Style}
 use Rattle.table_spec.specs.declared.Style.TheVariants.{Affn, Pac, Sqz, Difdup}
-use Rattle.table_spec.specs.Groups.{in_full, form, sqz_text, plain_text, pac_text, affn_text, own_text, gap_text, token_text, many, dup_text, group}
-use Rattle.table_write_law.specs.Plain.{value_text, values, never_dif, plain_group, plain_lines}
+use Rattle.table_spec.specs.Groups.{in_full}
 use Rattle.table_write_law.specs.Lengths.{lines_most, one_most, plain_lines_most}
 
 -- ---- the text of a frame that the writer takes

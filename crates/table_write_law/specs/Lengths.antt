@@ -10,13 +10,12 @@ use Rattle.std.proofs.Math.ListN.{length, length-append}
 use borrow.Author.Tests.{leb-false}
 use Rattle.terms.specs.Logic.{pick, by_case}
 use Rattle.alphabet_spec.specs.Kinds.{Lead, sqz, dif, dup}
-use Rattle.table_spec.specs.Frame.{nearest, zero_ordinate, longest_body, longest_line}
+use Rattle.table_spec.specs.Frame.{zero_ordinate, longest_line}
 use Rattle.table_spec.specs.Values.{Form, Own, Gap, By, Dup, is_dif}
-use Rattle.table_spec.specs.Numerals.{low, numeral, head_text}
+use Rattle.table_spec.specs.Numerals.{low, numeral}
 use Rattle.table_spec.specs.Groups.{form, sqz_text, token_text, many, dup_text, group}
-use Rattle.table_spec.specs.Writing.{put, check, open_line, go_on, close, text, lines_of, written}
+use Rattle.table_spec.specs.Writing.{put, check, open_line, go_on, close, text, lines_of}
 use Rattle.table_write_law.specs.Numbers.{numeral_length}
-use Rattle.table_write_law.specs.Heads.{head_length}
 use Rattle.table_write_law.specs.Tokens.{many_le, form_cases}
 use Rattle.table_spec.specs.declared.Style.{Style}
 use Rattle.table_spec.specs.declared.Style.TheVariants.{Affn, Pac, Sqz, Difdup}
