@@ -5,7 +5,7 @@ use file_spec::FileTable;
 use terms::Refusal;
 
 // Where the text of a record stands: on the site's page or in the file, from one place up to another.
-#[derive(Drop)]
+#[derive(Clone, Copy)]
 pub struct Shown {
     pub page: bool,
     pub from: usize,

@@ -13,7 +13,7 @@ walk_block-requires c = let o = rw c.in-Title.is at c.open_title.ensures.1 in (o
 pub count_more-count-requires : goal.count_more-count-requires
 count_more-count-requires c =
     let w = rw c.in-Ended.is at c.walk_block.ensures in
-    let k = c.NOFIELD-well-formed in
+    let k = c.well_formed in
     omega (arith, k, w.few, w.mid, w.high)
 
 pub returns-in-Refused : goal.returns-in-Refused

@@ -9,6 +9,7 @@ use Rattle.table_steps.specs.Ways.{Been}
 use Rattle.table_value.proofs.Walks.{went_none}
 use Rattle.table_steps.proofs.Ways.{onward_end}
 use Rattle.table_runs.proofs.differences.Goals as goal
+use Rattle.table_runs.proofs.differences.Goals.{else-loop-w-test, then-loop-w-test+then-w-at}
 
 pub returns-then-not-roomy : goal.returns-then-not-roomy
 returns-then-not-roomy c = went_none _ _ c.requires.1
@@ -44,18 +45,20 @@ onward-w-requires c =
 
 pub loop-w-smaller : goal.loop-w-smaller
 loop-w-smaller c =
-    let i = c.loop-w.inv.2 in let f = c.onward-w.ensures.fewer in
+    let i = c.loop-w.invariant.2 in let f = c.onward-w.ensures.fewer in
     ⊎_elim (λ x. absurd (c.if-w-at.false x)) (λ x. omega arith) c.onward-w.ensures.moves
 
 pub loop-w-preserved : goal.loop-w-preserved
 loop-w-preserved c =
-    let been : let a = c.args in Been a.points a.s.now a.c c.onward-w.result a.out.now c.onward-w.new.1.0 = c.onward-w.ensures.been _ _ _ c.NOFIELD-pre.1 c.loop-w.inv.2 c.loop-w.inv.1 in
-    let i = c.loop-w.inv.2 in let f = c.onward-w.ensures.fewer in (c.onward-w.ensures.safe, been, omega arith, search rules)
+    let been : let a = c.args in Been a.points a.s.now a.c c.onward-w.result a.out.now c.onward-w.new.out = c.onward-w.ensures.been _ _ _ c.requires.1 c.loop-w.invariant.2 c.loop-w.invariant.1 in
+    let i = c.loop-w.invariant.2 in let f = c.onward-w.ensures.fewer in (c.onward-w.ensures.safe, been, omega arith, search rules)
 
 pub returns : goal.returns
 returns c =
-    let ended : let a = c.args in Been a.points a.s.now a.c c.loop-w-test.w a.out.now c.loop-w-test.out × (length c.loop-w-test.out ≡ length a.out.now) = let i = c.loop-w.invariant in
-    ⊎_elim (λ x. rw (x.1, x.2) (i.1, i.3))
-    (λ x. let o : goal.After-onward-w invariant-loop decreases-loop = record { before = record { before = record { before = c.before; if2 = x.0 }; onward-arg = x.1 }; onward = x.2 } in
-    rw (x.6, x.7) (been o, search rules)) c.loop-w-test.branch in
-    rw c.after_run.ensures (onward_end c.loop-w-test.w c.NOFIELD-pre.1 ended.0)
+    let a = c.args in
+    let i = c.loop-w.invariant in
+    let ended : Been a.points a.s.now a.c c.loop-w-test.w a.out.now c.loop-w-test.out = elim c.loop-w-test.branch [
+        else-loop-w-test w ↦ rw (w.w-is, w.out-is) i.1
+        | then-loop-w-test+then-w-at w ↦ rw (w.w-is, w.out-is) (w.onward-w.ensures.been _ _ _ c.requires.1 i.2 i.1)
+    ] in
+    rw c.after_run.ensures (onward_end c.loop-w-test.w c.requires.1 ended)

@@ -4,6 +4,7 @@ use lib.ListN.{length-map}
 use Rattle.table_spec.specs.Frame.{ordinate_of}
 use Rattle.text_differences.proofs.LoneSteps.{stored_none}
 use borrow.Author.Rules.{rules}
+use borrow.Author.Tests.{not-false}
 use Rattle.text_differences.proofs.put_differences.Goals as goal
 
 pub returns-then-s-eq0 : goal.returns-then-s-eq0
@@ -27,4 +28,4 @@ returns-then-out-line c =
 pub put_lone-requires : goal.put_lone-requires
 put_lone-requires c =
     let p = c.requires in
-    (p.0, p.1, p.2, c.if-not-s.false, omega (arith, c.if-s-eq0.false), omega (arith, c.if-out-line.false))
+    (p.0, p.1, p.2, not-false _ c.if-not-s.false, omega (arith, c.if-s-eq0.false), omega (arith, c.if-out-line.false))

@@ -1,0 +1,22 @@
+-- `file_texts::decimal_alone` meets its contract: the number, if nothing but blanks, line ends and comments stands around it.
+use mathlib.Core.Path.{sym, ◌∙◌}
+use Rattle.file_texts.proofs.NumberLaws.{decimal_no, decimal_late, decimal_is}
+use borrow.Author.Rules.{rules}
+use Rattle.file_texts.proofs.decimal_alone.Goals as goal
+
+pub past_space-requires : goal.past_space-requires
+past_space-requires c = let x = rw c.in-Decimal.is at c.number.ensures.good in x.2
+
+pub returns-then-past_space-part : goal.returns-then-past_space-part
+returns-then-past_space-part c =
+    let said = sym c.in-Decimal.is ∙ c.number.ensures.says in
+    (decimal_late _ _ c.past_space-at.ensures.is _ _ _ _ said _ c.past_space.ensures.is c.if-past_space-part.true, tt)
+
+pub returns-in-Misspelled : goal.returns-in-Misspelled
+returns-in-Misspelled c = (decimal_no _ _ c.past_space-at.ensures.is (sym c.in-Misspelled.is ∙ c.number.ensures.says), tt)
+
+pub returns-else-past_space-part : goal.returns-else-past_space-part
+returns-else-past_space-part c =
+    let said = sym c.in-Decimal.is ∙ c.number.ensures.says in
+    let good = rw c.in-Decimal.is at c.number.ensures.good in
+    (decimal_is _ _ c.past_space-at.ensures.is _ _ _ _ said _ c.past_space.ensures.is c.if-past_space-part.false, record { mantissa = good.0; power = good.1 })

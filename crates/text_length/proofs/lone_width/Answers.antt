@@ -1,0 +1,17 @@
+-- `text_length::lone_width` meets its contract: the bytes of the DIF for y after p, if it stands alone before z; else more than a line has.
+use mathlib.Core.Path.{◌∙◌}
+use native.Mathlib.Omega.{arith}
+use Rattle.text_differences.proofs.LoneSteps.{lone_gap, lone_again, lone_alone}
+use borrow.Author.Rules.{rules}
+use Rattle.text_length.proofs.lone_width.Goals as goal
+
+pub returns-then-y-eq0 : goal.returns-then-y-eq0
+returns-then-y-eq0 c = (lone_gap _ _ _ c.if-y-eq0.true, omega arith)
+
+pub returns-then-p-z : goal.returns-then-p-z
+returns-then-p-z c = (lone_again _ _ _ c.if-y-eq0.false c.if-p-z.true, omega arith)
+
+pub returns : goal.returns
+returns c =
+    let w = c.dif_width.ensures in
+    (w.0 ∙ lone_alone _ _ _ c.if-y-eq0.false c.if-p-z.false, omega (arith, w.1))

@@ -1,0 +1,13 @@
+-- `text_length::measure` meets its contract: the text's length.
+use Prim.Native.Nat.{◌-◌, ◌<◌, ◌≤◌}
+use borrow.Author.Rules.{rules}
+use lib.ListN.{length}
+use Rattle.table_text.specs.Pieces.{head_of, ordinates}
+use Rattle.text_openings.specs.Lines.{Going}
+use Rattle.text_length.proofs.measure.Given as goal
+
+abbrev pub invariant-loop-i : goal.invariant-loop-i
+invariant-loop-i l = Going (head_of l.fr) (ordinates l.ys) l.initial.none l.initial.s l.none l.s l.i × (l.s.given < length l.ys → l.s.column ≤ 60)
+
+abbrev pub decreases-loop-i : goal.decreases-loop-i
+decreases-loop-i l = length l.ys - l.i
