@@ -109,6 +109,26 @@ module _ (R : Rules) (j e d : ℕ) (differ : e ≡ d → ⊥) where
   line_fails (head k n v r) (head l n' v' s) zs (heads i) o g z = absurd o
   line_fails (value k x r) (value l x' s) zs (values i) o g z = ((l, refl, check_fails k l x r s zs z), refl)
   line_fails (line r) (line s) zs (lines i) o g z = no_way (sym g)
+  line_fails (over k) (fault c' l) zs alike o g z = elim alike [ ]
+  line_fails (over k) (head l n' v' s) zs alike o g z = elim alike [ ]
+  line_fails (over k) (value l x' s) zs alike o g z = elim alike [ ]
+  line_fails (over k) (line s) zs alike o g z = elim alike [ ]
+  line_fails (fault c k) (over l) zs alike o g z = elim alike [ ]
+  line_fails (fault c k) (head l n' v' s) zs alike o g z = elim alike [ ]
+  line_fails (fault c k) (value l x' s) zs alike o g z = elim alike [ ]
+  line_fails (fault c k) (line s) zs alike o g z = elim alike [ ]
+  line_fails (head k n v r) (over l) zs alike o g z = elim alike [ ]
+  line_fails (head k n v r) (fault c' l) zs alike o g z = elim alike [ ]
+  line_fails (head k n v r) (value l x' s) zs alike o g z = elim alike [ ]
+  line_fails (head k n v r) (line s) zs alike o g z = elim alike [ ]
+  line_fails (value k x r) (over l) zs alike o g z = elim alike [ ]
+  line_fails (value k x r) (fault c' l) zs alike o g z = elim alike [ ]
+  line_fails (value k x r) (head l n' v' s) zs alike o g z = elim alike [ ]
+  line_fails (value k x r) (line s) zs alike o g z = elim alike [ ]
+  line_fails (line r) (over l) zs alike o g z = elim alike [ ]
+  line_fails (line r) (fault c' l) zs alike o g z = elim alike [ ]
+  line_fails (line r) (head l n' v' s) zs alike o g z = elim alike [ ]
+  line_fails (line r) (value l x' s) zs alike o g z = elim alike [ ]
 
   -- what follows an accepted line in DIF form, moved, after a line in DIF form that ends on another ordinate
   pub next_fails : (x y : Tokens) (f g : Form) (zs : List ℕ) → Alike x y → Starts x → HeadsClosed x → is_dif f ≡ true → is_dif g ≡ true → judge R x j e (after f) ≡ accept zs
@@ -127,3 +147,23 @@ module _ (R : Rules) (j e d : ℕ) (differ : e ≡ d → ⊥) where
       (λ _ v w. no_accept w) refl (rw p at z)
   next_fails (value a x r) (value b x' s) f g zs (values i) o n p q z = absurd o
   next_fails (line r) (line s) f g zs (lines i) o n p q z = absurd o
+  next_fails (over k) (fault c' l) f g zs alike o n p q z = elim alike [ ]
+  next_fails (over k) (head b h' u' s) f g zs alike o n p q z = elim alike [ ]
+  next_fails (over k) (value b x' s) f g zs alike o n p q z = elim alike [ ]
+  next_fails (over k) (line s) f g zs alike o n p q z = elim alike [ ]
+  next_fails (fault c k) (over l) f g zs alike o n p q z = elim alike [ ]
+  next_fails (fault c k) (head b h' u' s) f g zs alike o n p q z = elim alike [ ]
+  next_fails (fault c k) (value b x' s) f g zs alike o n p q z = elim alike [ ]
+  next_fails (fault c k) (line s) f g zs alike o n p q z = elim alike [ ]
+  next_fails (head a h u r) (over l) f g zs alike o n p q z = elim alike [ ]
+  next_fails (head a h u r) (fault c' l) f g zs alike o n p q z = elim alike [ ]
+  next_fails (head a h u r) (value b x' s) f g zs alike o n p q z = elim alike [ ]
+  next_fails (head a h u r) (line s) f g zs alike o n p q z = elim alike [ ]
+  next_fails (value a x r) (over l) f g zs alike o n p q z = elim alike [ ]
+  next_fails (value a x r) (fault c' l) f g zs alike o n p q z = elim alike [ ]
+  next_fails (value a x r) (head b h' u' s) f g zs alike o n p q z = elim alike [ ]
+  next_fails (value a x r) (line s) f g zs alike o n p q z = elim alike [ ]
+  next_fails (line r) (over l) f g zs alike o n p q z = elim alike [ ]
+  next_fails (line r) (fault c' l) f g zs alike o n p q z = elim alike [ ]
+  next_fails (line r) (head b h' u' s) f g zs alike o n p q z = elim alike [ ]
+  next_fails (line r) (value b x' s) f g zs alike o n p q z = elim alike [ ]
