@@ -16,7 +16,7 @@ use Rattle.plain_law.specs.Single.{Single}
 use Rattle.plain_law.specs.Lines.{cut}
 use Rattle.place_on.specs.HeadOnly.{HeadOnly}
 use Rattle.place_on.specs.Stuck.{none_after_full, none_after_narrow}
-use Rattle.place_before.specs.Before.{Writable, AfterHead, Elsewhere, is_4, is_6, is_7, is_12, is_13, is_16, CanStay, NoneBegins, CheckDue, Before, can_stay, but_full, but_narrow}
+use Rattle.place_before.specs.Before.{Writable, AfterHead, is_3, is_5, is_8, is_9, is_10, is_11, Elsewhere, is_4, is_6, is_7, is_12, is_13, is_16, CanStay, NoneBegins, CheckDue, Before, can_stay, but_full, but_narrow}
 use Rattle.place_before.specs.Completes.{as_sqz, short_line, completes}
 use Rattle.place_before.specs.ValueLaws.{dif_owed}
 use Rattle.place_before.specs.OneLine.{bytes_before, bytes_all, no_lf_end}
@@ -151,13 +151,21 @@ before_place R W s c z e = stays (find R (cut s) 0 0 0 (after Own) c z (omega ar
         rw (y, take_at (kept ++ k) (r ++ rest) z l) x.4
 
 -- no value gets them
+elsewhere : {c : ℕ} → Elsewhere c → (c ≡ 3 → ⊥) × (c ≡ 5 → ⊥) × (c ≡ 8 → ⊥) × (c ≡ 9 → ⊥) × (c ≡ 10 → ⊥) × (c ≡ 11 → ⊥)
+elsewhere is_4 = (λ e. omega arith, λ e. omega arith, λ e. omega arith, λ e. omega arith, λ e. omega arith, λ e. omega arith)
+elsewhere is_6 = (λ e. omega arith, λ e. omega arith, λ e. omega arith, λ e. omega arith, λ e. omega arith, λ e. omega arith)
+elsewhere is_7 = (λ e. omega arith, λ e. omega arith, λ e. omega arith, λ e. omega arith, λ e. omega arith, λ e. omega arith)
+elsewhere is_12 = (λ e. omega arith, λ e. omega arith, λ e. omega arith, λ e. omega arith, λ e. omega arith, λ e. omega arith)
+elsewhere is_13 = (λ e. omega arith, λ e. omega arith, λ e. omega arith, λ e. omega arith, λ e. omega arith, λ e. omega arith)
+elsewhere is_16 = (λ e. omega arith, λ e. omega arith, λ e. omega arith, λ e. omega arith, λ e. omega arith, λ e. omega arith)
+
 not_after_head : {due : Bool} {c : ℕ} → Elsewhere c → AfterHead due c → ⊥
-not_after_head is_4 = elim [ ]
-not_after_head is_6 = elim [ ]
-not_after_head is_7 = elim [ ]
-not_after_head is_12 = elim [ ]
-not_after_head is_13 = elim [ ]
-not_after_head is_16 = elim [ ]
+not_after_head n is_3 = (elsewhere n).0 refl
+not_after_head n is_5 = (elsewhere n).1 refl
+not_after_head n is_8 = (elsewhere n).2 refl
+not_after_head n is_9 = (elsewhere n).3 refl
+not_after_head n is_10 = (elsewhere n).4 refl
+not_after_head n is_11 = (elsewhere n).5 refl
 
 -- with them there is no exception
 pub all_stays : (R : Rules) → Writable R → (s : List ℕ) (c z : ℕ) → read R s ≡ refuse c z → Elsewhere c → CanStay R (take z s)
