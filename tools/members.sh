@@ -1,3 +1,5 @@
-# The members of the library's archive: the crates that export a function to C. Each is compiled by itself, so that what
-# several of them call is inlined into each; `host_table` has the reader of tables alone. To be sourced.
-members="host_table host_plain host_text host_file host_file_text host_blocks host_profile host_night host_detab"
+# The members of the library's archive: the crates that export a function to C, each a static library over the crate
+# that it is named after. Each is compiled by itself, so that what several of them call is inlined into each;
+# `host_table_c` has the reader of tables alone. To be sourced.
+members="host_table_c host_plain_c host_text_c host_file_c host_file_text_c host_blocks_c host_profile_c host_night_c
+    host_detab_c"

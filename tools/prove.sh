@@ -1,11 +1,11 @@
 # For scripts that need something proved and built: shows how far that is, on standard error. To be sourced in the
 # repository's root.
 
-# Is a file there, and none of these files and folders newer?  is_current FILE OTHER ..
+# Is a file there, and none of these files and folders newer, what rt has made in out/ aside?  is_current FILE OTHER ..
 is_current() {
     local made=$1
     shift
-    [ -e "$made" ] && [ -z "$(find "$@" -newer "$made" -print -quit)" ]
+    [ -e "$made" ] && [ -z "$(find "$@" -name out -prune -o ! -type d -newer "$made" -print -quit)" ]
 }
 
 # How many crates some crates need, themselves counted.
@@ -18,7 +18,7 @@ crates_needed() {
             return count
         }
         { sub(/#.*/, "") }
-        i = index($0, ":") { needs[substr($0, 1, i - 1)] = substr($0, i + 1) }
+        i = index($0, ":") { name = substr($0, 1, i - 1); sub(/ .*/, "", name); needs[name] = substr($0, i + 1) }
         END {
             for (k = split(wanted, names, " "); k > 0; k--) count += visit(names[k])
             print count
@@ -30,7 +30,7 @@ crates_needed() {
 show_progress() {
     local total=$1 proved=0 said=-10 line name
     while IFS= read -r line; do
-        [[ $line =~ ^rt:\ ([a-z0-9_]+)\ proved\ \( ]] || continue
+        [[ $line =~ ^crate\ ([a-z0-9_]+):\ modules ]] || continue
         name=${BASH_REMATCH[1]}
         proved=$((proved + 1))
         if [ -t 2 ]; then
@@ -50,32 +50,39 @@ failed_with_log() {
     exit 1
 }
 
-# Proves crates and all that they need, and shows how far that is.
+# Says how much there is to prove, and runs a command that proves it, with how far that is.  prove LOG CRATES COMMAND ..
 prove() {
-    local log=target/prove-$1.log total
+    local log=target/$1.log total
     command -v rt > /dev/null || { echo "the Rattle toolchain is wanted, and there is no rt" >&2 && exit 1; }
-    total=$(crates_needed "$@")
+    total=$(crates_needed $2)
     mkdir -p target
-    if [ ! -e target/rlib/terms.rlib ]; then
-        echo "first use: $total crates are proved and built, which takes some 10 minutes on two cores" >&2
+    if [ ! -e crates/terms/out/rlib ]; then
+        echo "first use: up to $total crates are proved and built, which takes a while" >&2
     else
         echo "the crates have changed, or were not all proved: proving what is new of $total" >&2
     fi
-    rt check "$@" < /dev/null 2>&1 | tee "$log" | show_progress "$total" || failed_with_log "$log"
+    "${@:3}" < /dev/null 2>&1 | tee "$log" | show_progress "$total" || failed_with_log "$log"
 }
 
 # Proves the library and makes its archive.
 prove_library() {
     . tools/members.sh
-    prove $members
-    echo "making the library's archive" >&2
-    tools/library > target/library.log 2>&1 || failed_with_log target/library.log
+    prove prove-library "$members" tools/library
 }
 
-# Proves and builds a program, target/bin/NAME, if it is absent or older than its sources.
+# Proves and builds a program, and runs it on no input, as rt has no command that only builds one.
+build_program() {
+    cd "crates/$1"
+    rt run
+}
+
+# Proves and builds a program, target/bin/NAME, and its object, target/obj/NAME.o, if it is absent or older than its
+# sources.
 prove_program() {
     if ! is_current "target/bin/$1" crates crates.txt; then
-        prove "$1"
-        touch "target/bin/$1"
+        prove "prove-$1" "$1" build_program "$1"
+        mkdir -p target/bin target/obj
+        cp "crates/$1/out/$1.o" target/obj
+        cp "crates/$1/out/$1" target/bin
     fi
 }

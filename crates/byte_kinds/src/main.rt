@@ -1,9 +1,7 @@
 // The byte table of before T-05, and a comparison of all 256 bytes with it (02, T-05: "The old table stays in the tests and is compared for all 256 bytes").
 #![tactic(auto)]
 
-
-// Standard output.
-const OUTPUT: i32 = 1;
+use std::io;
 
 // 16 times a byte's kind, and its digit, as the table had them; but the tab, 9, is outside the alphabet since T-13.
 const TABLE: [u8; 256] = [
@@ -23,39 +21,29 @@ const TABLE: [u8; 256] = [
 ];
 
 // Has the byte the kind and the digit of the old entry? If not, it is printed with both.
-fn alike(b: u8, old: u8) -> bool {
+fn alike(rt: &impl Print, b: u8, old: u8) -> io::Result<bool> {
     let e = alphabet::entry_of(b);
     if e / 16 == old as u64 / 16 {
         if e % 16 == old as u64 % 16 {
-            return true;
+            return Ok(true);
         }
     }
-    io::write_all(OUTPUT, b"byte ");
-    io::print_decimal(OUTPUT, b as u64);
-    io::write_all(OUTPUT, b": ");
-    io::print_decimal(OUTPUT, e);
-    io::write_all(OUTPUT, b", not ");
-    io::print_decimal(OUTPUT, old as u64);
-    io::write_all(OUTPUT, b"\n");
-    false
+    println!(rt; "byte {b}: {e}, not {old}")?;
+    Ok(false)
 }
 
 // Compares every byte.
-fn main() {
+fn main(rt: HostRuntime) -> io::Result<()> {
     let t = TABLE;
     let mut same = true;
-    let mut i: usize = 0;
-    while i < 256 {
-        if !alike(i as u8, t[i]) {
+    for b in 0u8..=255 {
+        if !alike(&rt, b, t[b as usize])? {
             same = false;
         }
-        i += 1;
     }
     if same {
-        io::print_decimal(OUTPUT, i as u64);
-        io::write_all(
-            OUTPUT,
-            b" bytes have the kind and the digit of the old table\n",
-        );
+        let n = t.len();
+        println!(rt; "{n} bytes have the kind and the digit of the old table")?;
     }
+    Ok(())
 }

@@ -3,10 +3,9 @@
 #![tactic(auto)]
 
 use compound_spec::BlocksFound;
-use report::{INPUT, OUTPUT};
-
-// Standard error.
-const ERRORS: i32 = 2;
+use standard_input::read_full;
+use std::io;
+use std::io::Print;
 
 // The most bytes that are read, as jdx has it.
 const LONGEST_INPUT: usize = 49152;
@@ -25,15 +24,13 @@ fn convert_block(file: &mut [u8], from: usize, to: usize) -> bool {
 // Converts the data blocks, so many of them. Has any of them a body?
 fn convert_each(file: &mut [u8], blocks: &[u64; BLOCK_NUMBERS], n: usize) -> bool {
     let mut found = false;
-    let mut i = 0;
-    while i + 4 <= BLOCK_NUMBERS {
-        if i / 4 >= n {
+    for k in 0..BLOCK_NUMBERS / 4 {
+        if k >= n {
             return found;
         }
-        if convert_block(file, blocks[i] as usize, blocks[i + 1] as usize) {
+        if convert_block(file, blocks[4 * k] as usize, blocks[4 * k + 1] as usize) {
             found = true;
         }
-        i += 4;
     }
     found
 }
@@ -52,25 +49,20 @@ fn convert(file: &mut [u8]) -> bool {
 }
 
 // Converts a file and writes it.
-fn answer(file: &mut [u8]) {
+fn answer(output: &impl Print, errors: &impl Print, file: &mut [u8]) -> io::Result<()> {
     if !convert(file) {
-        io::write_all(
-            ERRORS,
-            b"no body of a table was found: the file is written as it was\n",
-        );
+        errors.write_all(b"no body of a table was found: the file is written as it was\n")?;
     }
-    io::write_all(OUTPUT, file);
+    output.write_all(file)
 }
 
-fn main() {
+fn main(rt: HostRuntime) -> io::Result<()> {
+    let errors = rt.stderr();
     let mut file = [0u8; LONGEST_INPUT + 1];
-    let n = io::read_full(INPUT, &mut file);
+    let n = read_full(&mut rt.stdin(), &mut file);
     if n > LONGEST_INPUT {
-        io::write_all(
-            ERRORS,
-            b"the input has more than 49152 bytes: nothing is written\n",
-        );
+        errors.write_all(b"the input has more than 49152 bytes: nothing is written\n")
     } else {
-        answer(&mut file[..n]);
+        answer(&rt.stdout(), &errors, &mut file[..n])
     }
 }

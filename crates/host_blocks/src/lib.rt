@@ -7,12 +7,7 @@ ghost use Rattle.host_blocks.specs.Answers.{BlocksTold, BlockTold, BlockRecordTo
 use host_read::{tell_block, tell_blocks, tell_record};
 
 // Finds the data blocks of a file (02, T-07): refused, place, line, column, compound, blocks.
-#[unsafe(no_mangle)]
-pub extern "C" fn lastarunc_find_blocks(
-    file: &[u8],
-    blocks: &mut [u64],
-    answer: &mut [u64; 6],
-) -> u64
+pub fn lastarunc_find_blocks(file: &[u8], blocks: &mut [u64], answer: &mut [u64; 6]) -> u64
     ensures { BlocksTold file.now blocks.old blocks.new answer.new result }
 {
     let found = compound_find::find_blocks(file, blocks);
@@ -20,8 +15,7 @@ pub extern "C" fn lastarunc_find_blocks(
 }
 
 // Reads a data block (02, T-07), whose numbers are from, to, start, end: as a file is read. A negative number is one beyond every file here.
-#[unsafe(no_mangle)]
-pub extern "C" fn lastarunc_read_block(
+pub fn lastarunc_read_block(
     file: &[u8],
     block: &[u64; 4],
     out: &mut [i32],
@@ -36,8 +30,7 @@ pub extern "C" fn lastarunc_read_block(
 }
 
 // Finds the text of a record of a data block (02, T-07): refused, place, line, column, from, to.
-#[unsafe(no_mangle)]
-pub extern "C" fn lastarunc_find_in_block(
+pub fn lastarunc_find_in_block(
     file: &[u8],
     block: &[u64; 4],
     name: &[u8],

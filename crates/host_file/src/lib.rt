@@ -7,8 +7,7 @@ ghost use Rattle.host_file.specs.Answers.{FileTold, RecordTold};
 use host_read::{tell_file, tell_record};
 
 // Reads a file: refused, place, line, column, points, first, last, and whether F, L and FIRSTY's quotient are exact.
-#[unsafe(no_mangle)]
-pub extern "C" fn lastarunc_read_file(file: &[u8], out: &mut [i32], answer: &mut [u64; 10]) -> u64
+pub fn lastarunc_read_file(file: &[u8], out: &mut [i32], answer: &mut [u64; 10]) -> u64
     ensures { FileTold file.now out.old out.new answer.new result }
 {
     let read = file::read_file(file, out);
@@ -16,8 +15,7 @@ pub extern "C" fn lastarunc_read_file(file: &[u8], out: &mut [i32], answer: &mut
 }
 
 // Finds the text of a record: refused, place, line, column, from, to.
-#[unsafe(no_mangle)]
-pub extern "C" fn lastarunc_find_record(file: &[u8], name: &[u8], answer: &mut [u64; 6]) -> u64
+pub fn lastarunc_find_record(file: &[u8], name: &[u8], answer: &mut [u64; 6]) -> u64
     ensures { RecordTold file.now name.now answer.new result }
 {
     let found = label::find(file, name);

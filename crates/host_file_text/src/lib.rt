@@ -58,8 +58,7 @@ fn scales_of(scales: &[i64; 10]) -> Scales
 }
 
 // Writes a file (02, T-04): refused, length, and whether F, L and FIRSTY's quotient are exact.
-#[unsafe(no_mangle)]
-pub extern "C" fn lastarunc_write_file(
+pub fn lastarunc_write_file(
     title: &[u8],
     points: usize,
     scales: &[i64; 10],
@@ -74,8 +73,7 @@ pub extern "C" fn lastarunc_write_file(
 }
 
 // The length of a file (02, T-10): as writing it answers, and never with 15.
-#[unsafe(no_mangle)]
-pub extern "C" fn lastarunc_file_length(
+pub fn lastarunc_file_length(
     title: &[u8],
     points: usize,
     scales: &[i64; 10],

@@ -12,8 +12,7 @@ use night_spec::Reported;
 const NO_WALK: u64 = 18446744073709551615;
 
 // One step of the walk over a spool (02, T-11): the report of the next file, and `progress` is then past it; or the end, `ended` is 1 and `progress`, which has the totals, is as it was.
-#[unsafe(no_mangle)]
-pub extern "C" fn lastarunc_next_report(
+pub fn lastarunc_next_report(
     spool: &[u8],
     out: &mut [i32],
     progress: &mut [u64; 6],

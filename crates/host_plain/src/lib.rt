@@ -4,8 +4,7 @@
 ghost use Rattle.host_table.specs.Answers.{TableTold};
 
 // Reads a table by the plain engine (02, T-14): as `lastarunc_read_table` does, word for word.
-#[unsafe(no_mangle)]
-pub extern "C" fn lastarunc_read_plain(
+pub fn lastarunc_read_plain(
     first: i64,
     last: i64,
     points: usize,

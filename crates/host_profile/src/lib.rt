@@ -9,8 +9,7 @@ use profile_spec::ProfileRead;
 
 // Reads a profile (02, T-09), with the site's page beside the file: refused, place, line, column, points, first, last, whether F, L and FIRSTY's quotient are exact, and whether the refusal is on
 // the page. `shown` has three numbers a record in 001's order: whether it is on the page, and from where up to where its text stands.
-#[unsafe(no_mangle)]
-pub extern "C" fn lastarunc_read_profile(
+pub fn lastarunc_read_profile(
     file: &[u8],
     page: &[u8],
     out: &mut [i32],

@@ -24,8 +24,7 @@ pub fn tell_table(read: TableRead, answer: &mut [u64; 5]) -> u64
 }
 
 // Reads a table: refused, place, line, column, points.
-#[unsafe(no_mangle)]
-pub extern "C" fn lastarunc_read_table(
+pub fn lastarunc_read_table(
     first: i64,
     last: i64,
     points: usize,

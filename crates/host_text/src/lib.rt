@@ -74,8 +74,7 @@ fn write_style(
 }
 
 // Writes a table in DIFDUP form, and answers as the form does.
-#[unsafe(no_mangle)]
-pub extern "C" fn lastarunc_write_table(
+pub fn lastarunc_write_table(
     first: i64,
     last: i64,
     points: usize,
@@ -89,8 +88,7 @@ pub extern "C" fn lastarunc_write_table(
 }
 
 // Writes a table in the form of this number (02, T-02), and answers as the form does. A number that is no form's is answered too.
-#[unsafe(no_mangle)]
-pub extern "C" fn lastarunc_write_form(
+pub fn lastarunc_write_form(
     form: u64,
     first: i64,
     last: i64,
@@ -108,8 +106,7 @@ pub extern "C" fn lastarunc_write_form(
 }
 
 // The length of a table's text in the form of this number (02, T-10): as writing it answers, and never with 15. A number that is no form's is answered too.
-#[unsafe(no_mangle)]
-pub extern "C" fn lastarunc_text_length(
+pub fn lastarunc_text_length(
     form: u64,
     first: i64,
     last: i64,

@@ -2,7 +2,9 @@
 #![tactic(auto)]
 
 use file_spec::{FileRead, FileTable};
-use report::{INPUT, OUTPUT};
+use standard_input::read_full;
+use std::io;
+use std::io::Print;
 use terms::Refusal;
 
 // The most bytes that are read (01, "Bench samples").
@@ -12,64 +14,67 @@ const LONGEST_INPUT: usize = 49152;
 const MOST_POINTS: usize = 4096;
 
 // `ok`, the points, F and L, and then each ordinate on a line.
-fn show(table: FileTable, out: &[i32; MOST_POINTS]) {
-    io::write_all(OUTPUT, b"ok ");
-    io::print_decimal(OUTPUT, table.points as u64);
-    io::write_all(OUTPUT, b" ");
-    report::print_abscissa(table.first);
-    io::write_all(OUTPUT, b" ");
-    report::print_abscissa(table.last);
-    report::end_line();
-    show_points(out, table.points);
-    explain_rounded(table);
+fn show(
+    output: &impl Print,
+    errors: &impl Print,
+    table: FileTable,
+    out: &[i32; MOST_POINTS],
+) -> io::Result<()> {
+    output.write_all(b"ok ")?;
+    output.print(table.points)?;
+    output.write_all(b" ")?;
+    report::print_abscissa(output, table.first)?;
+    output.write_all(b" ")?;
+    report::print_abscissa(output, table.last)?;
+    report::end_line(output)?;
+    show_points(output, out, table.points)?;
+    explain_rounded(errors, table)
 }
 
 // On standard error, which of F and L was rounded (02, T-08); nothing where both are exact.
-fn explain_rounded(table: FileTable) {
-    let exact = table.exact;
-    if !exact.first {
-        report::explain_rounded(b"FIRSTX", table.first);
+fn explain_rounded(errors: &impl Print, table: FileTable) -> io::Result<()> {
+    if !table.exact.first {
+        report::explain_rounded(errors, b"FIRSTX", table.first)?;
     }
-    if !exact.last {
-        report::explain_rounded(b"LASTX", table.last);
+    if !table.exact.last {
+        report::explain_rounded(errors, b"LASTX", table.last)?;
     }
+    Ok(())
 }
 
 // The first n ordinates, a line each.
-fn show_points(out: &[i32; MOST_POINTS], n: usize) {
-    let mut i = 0;
-    while i < MOST_POINTS {
-        if i >= n {
-            return;
-        }
-        report::print_ordinate(out[i]);
-        report::end_line();
-        i += 1;
+fn show_points(output: &impl Print, out: &[i32; MOST_POINTS], n: usize) -> io::Result<()> {
+    for y in out.iter().take(n) {
+        report::print_ordinate(output, *y)?;
+        report::end_line(output)?;
     }
+    Ok(())
 }
 
 // A refusal on standard output; on standard error where it stands in the file, and what it means.
-fn refuse(file: &[u8], r: Refusal) {
-    report::print_refused(r.number, r.place);
-    report::end_line();
-    report::explain(file, r);
+fn refuse(output: &impl Print, errors: &impl Print, file: &[u8], r: Refusal) -> io::Result<()> {
+    report::print_refused(output, r.number, r.place)?;
+    report::end_line(output)?;
+    report::explain(errors, file, r)
 }
 
 // The answer to a file.
-fn answer(file: &[u8]) {
+fn answer(output: &impl Print, errors: &impl Print, file: &[u8]) -> io::Result<()> {
     let mut out = [0i32; MOST_POINTS];
     match file::read_file(file, &mut out) {
-        FileRead::Accepted(table) => show(table, &out),
-        FileRead::Refused(r) => refuse(file, r),
+        FileRead::Accepted(table) => show(output, errors, table, &out),
+        FileRead::Refused(r) => refuse(output, errors, file, r),
     }
 }
 
-fn main() {
+fn main(rt: HostRuntime) -> io::Result<()> {
+    let output = rt.stdout();
+    let errors = rt.stderr();
     let mut file = [0u8; LONGEST_INPUT + 1];
-    let n = io::read_full(INPUT, &mut file);
+    let n = read_full(&mut rt.stdin(), &mut file);
     if n > LONGEST_INPUT {
-        refuse(&file, text::refusal_in(&file, 19, 0));
+        refuse(&output, &errors, &file, text::refusal_in(&file, 19, 0))
     } else {
-        answer(&file[..n]);
+        answer(&output, &errors, &file[..n])
     }
 }

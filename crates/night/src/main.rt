@@ -5,10 +5,9 @@
 
 use night_print::{print_file, print_stopped, print_whole};
 use night_spec::Reported;
-use report::INPUT;
-
-// Standard error.
-const ERRORS: i32 = 2;
+use standard_input::read_full;
+use std::io;
+use std::io::Print;
 
 // The most bytes of a spool that there is room for.
 const LONGEST_SPOOL: usize = 4194304;
@@ -20,42 +19,44 @@ const MOST_POINTS: usize = 65536;
 const MOST_STEPS: u64 = 1001;
 
 // The report on a spool.
-fn walk(spool: &[u8], out: &mut [i32]) {
+fn walk(
+    output: &impl Print,
+    errors: &impl Print,
+    spool: &[u8],
+    out: &mut [i32],
+) -> io::Result<()> {
     let mut p = night_totals::start();
-    let mut steps = MOST_STEPS;
-    while steps > 0 {
-        steps -= 1;
+    for _ in 0..MOST_STEPS {
         let at = p.at;
         match night_step::report_next(spool, p, out) {
             Reported::Strange => {
-                return;
+                return Ok(());
             }
             Reported::Over(t) => {
-                print_whole(t);
-                return;
+                return print_whole(output, t);
             }
             Reported::Refused { why, totals } => {
-                print_stopped(totals, why);
-                return;
+                return print_stopped(output, errors, totals, why);
             }
             Reported::File { report: f, then } => {
-                print_file(spool, at, then, f);
+                print_file(output, errors, spool, at, then, f)?;
                 p = then;
             }
         }
     }
+    Ok(())
 }
 
-fn main() {
+fn main(rt: HostRuntime) -> io::Result<()> {
+    let errors = rt.stderr();
     let mut spool = [0u8; LONGEST_SPOOL + 1];
     let mut out = [0i32; MOST_POINTS];
-    let n = io::read_full(INPUT, &mut spool);
+    let n = read_full(&mut rt.stdin(), &mut spool);
     if n > LONGEST_SPOOL {
-        io::write_all(
-            ERRORS,
+        errors.write_all(
             b"spool: it has more than 4194304 bytes, and there is no room for it; nothing is reported\n",
-        );
+        )
     } else {
-        walk(&spool[..n], &mut out);
+        walk(&rt.stdout(), &errors, &spool[..n], &mut out)
     }
 }

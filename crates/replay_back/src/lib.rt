@@ -13,15 +13,13 @@ pub const TEXT: usize = 65536;
 
 // Are the first n ordinates those read back?
 pub fn same(ys: &[i32], back: &[i32], n: usize) -> bool {
-    let mut i = 0;
-    while i < n {
+    for i in 0..n {
         if i >= ys.len() || i >= back.len() {
             return false;
         }
         if ys[i] != back[i] {
             return false;
         }
-        i += 1;
     }
     true
 }

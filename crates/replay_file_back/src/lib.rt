@@ -6,6 +6,8 @@ use file_write_spec::FileLength;
 use replay_back::{WRITTEN, same};
 use replay_input::Asked;
 use replay_show::FILL;
+use std::io;
+use std::io::Print;
 
 // Is the same exact?
 fn same_exact(x: Exactness, y: Exactness) -> bool {
@@ -27,15 +29,21 @@ fn file_reads_back(a: Asked, exact: Exactness, ys: &[i32], text: &[u8]) -> bool 
 }
 
 // The written file in its bytes: whether it reads back, and from the next line on itself.
-pub fn show_file_text(a: Asked, f: FileLength, ys: &[i32], text: &[u8]) {
+pub fn show_file_text(
+    output: &impl Print,
+    a: Asked,
+    f: FileLength,
+    ys: &[i32],
+    text: &[u8],
+) -> io::Result<()> {
     let n = f.length;
     if n <= text.len() {
         if file_reads_back(a, f.exact, ys, &text[0..n]) {
-            io::write_all(1, b" same\n");
+            output.write_all(b" same\n")?;
         } else {
-            io::write_all(1, b" differs\n");
+            output.write_all(b" differs\n")?;
         }
-        io::write_all(1, &text[0..n]);
+        output.write_all(&text[0..n])?;
     }
-    report::end_line();
+    report::end_line(output)
 }

@@ -6,6 +6,8 @@ use replay_back::{TEXT, WRITTEN};
 use replay_file_back::show_file_text;
 use replay_input::{Asked, next_number, next_scales, take_bytes, take_ordinates};
 use replay_show::show_touched_text;
+use std::io;
+use std::io::{Print, Read};
 use terms::Fault;
 
 // Room for the title of a file that is written.
@@ -24,41 +26,52 @@ fn write_file(title: &[u8], a: Asked, c: Scales, ys: &[i32], text: &mut [u8]) ->
 }
 
 // The answer to a file to write.
-fn show_file_written(a: Asked, answer: FileWritten, ys: &[i32], text: &[u8]) {
+fn show_file_written(
+    output: &impl Print,
+    a: Asked,
+    answer: FileWritten,
+    ys: &[i32],
+    text: &[u8],
+) -> io::Result<()> {
     match answer {
         FileWritten::Length(f) => {
             let n = f.length;
-            io::write_all(1, b"ok ");
-            io::print_decimal(1, n as u64);
-            show_file_text(a, f, ys, text);
-            show_touched_text(text, n);
+            output.write_all(b"ok ")?;
+            output.print(n)?;
+            show_file_text(output, a, f, ys, text)?;
+            show_touched_text(output, text, n)
         }
         FileWritten::Refused(f) => {
-            report::print_refused(f.number, f.place);
-            report::end_line();
-            show_touched_text(text, 0);
+            report::print_refused(output, f.number, f.place)?;
+            report::end_line(output)?;
+            show_touched_text(output, text, 0)
         }
     }
 }
 
 // A file to write with this title: its five decimals and its ordinates follow.
-fn titled_case(title: &[u8], a: Asked) {
-    let c = next_scales();
+fn titled_case<R: Read, P: Print>(
+    input: &mut R,
+    output: &P,
+    title: &[u8],
+    a: Asked,
+) -> io::Result<()> {
+    let c = next_scales(input);
     let mut ys = [0i32; WRITTEN];
-    take_ordinates(&mut ys, a.count);
+    take_ordinates(input, &mut ys, a.count);
     let mut text = [b'~'; TEXT];
     let answer = write_file(title, a, c, &ys, &mut text);
-    show_file_written(a, answer, &ys, &text);
+    show_file_written(output, a, answer, &ys, &text)
 }
 
 // A file to write: its title follows first.
-pub fn file_write_case(a: Asked) {
+pub fn file_write_case<R: Read, P: Print>(input: &mut R, output: &P, a: Asked) -> io::Result<()> {
     let mut title = [0u8; TITLE];
-    let n = next_number();
+    let n = next_number(input);
     if n > TITLE as u64 {
-        return;
+        return Ok(());
     }
     let length = n as usize;
-    take_bytes(&mut title, length);
-    titled_case(&title[0..length], a);
+    take_bytes(input, &mut title, length);
+    titled_case(input, output, &title[0..length], a)
 }

@@ -2,9 +2,11 @@
 #![tactic(auto)]
 
 use file_write_spec::{GivenDecimal, Scales};
+use standard_input::read_full;
+use std::io::Read;
 
 // What stands before each case: F, L and N, the room that is lent, and how many bytes or ordinates follow.
-#[derive(Drop)]
+#[derive(Clone, Copy)]
 pub struct Asked {
     pub first: i64,
     pub last: i64,
@@ -26,15 +28,15 @@ fn number(b: &[u8; 8]) -> u64 {
 }
 
 // The next number of the input, in eight bytes; 0 at its end.
-pub fn next_number() -> u64 {
+pub fn next_number<R: Read>(input: &mut R) -> u64 {
     let mut b = [0u8; 8];
-    io::read_full(0, &mut b);
+    read_full(input, &mut b);
     number(&b)
 }
 
 // The next abscissa of the input: any number of 64 bits, in two's complement.
-fn next_abscissa() -> i64 {
-    let u = next_number();
+fn next_abscissa<R: Read>(input: &mut R) -> i64 {
+    let u = next_number(input);
     if u > 9223372036854775807 {
         let below = 18446744073709551615 - u;
         return !(below as i64);
@@ -43,9 +45,9 @@ fn next_abscissa() -> i64 {
 }
 
 // The next ordinate of the input, in four bytes: its distance from the mark of a missing one.
-fn next_ordinate() -> i32 {
+fn next_ordinate<R: Read>(input: &mut R) -> i32 {
     let mut b = [0u8; 8];
-    io::read_full(0, &mut b[4..]);
+    read_full(input, &mut b[4..]);
     let u = number(&b);
     if u > 4294967295 {
         return 0;
@@ -54,24 +56,19 @@ fn next_ordinate() -> i32 {
 }
 
 // The next n ordinates of the input.
-pub fn take_ordinates(ys: &mut [i32], n: usize) {
-    let mut i = 0;
-    while i < ys.len() {
-        if i >= n {
-            return;
-        }
-        ys[i] = next_ordinate();
-        i += 1;
+pub fn take_ordinates<R: Read>(input: &mut R, ys: &mut [i32], n: usize) {
+    for y in ys.iter_mut().take(n) {
+        *y = next_ordinate(input);
     }
 }
 
 // What stands before the next case.
-pub fn next_asked() -> Asked {
-    let first = next_abscissa();
-    let last = next_abscissa();
-    let points = next_number() as usize;
-    let room = next_number() as usize;
-    let count = next_number() as usize;
+pub fn next_asked<R: Read>(input: &mut R) -> Asked {
+    let first = next_abscissa(input);
+    let last = next_abscissa(input);
+    let points = next_number(input) as usize;
+    let room = next_number(input) as usize;
+    let count = next_number(input) as usize;
     Asked {
         first,
         last,
@@ -82,26 +79,26 @@ pub fn next_asked() -> Asked {
 }
 
 // The next n bytes of the input, if there is room for them.
-pub fn take_bytes(bytes: &mut [u8], n: usize) {
+pub fn take_bytes<R: Read>(input: &mut R, bytes: &mut [u8], n: usize) {
     if n <= bytes.len() {
-        io::read_full(0, &mut bytes[0..n]);
+        read_full(input, &mut bytes[0..n]);
     }
 }
 
 // The next decimal of the input: a mantissa and an exponent.
-fn next_decimal() -> GivenDecimal {
-    let mantissa = next_abscissa();
-    let exponent = next_abscissa();
+fn next_decimal<R: Read>(input: &mut R) -> GivenDecimal {
+    let mantissa = next_abscissa(input);
+    let exponent = next_abscissa(input);
     GivenDecimal { mantissa, exponent }
 }
 
 // The next five decimals of the input, in the order of the records.
-pub fn next_scales() -> Scales {
-    let xfactor = next_decimal();
-    let yfactor = next_decimal();
-    let firstx = next_decimal();
-    let lastx = next_decimal();
-    let firsty = next_decimal();
+pub fn next_scales<R: Read>(input: &mut R) -> Scales {
+    let xfactor = next_decimal(input);
+    let yfactor = next_decimal(input);
+    let firstx = next_decimal(input);
+    let lastx = next_decimal(input);
+    let firsty = next_decimal(input);
     Scales {
         xfactor,
         yfactor,

@@ -4,6 +4,8 @@
 use file_spec::FileRead;
 use replay_input::{Asked, take_bytes};
 use replay_show::{FILL, READ, show_file, show_read};
+use std::io;
+use std::io::{Print, Read};
 use terms::TableRead;
 use text::refusal_in;
 
@@ -41,39 +43,39 @@ fn read_file(a: Asked, file: &[u8], out: &mut [i32]) -> FileRead {
 }
 
 // Reads a body, and shows the answer.
-fn answer_body(a: Asked, body: &[u8]) {
+fn answer_body(output: &impl Print, a: Asked, body: &[u8]) -> io::Result<()> {
     let mut out = [FILL; READ];
     let answer = read_table(a, body, &mut out);
-    show_read(answer, &out);
+    show_read(output, answer, &out)
 }
 
 // Reads a file, and shows the answer.
-fn answer_file(a: Asked, file: &[u8]) {
+fn answer_file(output: &impl Print, a: Asked, file: &[u8]) -> io::Result<()> {
     let mut out = [FILL; READ];
     let answer = read_file(a, file, &mut out);
-    show_file(answer, &out);
+    show_file(output, answer, &out)
 }
 
 // A body to read: its bytes follow.
-pub fn body_case(a: Asked) {
+pub fn body_case<R: Read, P: Print>(input: &mut R, output: &P, a: Asked) -> io::Result<()> {
     let mut body = [0u8; BYTES];
-    take_bytes(&mut body, a.count);
-    answer_body(a, &body);
+    take_bytes(input, &mut body, a.count);
+    answer_body(output, a, &body)
 }
 
 // A file to read: its bytes follow.
-pub fn file_case(a: Asked) {
+pub fn file_case<R: Read, P: Print>(input: &mut R, output: &P, a: Asked) -> io::Result<()> {
     let mut file = [0u8; BYTES];
-    take_bytes(&mut file, a.count);
-    answer_file(a, &file);
+    take_bytes(input, &mut file, a.count);
+    answer_file(output, a, &file)
 }
 
 // A body from before tabs were refused (02, T-13): its bytes follow, and are converted before they are read.
-pub fn old_body_case(a: Asked) {
+pub fn old_body_case<R: Read, P: Print>(input: &mut R, output: &P, a: Asked) -> io::Result<()> {
     let mut body = [0u8; BYTES];
-    take_bytes(&mut body, a.count);
+    take_bytes(input, &mut body, a.count);
     detab::detab(&mut body);
-    answer_body(a, &body);
+    answer_body(output, a, &body)
 }
 
 // Converts the file in the first n bytes.
@@ -84,9 +86,9 @@ fn convert_file(file: &mut [u8], n: usize) {
 }
 
 // A file from before tabs were refused, likewise.
-pub fn old_file_case(a: Asked) {
+pub fn old_file_case<R: Read, P: Print>(input: &mut R, output: &P, a: Asked) -> io::Result<()> {
     let mut file = [0u8; BYTES];
-    take_bytes(&mut file, a.count);
+    take_bytes(input, &mut file, a.count);
     convert_file(&mut file, a.count);
-    answer_file(a, &file);
+    answer_file(output, a, &file)
 }

@@ -2,6 +2,8 @@
 #![tactic(auto)]
 
 use file_spec::{FileRead, FileTable};
+use std::io;
+use std::io::Print;
 use terms::{Refusal, TableRead};
 
 // Room for the ordinates of a table or a file that is read.
@@ -11,91 +13,79 @@ pub const READ: usize = 4096;
 pub const FILL: i32 = -1234567891;
 
 // The first n ordinates, and the line's end.
-fn show_points(out: &[i32; READ], n: usize) {
-    let mut i = 0;
-    while i < READ {
-        if i < n {
-            io::write_all(1, b" ");
-            report::print_ordinate(out[i]);
-        }
-        i += 1;
+fn show_points(output: &impl Print, out: &[i32; READ], n: usize) -> io::Result<()> {
+    for y in out.iter().take(n) {
+        output.write_all(b" ")?;
+        report::print_ordinate(output, *y)?;
     }
-    report::end_line();
+    report::end_line(output)
 }
 
 // A line if an ordinate from index n on is not what the slice was filled with.
-fn show_touched(out: &[i32; READ], n: usize) {
-    let mut i = 0;
-    while i < READ {
-        if i >= n {
-            if out[i] != FILL {
-                io::write_all(1, b"touched\n");
-                return;
-            }
+fn show_touched(output: &impl Print, out: &[i32; READ], n: usize) -> io::Result<()> {
+    for y in out.iter().skip(n) {
+        if *y != FILL {
+            return output.write_all(b"touched\n");
         }
-        i += 1;
     }
+    Ok(())
 }
 
 // A line if a byte from index n on is not what the slice was filled with.
-pub fn show_touched_text(text: &[u8], n: usize) {
-    let mut i = 0;
-    while i < text.len() {
-        if i >= n {
-            if text[i] != b'~' {
-                io::write_all(1, b"touched\n");
-                return;
-            }
+pub fn show_touched_text(output: &impl Print, text: &[u8], n: usize) -> io::Result<()> {
+    for b in text.iter().skip(n) {
+        if *b != b'~' {
+            return output.write_all(b"touched\n");
         }
-        i += 1;
     }
+    Ok(())
 }
 
 // A refusal of a reader: number, place, line and column.
-fn show_refusal(r: Refusal) {
-    report::print_refused(r.number, r.place);
-    io::write_all(1, b" ");
-    io::print_decimal(1, r.line as u64);
-    io::write_all(1, b" ");
-    io::print_decimal(1, r.column as u64);
-    report::end_line();
+fn show_refusal(output: &impl Print, r: Refusal) -> io::Result<()> {
+    report::print_refused(output, r.number, r.place)?;
+    output.write_all(b" ")?;
+    output.print(r.line)?;
+    output.write_all(b" ")?;
+    output.print(r.column)?;
+    report::end_line(output)
 }
 
 // The answer to a body: `ok`, the points and the ordinates, or the refusal.
-pub fn show_read(answer: TableRead, out: &[i32; READ]) {
+pub fn show_read(output: &impl Print, answer: TableRead, out: &[i32; READ]) -> io::Result<()> {
     match answer {
         TableRead::Accepted(n) => {
-            io::write_all(1, b"ok ");
-            io::print_decimal(1, n as u64);
-            show_points(out, n);
-            show_touched(out, n);
+            output.write_all(b"ok ")?;
+            output.print(n)?;
+            show_points(output, out, n)?;
+            show_touched(output, out, n)
         }
         TableRead::Refused(r) => {
-            show_refusal(r);
-            show_touched(out, 0);
+            show_refusal(output, r)?;
+            show_touched(output, out, 0)
         }
     }
 }
 
 // An accepted file: `ok`, the points, F and L, and the ordinates.
-fn show_table(table: FileTable, out: &[i32; READ]) {
-    io::write_all(1, b"ok ");
-    io::print_decimal(1, table.points as u64);
-    io::write_all(1, b" ");
-    report::print_abscissa(table.first);
-    io::write_all(1, b" ");
-    report::print_abscissa(table.last);
-    show_points(out, table.points);
-    show_touched(out, table.points);
+fn show_table(output: &impl Print, table: FileTable, out: &[i32; READ]) -> io::Result<()> {
+    output.write_all(b"ok ")?;
+    output.print(table.points)?;
+    output.write_all(b" ")?;
+    report::print_abscissa(output, table.first)?;
+    output.write_all(b" ")?;
+    report::print_abscissa(output, table.last)?;
+    show_points(output, out, table.points)?;
+    show_touched(output, out, table.points)
 }
 
 // The answer to a file: its table, or the refusal.
-pub fn show_file(answer: FileRead, out: &[i32; READ]) {
+pub fn show_file(output: &impl Print, answer: FileRead, out: &[i32; READ]) -> io::Result<()> {
     match answer {
-        FileRead::Accepted(table) => show_table(table, out),
+        FileRead::Accepted(table) => show_table(output, table, out),
         FileRead::Refused(r) => {
-            show_refusal(r);
-            show_touched(out, 0);
+            show_refusal(output, r)?;
+            show_touched(output, out, 0)
         }
     }
 }

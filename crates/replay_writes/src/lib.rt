@@ -4,35 +4,43 @@
 use replay_back::{TEXT, WRITTEN, reads_back};
 use replay_input::{Asked, take_ordinates};
 use replay_show::show_touched_text;
+use std::io;
+use std::io::{Print, Read};
 use table_spec::Style;
 use terms::{Fault, TableWritten};
 
 // The text in the first n bytes: whether it reads back, and from the next line on itself.
-fn show_text(a: Asked, ys: &[i32], text: &[u8], n: usize) {
+fn show_text(output: &impl Print, a: Asked, ys: &[i32], text: &[u8], n: usize) -> io::Result<()> {
     if n <= text.len() {
         if reads_back(a, ys, &text[0..n]) {
-            io::write_all(1, b" same\n");
+            output.write_all(b" same\n")?;
         } else {
-            io::write_all(1, b" differs\n");
+            output.write_all(b" differs\n")?;
         }
-        io::write_all(1, &text[0..n]);
+        output.write_all(&text[0..n])?;
     }
-    report::end_line();
+    report::end_line(output)
 }
 
 // The answer to a table: `ok`, the length and the text, or the refusal.
-fn show_written(a: Asked, answer: TableWritten, ys: &[i32], text: &[u8]) {
+fn show_written(
+    output: &impl Print,
+    a: Asked,
+    answer: TableWritten,
+    ys: &[i32],
+    text: &[u8],
+) -> io::Result<()> {
     match answer {
         TableWritten::Length(n) => {
-            io::write_all(1, b"ok ");
-            io::print_decimal(1, n as u64);
-            show_text(a, ys, text, n);
-            show_touched_text(text, n);
+            output.write_all(b"ok ")?;
+            output.print(n)?;
+            show_text(output, a, ys, text, n)?;
+            show_touched_text(output, text, n)
         }
         TableWritten::Refused(f) => {
-            report::print_refused(f.number, f.place);
-            report::end_line();
-            show_touched_text(text, 0);
+            report::print_refused(output, f.number, f.place)?;
+            report::end_line(output)?;
+            show_touched_text(output, text, 0)
         }
     }
 }
@@ -57,10 +65,15 @@ fn write_form(style: Style, a: Asked, ys: &[i32], text: &mut [u8]) -> TableWritt
 }
 
 // A table to write in a form: its ordinates follow.
-pub fn write_case(style: Style, a: Asked) {
+pub fn write_case<R: Read, P: Print>(
+    input: &mut R,
+    output: &P,
+    style: Style,
+    a: Asked,
+) -> io::Result<()> {
     let mut ys = [0i32; WRITTEN];
-    take_ordinates(&mut ys, a.count);
+    take_ordinates(input, &mut ys, a.count);
     let mut text = [b'~'; TEXT];
     let answer = write_form(style, a, &ys, &mut text);
-    show_written(a, answer, &ys, &text);
+    show_written(output, a, answer, &ys, &text)
 }

@@ -1,0 +1,19 @@
+// What C calls of host_plain (include/lastarunc.h): its function under the name that the library exports, with the clauses of the function that it calls.
+#![tactic(auto)]
+
+ghost use Rattle.host_table.specs.Answers.{TableTold};
+
+// Reads a table by the plain engine (02, T-14): as `lastarunc_read_table` does, word for word.
+#[unsafe(no_mangle)]
+pub extern "C" fn lastarunc_read_plain(
+    first: i64,
+    last: i64,
+    points: usize,
+    body: &[u8],
+    out: &mut [i32],
+    answer: &mut [u64; 5],
+) -> u64
+    ensures { TableTold first last points body.now out.old out.new answer.new result }
+{
+    host_plain::lastarunc_read_plain(first, last, points, body, out, answer)
+}
