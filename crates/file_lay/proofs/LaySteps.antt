@@ -19,7 +19,7 @@ use Rattle.table_spec.specs.declared.Style.TheVariants.{Difdup}
 use Rattle.table_spec.specs.Writing.{declined, wrote, fitted, write_table, laid}
 use Rattle.table_write_law.proofs.ReadBack.{wrote_body, wrote_most}
 use Rattle.table_write.specs.Room.{enough, Measured}
-use Rattle.table_room.specs.RoomLaws.{fits_most}
+use Rattle.table_room.proofs.RoomLaws.{fits_most}
 use Rattle.table_text.specs.Answers.{told, Tells}
 use Rattle.table_text.specs.Pieces.{Put}
 use Rattle.file_spec.specs.declared.Numbers.{Numbers}

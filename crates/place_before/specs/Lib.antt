@@ -1,10 +1,5 @@
 pub mod Before
-pub mod Completes
 pub mod Fronts
 pub mod ValueLaws
 pub mod OneLine
-pub mod LineStops
 pub mod Lines
-pub mod Stays
-pub mod Legal
-pub mod Samples

@@ -143,7 +143,7 @@ length_cut y (b ∷ w) s t m h k =
     (λ _ h k. absurd (omega arith))
     (λ _ h k. let z = length_cut y w s t (m - 1) (omega arith) (omega arith) in omega arith)) h (rw (starts_same 10 y w s t) at k)
 
-long_on : (y : ℕ) (begins : Bool) (a : ℕ) (w s t : List ℕ) (z : ℕ) → z + 81 ≤ a + length w
+pub long_on : (y : ℕ) (begins : Bool) (a : ℕ) (w s t : List ℕ) (z : ℕ) → z + 81 ≤ a + length w
     → long_line begins a (w ++ y ∷ s) ≡ long_at z → long_line begins a (w ++ y ∷ t) ≡ all_short → ⊥
 unfolding long_line
 long_on y begins a [] s t z l e f = let h = subst (LongIn a (a + length (y ∷ s))) e (long_in a (a + length (y ∷ s)) begins a (y ∷ s) (omega arith) (omega arith)) in omega (arith, h.0)
@@ -155,7 +155,3 @@ long_on y true a (b ∷ w) s t z l e f =
     (λ _ h f. by_case (λ q. ltb longest_line m ≡ q → pick q (long_at a) (long_line (eqb b 10) (suc a) (w ++ y ∷ s)) ≡ long_at z → ⊥) (ltb longest_line m)
     (λ _ g e. let k = length_cut y (b ∷ w) s t longest_line (ltb-false longest_line n h) (ltb-true longest_line m g) in let p : a ≡ z = cc in omega arith)
     (λ _ g e. long_on y (eqb b 10) (suc a) w s t z (omega arith) e f) refl e) refl f
-
--- a body whose line at z is too long: no text with the same first bytes, 81 of that line and the byte after them, has short lines only
-pub long_decided : (x s t : List ℕ) (y z : ℕ) → z + 81 ≤ length x → long_line true 0 (x ++ y ∷ s) ≡ long_at z → long_line true 0 (x ++ y ∷ t) ≡ all_short → ⊥
-long_decided x s t y z l e f = long_on y true 0 x s t z (omega arith) e f

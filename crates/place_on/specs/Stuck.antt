@@ -244,15 +244,19 @@ module _ (tabs : Bool) (p : ℕ) where
   line_then v g u k (then_blanks h) e f = blanks_then u v h e f
   line_then v (b ∷ g) u k (head_byte x h) e f = no_way (sym (subst (Apart tabs) e (line_apart v refl)) ∙ x)
 
+-- an ordinate that is given is not 0
+sized_some : {m : Bool} {v p : ℕ} → Sized m v p → 0 < p
+sized_some (size_up l) = omega arith
+sized_some (size_down l) = omega arith
+
 check_some : {tabs q : Bool} {p e : ℕ} {vs t s : List ℕ} {r : Form} → Line tabs q (first true) p vs r e t s → 0 < p
 check_some (blank b r) = check_some r
-check_some (value h (check (size_up l)) r) = omega arith
-check_some (value h (check (size_down l)) r) = omega arith
+check_some (value h (check l) r) = sized_some l
 
 module _ (R : Rules) (p : ℕ) where
   check_fits : {i k : ℕ} {ys g : List ℕ} → Opens R.tabs g → (u : List ℕ) → Body R i p true ys (g ++ u) → Short k (g ++ u) → length g + length (sqz_text p) ≤ k
-  check_fits (indented b o) u (indent c r) f =
-      let i = blank_is b in let z = inner_byte f i.1 i.2 in let y = check_fits o u r z.2 in omega (arith, z.1)
+  check_fits {k = k} (indented b o) u (indent c r) f =
+      let i = blank_is b in let z = inner_byte f i.1 i.2 in let y = check_fits {k = z.0} o u r z.2 in omega (arith, z.1)
   check_fits (indented b o) u (passed c r) f = let z = blank_is b in absurd (no_end c z.1 z.2 z.3)
   check_fits (indented b o) u (row h c g v d r) f = absurd ((blank_is b).0 (head_above h))
   check_fits (begun l o) u (indent c r) f = absurd ((blank_is c).0 l)

@@ -29,7 +29,8 @@ use Rattle.plain_law.specs.Single.{Single, single_tail, EndAll, lf_last, cr_all,
 use Rattle.place_on.specs.HeadOnly.{Blanks, no_blank, one_blank, HeadOnly, after_blank, a_head}
 use Rattle.place_before.specs.Before.{AfterHead}
 use Rattle.place_before.specs.Fronts.{Front, head_front, value_front, end_closes}
-use Rattle.place_before.specs.ValueLaws.{NumberAt, Numbered, numbered, three, five, eleven, owed, stands_owed}
+use Rattle.place_before.specs.ValueLaws.{NumberAt, Numbered, owed, stands_owed}
+use Rattle.place_before.proofs.ValueLaws.{numbered, three, five, eleven}
 use Rattle.place_before.specs.OneLine.{Begins, lf_only, cr_lf_only, counts, begins}
 
 -- ---- where a line stops

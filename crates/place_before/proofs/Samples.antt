@@ -22,7 +22,7 @@ use Rattle.place_on.specs.HeadOnly.{Blanks, no_blank, one_blank, a_head}
 use Rattle.place_on.specs.Stuck.{none_after_full, none_after_narrow}
 use Rattle.place_before.specs.Before.{last_lf, NoneBegins}
 use Rattle.place_before.specs.Lines.{Behind}
-use Rattle.place_before.specs.Stays.{comes_back}
+use Rattle.place_before.proofs.Stays.{comes_back}
 
 -- what this frame makes
 abbrev four : Rules

@@ -11,9 +11,9 @@ use Rattle.table_write_law.proofs.Written.{written_head_passes}
 use Rattle.table_write_law.proofs.Lengths.{head_most}
 use Rattle.table_write_law.proofs.ReadBack.{legal_takes}
 use Rattle.table_read.specs.Answers.{TableSays}
-use Rattle.place_on.specs.On.{Ruled, refuses_so}
+use Rattle.place_on.proofs.On.{Ruled, refuses_so}
 use Rattle.place_before.specs.Before.{Writable, Elsewhere, is_4, is_6, is_7, is_12, is_13, is_16, CanStay, Before}
-use Rattle.place_before.specs.Stays.{before_place, all_stays}
+use Rattle.place_before.proofs.AllStays.{before_place, all_stays}
 
 -- each of them is 3 or more
 from_3_on : {c : ℕ} → Elsewhere c → 3 ≤ c

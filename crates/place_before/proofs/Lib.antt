@@ -1,0 +1,7 @@
+pub mod Completes
+pub mod Legal
+pub mod LineStops
+pub mod Samples
+pub mod Stays
+pub mod ValueLaws
+pub mod AllStays
