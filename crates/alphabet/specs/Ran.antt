@@ -5,8 +5,8 @@ use Rattle.std.proofs.Math.Nat.{pow-zero, pow-le-pow_right}
 use Rattle.terms.specs.Logic.{pick, by_case}
 use Rattle.alphabet_spec.specs.Digits.{within, Run, long, run, digits}
 use Rattle.alphabet_spec.specs.Entries.{entry_at}
-use Rattle.alphabet_spec.specs.EntryLaws.{entry_in}
-use Rattle.alphabet_spec.specs.DigitLaws.{digits_stop, digits_on, digit_at}
+use Rattle.alphabet_spec.proofs.EntryLaws.{entry_in}
+use Rattle.alphabet_spec.proofs.DigitLaws.{digits_stop, digits_on, digit_at}
 use Rattle.alphabet.specs.Standing.{standing, within_in, digit_stands, digit_stands_not}
 
 -- where a run of at most `most` digits from the place i on ends at the latest, in a text of n bytes

@@ -5,9 +5,9 @@ use Rattle.terms.specs.Logic.{pick, by_case, no_way}
 use Rattle.alphabet_spec.specs.Kinds.{dup, dif, sqz, Blank, space, tabs_too}
 use Rattle.alphabet_spec.specs.Digits.{within}
 use Rattle.alphabet_spec.specs.Bytes.{Byte, digit, lead, sign, quest, blank, point, lf, cr, dollar, other, kind}
-use Rattle.alphabet_spec.specs.KindLaws.{Back, kind_back, is_digit, kind_digit}
+use Rattle.alphabet_spec.proofs.KindLaws.{Back, kind_back, is_digit, kind_digit}
 use Rattle.alphabet_spec.specs.Entries.{code, entry, entry_at, kind_of}
-use Rattle.alphabet_spec.specs.EntryLaws.{at_entry, at_kind, past_end, entry_in}
+use Rattle.alphabet_spec.proofs.EntryLaws.{at_entry, at_kind, past_end, entry_in}
 
 -- the byte at a place, 256 at the end of the text
 unfoldable pub standing : List ℕ → ℕ → ℕ

@@ -2,9 +2,5 @@ pub mod Kinds
 pub mod Digits
 pub mod Bytes
 pub mod SpelledDigits
-pub mod KindLaws
-pub mod SpelledDigitLaws
 pub mod EveryLaws
 pub mod Entries
-pub mod EntryLaws
-pub mod DigitLaws

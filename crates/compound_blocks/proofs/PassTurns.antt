@@ -18,7 +18,8 @@ use Rattle.label_judged.proofs.JudgeTurns.{mark_is}
 use Rattle.compound_spec.specs.Blocks.{says}
 use Rattle.compound_spec.specs.Cut.{rest_of_line, end_of}
 use Rattle.compound_spec.specs.Answers.{entries}
-use Rattle.compound_law.specs.Flat.{Last, plain, none, passed, flat, zeroth}
+use Rattle.compound_law.specs.Flat.{Last, plain, none, passed, flat}
+use Rattle.compound_law.proofs.Flat.{zeroth}
 use Rattle.compound_blocks.specs.declared.Seen.{Seen}
 use Rattle.compound_blocks.specs.Post.{Sees, Puts}
 

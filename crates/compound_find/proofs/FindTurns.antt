@@ -29,7 +29,8 @@ use Rattle.compound_spec.specs.Compound.{BlocksAnswer, refuse_blocks, one_block,
 use Rattle.compound_spec.specs.Answers.{entries, laid}
 use Rattle.compound_law.specs.Plain.{Promised}
 use Rattle.compound_law.specs.Found.{found}
-use Rattle.compound_law.specs.Flat.{plain, flat, flat_is}
+use Rattle.compound_law.specs.Flat.{plain, flat}
+use Rattle.compound_law.proofs.Flat.{flat_is}
 use Rattle.compound_survey.specs.Told.{own_of, told, Surveys}
 use Rattle.compound_find.specs.declared.Whole.{Whole}
 use Rattle.compound_find.specs.Answers.{FindsBlocks, counted_by, blocks_on, judged_by, Stores}

@@ -1,7 +1,6 @@
 // The types that the definitions and the code of the numbers of a file share (01, The file).
 #![tactic(auto)]
 
-
 // Digits with at most one point: the number that they make, how many of them stand behind the point, and the place after them.
 #[derive(Drop)]
 pub enum Mantissa {

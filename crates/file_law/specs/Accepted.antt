@@ -6,7 +6,7 @@ use Rattle.std.proofs.Common.{leb-true}
 use Rattle.terms.specs.Logic.{pick, both, by_case, both_true}
 use Rattle.table_spec.specs.Frame.{most_points, frame_legal, abscissa_legal, points_legal, abscissa}
 use Rattle.table_spec.specs.Reading.{Answer, refuse, accept, read_table}
-use Rattle.table_law.specs.Outcome.{accepted_allowed, accepted_count, accepted_small}
+use Rattle.table_law.proofs.Outcome.{accepted_allowed, accepted_count, accepted_small}
 use Rattle.table_law.specs.Small.{Small}
 use Rattle.label_spec.specs.File.{labelled}
 use Rattle.label_spec.specs.declared.Labelled.{Labelled}

@@ -1,3 +1,2 @@
 // Laws about files that are accepted: no code.
 #![tactic(auto)]
-

@@ -17,7 +17,7 @@ use Rattle.terms.specs.declared.TableWritten.TheVariants.{Length, Refused}
 use Rattle.label_spec.specs.Names.{END}
 use Rattle.table_spec.specs.declared.Style.TheVariants.{Difdup}
 use Rattle.table_spec.specs.Writing.{declined, wrote, fitted, write_table, laid}
-use Rattle.table_write_law.specs.ReadBack.{wrote_body, wrote_most}
+use Rattle.table_write_law.proofs.ReadBack.{wrote_body, wrote_most}
 use Rattle.table_write.specs.Room.{enough, Measured}
 use Rattle.table_room.specs.RoomLaws.{fits_most}
 use Rattle.table_text.specs.Answers.{told, Tells}

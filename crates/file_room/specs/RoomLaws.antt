@@ -12,7 +12,7 @@ use Rattle.file_write_spec.specs.declared.Scales.{Scales}
 use Rattle.file_write_spec.specs.declared.FileLength.{FileLength}
 use Rattle.file_write_spec.specs.declared.FileWritten.{FileWritten}
 use Rattle.file_write_spec.specs.File.{title_legal, scales_legal, first_quotient, last_quotient, first_of, last_of, limited, firsty_agrees, file_exact, text_of_file, by_frame, write_file}
-use Rattle.file_write_law.specs.Accepted.{Limited, written_most}
+use Rattle.file_write_law.proofs.Accepted.{Limited, written_most}
 use Rattle.table_room.specs.Room.{ByRoom, refuses, writes}
 use Rattle.table_room.specs.RoomLaws.{fits_most, room_holds, room_lacks, room_refuses, room_most, never_15, Text, Number}
 use Rattle.file_lay.specs.Answers.{told_file_lem, FileTells}

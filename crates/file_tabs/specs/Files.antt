@@ -1,5 +1,5 @@
 -- T-13: the file that the converter makes reads as the file did before: number, place, ordinates, line and column, for all files and all room. Assumes nothing.
-use Rattle.std.specs.Prelude.{◌≡◌, Bool, true, List, [], ◌∷◌, ◌++◌, ℕ, zero, suc, ◌+◌, ◌-◌, ℤ, length, take}
+use Rattle.std.specs.Prelude.{◌≡◌, Bool, true, List, [], ◌∷◌, ◌++◌, ℕ, zero, suc, ◌-◌, ℤ, length, take}
 use Rattle.std.proofs.Math.Path.{refl, sym, ap}
 use Rattle.std.proofs.Common.{◌∙◌, take-append-drop}
 use Rattle.std.proofs.Math.Bool.{false}
@@ -80,37 +80,10 @@ part_converted s b = part_after b.from (b.to - b.from) s
 pub length_part : (s : List ℕ) (b : Span) → length (spaced_in s b) ≡ length s
 length_part s b = sym (length_untabbed (spaced_in s b)) ∙ ap length (untabbed_part s b) ∙ length_untabbed s
 
-before_part : (a n : ℕ) (s : List ℕ) → take a (take a s ++ (spaced false (take n (drop a s)) ++ drop n (drop a s))) ≡ take a s
-unfolding spaced
-before_part zero n s = refl
-before_part (suc a) n [] = rw (take-nil n, drop-nil n) refl
-before_part (suc a) n (b ∷ s) = ap (λ (l : List ℕ). b ∷ l) (before_part a n s)
-
-beyond_part : (c : Bool) (n : ℕ) (s : List ℕ) → drop n (spaced c (take n s) ++ drop n s) ≡ drop n s
-unfolding spaced
-beyond_part c zero s = refl
-beyond_part c (suc n) [] = refl
-beyond_part c (suc n) (b ∷ s) = beyond_part (commented c b (take n s)) n s
-
-after_part : (a n : ℕ) (s : List ℕ) → drop n (drop a (take a s ++ (spaced false (take n (drop a s)) ++ drop n (drop a s)))) ≡ drop n (drop a s)
-unfolding spaced
-after_part zero n s = beyond_part false n s
-after_part (suc a) n [] = rw (take-nil n, drop-nil n) (drop-nil n)
-after_part (suc a) n (b ∷ s) = after_part a n s
-
 -- of a file: what stands before its body, and after it
 abbrev pub Keeps : List ℕ → List ℕ → FoundBody → Type 0
 Keeps s s' body.Absent = s' ≡ s
 Keeps s s' (body.At b) = (take b.from s' ≡ take b.from s) × (drop (b.to - b.from) (drop b.from s') ≡ drop (b.to - b.from) (drop b.from s))
-
-keeps_at : (s : List ℕ) (x : FoundBody) → Keeps s (detabbed_at s x) x
-unfolding detabbed_at spaced_in
-keeps_at s body.Absent = refl
-keeps_at s (body.At b) = (before_part b.from (b.to - b.from) s, after_part b.from (b.to - b.from) s)
-
--- "keeps every other byte and the length"
-pub keeps_others : (s : List ℕ) → Keeps s (detabbed s) (found_body s)
-keeps_others s = keeps_at s (found_body s)
 
 -- a converted file differs in tabs and spaces only
 untabbed_at : (s : List ℕ) (x : FoundBody) → untabbed (detabbed_at s x) ≡ untabbed s

@@ -12,7 +12,7 @@ use Rattle.file_write_spec.specs.declared.Scales.{Scales}
 use Rattle.file_write_spec.specs.declared.FileWritten.{FileWritten}
 use Rattle.file_write_spec.specs.File.{file_exact, write_file}
 use Rattle.table_room.specs.RoomLaws.{fits_most}
-use Rattle.file_write_law.specs.Accepted.{written_most}
+use Rattle.file_write_law.proofs.Accepted.{written_most}
 use Rattle.file_plan.specs.declared.Plan.{Plan}
 use Rattle.file_plan.specs.Stages.{laid_out, body_of, Planning}
 use Rattle.file_lay.specs.Answers.{told_file_lem, FileTells}

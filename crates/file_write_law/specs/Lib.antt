@@ -3,5 +3,3 @@ pub mod Texts
 pub mod Numbers
 pub mod Settled
 pub mod Lengths
-pub mod Found
-pub mod Accepted

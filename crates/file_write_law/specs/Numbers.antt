@@ -15,7 +15,7 @@ use Rattle.table_spec.specs.Groups.{plain_text}
 use Rattle.table_write_law.specs.Numbers.{digits, top_small}
 use Rattle.decimal_spec.specs.Number.{bound, origin}
 use Rattle.decimal_spec.specs.Spelling.{SpelledMantissa, whole, SpelledExponent, up, down, SpelledNumber, plain, minus, SpelledCount, only}
-use Rattle.decimal_spec.specs.SpellingLaws.{Ends, number_read, count_read}
+use Rattle.decimal_spec.proofs.SpellingLaws.{Ends, number_read, count_read}
 use Rattle.decimal_spec.specs.declared.Count.{Count}
 use Rattle.file_spec.specs.declared.Given.TheVariants as given
 use Rattle.file_spec.specs.Figures.{ends_there, alone, decimal_in, exceeding, alone_count, count_in}

@@ -1,6 +1,6 @@
 -- The two nested scans (`judge`) answer what "each name is looked for among those before it" (`judged`) says, since the places of labels rise.
 use Rattle.std.specs.Prelude.{◌≡◌, refl, Bool, true, false, List, [], ◌∷◌, ◌++◌, ℕ, ◌+◌, ◌-◌, ◌≤◌, ◌<◌, leb, eqb, length, get_or, take, drop}
-use Rattle.std.proofs.Common.{ap, arith, lt-ltb, le-ltb}
+use Rattle.std.proofs.Common.{ap, subst, arith, lt-ltb, le-ltb}
 use Rattle.label_spec.specs.declared.Spot.{Spot}
 use Rattle.label_spec.specs.declared.Spot.TheVariants.{Place, Nowhere}
 use Rattle.terms.specs.Logic.{pick}
@@ -72,12 +72,11 @@ scans len ls over lo b r = refl
 scans len ls (bad x rest) lo b r = refl
 scans len ls (label x n e v rest) lo b r =
     let l : Passed = record { mark = x; start = n; eq = e; name = v } in
-    rw (
-      clash_glue x n e v ls rest (below_up lo x ls r.0 b),
-      ← glue_on ls l rest,
-      scans len (ls ++ l ∷ []) rest (x + 1) (below_on lo (x + 1) ls l (omega (arith, r.0)) b (omega arith)) r.1,
-      names_on ls l,
-    ) refl
+    let tail : judge len (glue ls (label x n e v rest)) rest ≡ judged len (names ls ++ v ∷ []) rest =
+    subst (λ w. judge len w rest ≡ judged len (names ls ++ v ∷ []) rest) (glue_on ls l rest)
+    (subst (λ ns. judge len (glue (ls ++ l ∷ []) rest) rest ≡ judged len ns rest) (names_on ls l)
+    (scans len (ls ++ l ∷ []) rest (x + 1) (below_on lo (x + 1) ls l (omega (arith, r.0)) b (omega arith)) r.1)) in
+    rw (clash_glue x n e v ls rest (below_up lo x ls r.0 b), tail) refl
 
 -- The places of a walk rise.
 looser : (a b : ℕ) (k : Walk) → a ≤ b → Rising b k → Rising a k

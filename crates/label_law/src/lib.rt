@@ -1,3 +1,2 @@
 // No code: what is proved of the definitions of label_spec.
 #![tactic(auto)]
-

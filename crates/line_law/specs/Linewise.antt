@@ -7,7 +7,7 @@ use mathlib.Core.List.{List, [], ◌∷◌, ◌++◌}
 use Rattle.terms.specs.Logic.{pick, by_case, no_way}
 use Rattle.alphabet_spec.specs.Digits.{Run, long, run, digits, some}
 use Rattle.alphabet_spec.specs.Bytes.{Byte, digit, lead, sign, quest, blank, point, lf, cr, dollar, other, kind}
-use Rattle.alphabet_spec.specs.KindLaws.{Back, kind_back}
+use Rattle.alphabet_spec.proofs.KindLaws.{Back, kind_back}
 use Rattle.table_spec.specs.Values.{Value, own, gap, room, value_of, headed_at}
 use Rattle.table_spec.specs.Reading.{Tokens, over, fault, head, value, line, HeadDigits, no_head, sized, comment, Ending, ends, none, ending}
 use Rattle.table_spec.specs.Reading.{thousandths, Mode, fresh, inner, Rest, ended, headed, valued, opening, inside, step, stop, tokens}

@@ -10,7 +10,7 @@ use borrow.Author.Tests.{lt-ltb, eq-eqb, eqb-true}
 use Rattle.terms.specs.Logic.{no_way}
 use Rattle.decimal_spec.specs.declared.Rounded.TheVariants.{Whole, Beyond}
 use Rattle.decimal_spec.specs.Quotient.{Nearest, IsRounded, IsQuotient, zero_quotient, beyond_quotient}
-use Rattle.decimal_spec.specs.QuotientLaws.{nearest_unique}
+use Rattle.decimal_spec.proofs.QuotientLaws.{nearest_unique}
 
 -- ---- the nearest number by quotient and remainder
 module _ (n d : ℕ) (h : 0 < d) where

@@ -6,10 +6,10 @@ use Rattle.terms.specs.declared.TableRead.TheVariants.{Refused}
 use Rattle.table_spec.specs.Frame.{abscissa, frame_legal, nearest}
 use Rattle.table_spec.specs.Numerals.{head_text}
 use Rattle.table_spec.specs.Reading.{refuse, read, read_table}
-use Rattle.table_law.specs.Outcome.{allowed_read, refused_allowed}
-use Rattle.table_write_law.specs.Written.{written_head_passes}
-use Rattle.table_write_law.specs.Lengths.{head_most}
-use Rattle.table_write_law.specs.ReadBack.{legal_takes}
+use Rattle.table_law.proofs.Outcome.{allowed_read, refused_allowed}
+use Rattle.table_write_law.proofs.Written.{written_head_passes}
+use Rattle.table_write_law.proofs.Lengths.{head_most}
+use Rattle.table_write_law.proofs.ReadBack.{legal_takes}
 use Rattle.table_read.specs.Answers.{TableSays}
 use Rattle.place_on.specs.On.{Ruled, refuses_so}
 use Rattle.place_before.specs.Before.{Writable, Elsewhere, is_4, is_6, is_7, is_12, is_13, is_16, CanStay, Before}

@@ -11,17 +11,18 @@ use Rattle.terms.specs.Logic.{pick, by_case, zero_one, no_way}
 use Rattle.alphabet_spec.specs.Kinds.{Blank}
 use Rattle.alphabet_spec.specs.Digits.{Run, long, run, digits, some}
 use Rattle.alphabet_spec.specs.Bytes.{Byte, digit, lead, sign, quest, blank, point, lf, cr, dollar, other, kind}
-use Rattle.alphabet_spec.specs.KindLaws.{Back, kind_back}
+use Rattle.alphabet_spec.proofs.KindLaws.{Back, kind_back}
 use Rattle.table_spec.specs.Frame.{Rules}
 use Rattle.table_spec.specs.Values.{Value, own, gap, Form, is_dif, Spot, first, after, last_or, room, value_of, index, headed_at}
 use Rattle.table_spec.specs.Reading.{Tokens, over, fault, HeadDigits, no_head, sized, value, line, Ending, ends as ends-in, none as no_end, ending, thousandths, Mode, fresh, inner, Rest}
 use Rattle.table_spec.specs.Reading.{ended, headed, valued, opening, inside, step, stop, tokens, Says, adds, refuses, says, bare, dif_before, line_length}
 use Rattle.table_law.specs.Spelling.{Head, Spelled, missing, Ordinate, Stands, LineEnd, over as end_over, lf as end_lf, cr_lf, Line, done, blank as with-blank, value as with_value}
 use Rattle.table_law.specs.Spelling.{Body, indent, passed, row}
-use Rattle.table_law.specs.Heads.{HeadIs, unsigned_is, signed_is as signed-head}
-use Rattle.table_law.specs.Tokens.{EndIs, ending_is, ValueIs, packed_is, plain_is, signed_is}
-use Rattle.table_law.specs.Meaning.{Said, said}
-use Rattle.table_law.specs.Sound.{ends as form-ends, belongs}
+use Rattle.table_law.specs.Heads.{HeadIs}
+use Rattle.table_law.proofs.Heads.{unsigned_is, signed_is as signed-head}
+use Rattle.table_law.proofs.Tokens.{EndIs, ending_is, ValueIs, packed_is, plain_is, signed_is}
+use Rattle.table_law.proofs.Meaning.{Said, said}
+use Rattle.table_law.proofs.Sound.{ends as form-ends, belongs}
 use Rattle.line_law.specs.Linewise.{NoLf}
 use Rattle.line_law.specs.WholeLine.{Done, refused, went, add, takes, does}
 use Rattle.plain_law.specs.Single.{Single, single_tail, EndAll, lf_last, cr_all, dollar_all, all_passed}

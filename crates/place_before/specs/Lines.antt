@@ -10,9 +10,10 @@ use Rattle.table_spec.specs.Values.{Value, Form, Spot, first, after, is_dif, las
 use Rattle.table_spec.specs.Reading.{Tokens, over, fault, head, value, line, fresh, tokens, Says, adds, refuses, says, Answer, refuse, accept, push, bare, dif_before, finish, line_length}
 use Rattle.table_spec.specs.ReadingLaws.{no_accept, push_none, push_push}
 use Rattle.table_law.specs.Spelling.{Ordinate}
-use Rattle.table_law.specs.Meaning.{Said, said}
+use Rattle.table_law.proofs.Meaning.{Said, said}
 use Rattle.line_law.specs.Linewise.{NoLf}
-use Rattle.line_law.specs.WholeLine.{Done, refused, went, add, resume, takes, does, line_does, reading, line_then, last_line}
+use Rattle.line_law.specs.WholeLine.{Done, refused, went, add, resume, takes, does, line_does, reading}
+use Rattle.line_law.proofs.WholeLine.{line_then, last_line}
 use Rattle.plain_law.specs.Single.{Single}
 use Rattle.plain_law.specs.Lines.{Cut, no_line, end_line, whole_line, single_whole, single_last}
 use Rattle.place_on.specs.On.{push_refuse}

@@ -5,7 +5,7 @@ use Rattle.std.proofs.Common.{arith, lit<}
 use Rattle.alphabet_spec.specs.Kinds.{space}
 use Rattle.terms.specs.Logic.{no_way}
 use Rattle.alphabet_spec.specs.SpelledDigits.{none}
-use Rattle.alphabet_spec.specs.SpelledDigitLaws.{first_digit}
+use Rattle.alphabet_spec.proofs.SpelledDigitLaws.{first_digit}
 use Rattle.alphabet_spec.specs.Digits.{digits}
 use Rattle.alphabet_spec.specs.Bytes.{kind}
 use Rattle.table_spec.specs.Frame.{Rules, rules, passes, zero_abscissa}
@@ -16,7 +16,8 @@ use Rattle.table_spec.specs.Reading.{Answer, refuse, accept, read, judge, tokens
 use Rattle.table_spec.specs.Reading.{again, says, push, took, checked, finish, read_lines, line_length, long_line, sooner}
 use Rattle.table_spec.specs.Samples.{padded}
 use Rattle.table_law.specs.Spelling.{Head, ones, whole, unsigned}
-use Rattle.line_law.specs.WholeLine.{does, reading, line_then}
+use Rattle.line_law.specs.WholeLine.{does, reading}
+use Rattle.line_law.proofs.WholeLine.{line_then}
 use Rattle.place_on.specs.HeadOnly.{Blanks, no_blank, one_blank, a_head}
 use Rattle.place_on.specs.Stuck.{none_after_full, none_after_narrow}
 use Rattle.place_before.specs.Before.{last_lf, NoneBegins}

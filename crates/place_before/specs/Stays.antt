@@ -8,9 +8,9 @@ use Rattle.table_spec.specs.Values.{Own, Gap, after, last_or}
 use Rattle.table_spec.specs.Groups.{sqz_text}
 use Rattle.table_spec.specs.Reading.{refuse, accept, push, dif_before, fresh, tokens, judge, long_line, sooner, read, line_length}
 use Rattle.table_law.specs.Spelling.{missing, Ordinate, check, gap_first, lf, done, value, Body, end, Short, over as short-over, Spells}
-use Rattle.table_law.specs.LineLengths.{spelled_short, short_spelled, sooner_accept}
-use Rattle.table_law.specs.Complete.{body_read, complete}
-use Rattle.table_law.specs.Sound.{push_accept, body_sound, read_sound}
+use Rattle.table_law.proofs.LineLengths.{spelled_short, short_spelled, sooner_accept}
+use Rattle.table_law.proofs.Complete.{body_read, complete}
+use Rattle.table_law.proofs.Sound.{push_accept, body_sound, read_sound}
 use Rattle.line_law.specs.WholeLine.{Done, reading, read_is}
 use Rattle.plain_law.specs.Single.{Single}
 use Rattle.plain_law.specs.Lines.{cut}

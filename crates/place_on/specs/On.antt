@@ -20,12 +20,12 @@ use Rattle.table_spec.specs.Reading.{Tokens, over, fault, head, value, line, Say
 use Rattle.table_spec.specs.Reading.{read_lines, long_line, read, read_table}
 use Rattle.table_spec.specs.ReadingLaws.{no_accept}
 use Rattle.table_law.specs.Spelling.{Spells}
-use Rattle.table_law.specs.LineLengths.{sooner_accept}
+use Rattle.table_law.proofs.LineLengths.{sooner_accept}
 use Rattle.line_law.specs.Places.{AnswerIn, judge_in}
 use Rattle.line_law.specs.Ahead.{Lengthens, by_digit, by_point}
-use Rattle.table_law.specs.Complete.{complete}
-use Rattle.table_law.specs.Sound.{push_accept, checked_accept}
-use Rattle.table_law.specs.Outcome.{allowed_read, refused_allowed}
+use Rattle.table_law.proofs.Complete.{complete}
+use Rattle.table_law.proofs.Sound.{push_accept, checked_accept}
+use Rattle.table_law.proofs.Outcome.{allowed_read, refused_allowed}
 use Rattle.table_read.specs.Answers.{told, TableSays}
 use Rattle.table_promise.specs.Promise.{promise}
 use Rattle.place_on.specs.Alike.{HeadLast, ValueLast, Same, same_fault, same_head, same_value, same_line, long_head, long_value, behind, alike}

@@ -7,7 +7,7 @@ use Rattle.std.proofs.lemmas.Bool.{lt-leb}
 use Rattle.terms.specs.Logic.{no_way}
 use Rattle.alphabet_spec.specs.Kinds.{Lead, Pseudo, sqz_up, sqz_down, dif_zero as dif_none, dif_up, dif_down, dup_low, dup_nine, Blank, space, tab}
 use Rattle.alphabet_spec.specs.Bytes.{kind}
-use Rattle.alphabet_spec.specs.KindLaws.{digit_kind}
+use Rattle.alphabet_spec.proofs.KindLaws.{digit_kind}
 use Rattle.alphabet_spec.specs.SpelledDigits.{SpelledDigits, none, more}
 use Rattle.table_spec.specs.Frame.{Rules, zero_ordinate}
 use Rattle.table_spec.specs.Values.{Value, own, Form, first}
@@ -17,7 +17,7 @@ use Rattle.table_law.specs.Spelling.{Magnitude, whole, pointed, Head, unsigned, 
 use Rattle.table_law.specs.Spelling.{Sized, size_up, size_down, check, own_first, gap_first, LineEnd, lf, cr_lf, comment, Line, blank, value}
 use Rattle.table_law.specs.Spelling.{Body, indent, passed, row, Short, lf as short-lf, cr_lf as short-cr-lf, byte}
 use Rattle.table_law.specs.Heads.{lengthens, Apart}
-use Rattle.table_law.specs.Complete.{line_apart, count}
+use Rattle.table_law.proofs.Complete.{line_apart, count}
 use Rattle.table_write_law.specs.Numbers.{low_length}
 use Rattle.place_on.specs.HeadOnly.{Blanks, no_blank, one_blank, HeadOnly, after_blank, a_head}
 

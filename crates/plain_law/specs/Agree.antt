@@ -12,7 +12,8 @@ use Rattle.table_spec.specs.Values.{Own, Spot, first, after, last_or, index}
 use Rattle.table_spec.specs.Reading.{Tokens, over, fault, head, value, line, fresh, stop, tokens, Answer, refuse, accept, push, bare, dif_before, finish, judge, long_line, line_length, sooner, read}
 use Rattle.table_spec.specs.Reading.{read_table, stored}
 use Rattle.table_spec.specs.ReadingLaws.{push_none}
-use Rattle.line_law.specs.WholeLine.{refused, resume, does, line_does, reading, read_is, line_then, last_line}
+use Rattle.line_law.specs.WholeLine.{refused, resume, does, line_does, reading, read_is}
+use Rattle.line_law.proofs.WholeLine.{line_then, last_line}
 use Rattle.plain_spec.specs.Rows.{lines, Row, point, done, bad, Line, unread, row_of, expand, alone, expanded}
 use Rattle.plain_spec.specs.Plain.{ordinates, in_dif, new, Verdict, fine, wrong, then, meets, fits, onward, checks, laid, answer, plain, plain_table}
 use Rattle.plain_law.specs.Along.{met, shift, Inside, After, goes, row_go}

@@ -9,7 +9,8 @@ use Rattle.table_spec.specs.Frame.{Rules}
 use Rattle.table_spec.specs.Values.{Value, Form, Own, Dup, Spot, first, after, last_or, index}
 use Rattle.table_spec.specs.Reading.{Tokens, over, fault, head, value, line, adds, refuses, says, Answer, refuse, accept, push, bare, dif_before, checked, judge}
 use Rattle.table_spec.specs.ReadingLaws.{push_none}
-use Rattle.line_law.specs.WholeLine.{Starts, refused, resume, does, resume_pick, goes_on}
+use Rattle.line_law.specs.WholeLine.{Starts, refused, resume, does, resume_pick}
+use Rattle.line_law.proofs.WholeLine.{goes_on}
 use Rattle.plain_spec.specs.Rows.{Row, point, done, bad, values, row_of}
 use Rattle.plain_spec.specs.Plain.{ordinates, in_dif, new, Verdict, fine, wrong, meets}
 use Rattle.plain_law.specs.Within.{beyond, Within, starts_beyond, to_end, end_beyond, end_inside, end_closed, end_row}

@@ -5,7 +5,7 @@ use Rattle.std.proofs.Math.Bool.{true, false}
 use Rattle.terms.specs.Logic.{pick, by_case, no_way}
 use Rattle.alphabet_spec.specs.Digits.{Run, long, run, digits, some}
 use Rattle.alphabet_spec.specs.Bytes.{Byte, digit, lead, sign, quest, blank, point, lf, cr, dollar, other, kind}
-use Rattle.alphabet_spec.specs.KindLaws.{Back, kind_back}
+use Rattle.alphabet_spec.proofs.KindLaws.{Back, kind_back}
 use Rattle.table_spec.specs.Values.{Value, own, room, value_of}
 use Rattle.table_spec.specs.Reading.{Tokens, over, fault, head, value, line, HeadDigits, no_head, sized, comment, Ending, ends, none, ending, thousandths, Mode, fresh, inner}
 use Rattle.table_spec.specs.Reading.{Rest, ended, headed, valued, opening, inside, step, stop, tokens}

@@ -18,7 +18,8 @@ use Rattle.profile_spec.specs.Wanted.{wanted, kth}
 use Rattle.profile_spec.specs.Profile.{text_at, shown, ProfileAnswer, refuse_profile, accept_profile, read_profile, told_profile}
 use Rattle.profile_law.specs.Fifteen.{long, all_long}
 use Rattle.profile_law.specs.Plain.{refused_as_file, Accepted, accepted_as_file}
-use Rattle.profile_law.specs.AnyPage.{HasAll, in_file, any_page, in_file_lem}
+use Rattle.profile_law.specs.AnyPage.{HasAll, in_file}
+use Rattle.profile_law.proofs.AnyPage.{any_page, in_file_lem}
 use Rattle.profile_law.specs.ShownTexts.{shown_at, shown_text}
 use Rattle.profile.specs.Answers.{ProfileSays}
 

@@ -13,7 +13,7 @@ use Rattle.decimal_spec.specs.declared.Rounded.TheVariants.{Whole, Beyond}
 use Rattle.decimal_spec.specs.Number.{bound}
 use Rattle.decimal_spec.specs.declared.Quotient.{Quotient}
 use Rattle.decimal_spec.specs.Quotient.{Reaches, Nearest, IsRounded, nearest, Exact, IsQuotient, quotient_of, zero_quotient, beyond_quotient}
-use Rattle.decimal_spec.specs.QuotientLaws.{reaches_le, nearest_is, quotient_is}
+use Rattle.decimal_spec.proofs.QuotientLaws.{reaches_le, nearest_is, quotient_is}
 use Rattle.nearest_whole.proofs.Rests.{zero, over_limit}
 
 -- ---- answers that are known without the product

@@ -10,8 +10,9 @@ use Rattle.terms.specs.declared.TableRead.TheVariants.{Accepted, Refused}
 use Rattle.table_spec.specs.Frame.{Rules, rules, longest_body, abscissa}
 use Rattle.table_spec.specs.Values.{Form, Own, is_dif, after}
 use Rattle.table_spec.specs.Reading.{fresh, tokens, Answer, refuse, accept, push, judge, long_line, sooner, read, read_table, stored}
-use Rattle.table_law.specs.LineLengths.{sooner_accept, short_spelled, spelled_short}
-use Rattle.table_law.specs.Outcome.{Allowed, accepted_allowed, allowed_read}
+use Rattle.table_law.proofs.LineLengths.{sooner_accept, short_spelled, spelled_short}
+use Rattle.table_law.specs.Outcome.{Allowed}
+use Rattle.table_law.proofs.Outcome.{accepted_allowed, allowed_read}
 use Rattle.line_law.specs.WholeLine.{went, reading, read_is, line_starts}
 use Rattle.table_read.specs.Answers.{told, TableSays}
 use Rattle.table_damage.specs.Moved.{alike_tokens}

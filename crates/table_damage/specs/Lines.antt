@@ -12,7 +12,8 @@ use Rattle.table_spec.specs.Values.{Value, own, gap, by, times, Form, Own, is_di
 use Rattle.table_spec.specs.Reading.{Tokens, over, fault, head, value, line, adds, refuses, says, Answer, refuse, accept, push, bare, took, checked, finish, judge}
 use Rattle.table_spec.specs.ReadingLaws.{no_accept, push_none}
 use Rattle.line_law.specs.Linewise.{NoLf}
-use Rattle.line_law.specs.WholeLine.{Done, refused, went, add, resume, reading, line_does, Closed, HeadsClosed, Starts, push_add, line_then}
+use Rattle.line_law.specs.WholeLine.{Done, refused, went, add, resume, reading, line_does, Closed, HeadsClosed, Starts, push_add}
+use Rattle.line_law.proofs.WholeLine.{line_then}
 use Rattle.table_damage.specs.Moved.{Alike, overs, faults, heads, values, lines}
 
 -- ---- lines

@@ -1,10 +1,5 @@
 pub mod Spelling
-pub mod LineLengths
 pub mod Runs
 pub mod Heads
-pub mod Tokens
-pub mod Meaning
-pub mod Complete
-pub mod Sound
 pub mod Small
 pub mod Outcome

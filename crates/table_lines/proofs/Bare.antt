@@ -9,7 +9,7 @@ use Rattle.alphabet_spec.specs.Kinds.{tabs_too}
 use Rattle.alphabet_spec.specs.Digits.{Run, long, run, digits, some}
 use Rattle.alphabet_spec.specs.Bytes.{Byte, digit, lead, sign, quest, blank, point, lf, cr, dollar, other, kind}
 use Rattle.alphabet_spec.specs.Entries.{code, entry_at, entry}
-use Rattle.alphabet_spec.specs.EntryLaws.{entry_in, at_entry}
+use Rattle.alphabet_spec.proofs.EntryLaws.{entry_in, at_entry}
 use Rattle.table_spec.specs.Values.{Value, own, value_of, room}
 use Rattle.table_spec.specs.Reading.{Tokens, Mode, inner, valued, inside, step, bare}
 use Rattle.table_lines.specs.Seen.{behind, here, seen_step}

@@ -15,9 +15,9 @@ use Rattle.terms.specs.Logic.{pick, by_case}
 use Rattle.alphabet_spec.specs.Digits.{long, run, digits, some}
 use Rattle.alphabet_spec.specs.Bytes.{Byte, digit, lead, sign, quest, blank, point, lf, cr, dollar, other, kind}
 use Rattle.alphabet_spec.specs.Entries.{code, entry_at, entry, kind_of}
-use Rattle.alphabet_spec.specs.EntryLaws.{at_entry, at_kind}
+use Rattle.alphabet_spec.proofs.EntryLaws.{at_entry, at_kind}
 use Rattle.alphabet_spec.specs.Kinds.{tabs_too}
-use Rattle.alphabet_spec.specs.KindLaws.{Back, kind_back}
+use Rattle.alphabet_spec.proofs.KindLaws.{Back, kind_back}
 use Rattle.alphabet.specs.Ran.{Ran, ran_is, ran_below, first_low, first_there}
 use Rattle.table_spec.specs.Values.{headed_at}
 use Rattle.table_spec.specs.Reading.{Tokens, head, fault, Mode, fresh, inner, Rest, starts, unit, scaled, pointed, thousandths, headed, opening, step}

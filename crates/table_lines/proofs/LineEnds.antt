@@ -12,9 +12,9 @@ use borrow.Author.Tests.{eq-eqb, ne_eqb, lt-ltb, le-ltb, ltb-true, ltb-false}
 use Rattle.terms.specs.Logic.{pick, by_case}
 use Rattle.alphabet_spec.specs.Kinds.{tabs_too}
 use Rattle.alphabet_spec.specs.Bytes.{Byte, blank, point, lf, cr, dollar, other, kind}
-use Rattle.alphabet_spec.specs.KindLaws.{Back}
+use Rattle.alphabet_spec.proofs.KindLaws.{Back}
 use Rattle.alphabet_spec.specs.Entries.{entry_at, entry, kind_of}
-use Rattle.alphabet_spec.specs.EntryLaws.{entry_in, entry_end, at_entry, at_kind}
+use Rattle.alphabet_spec.proofs.EntryLaws.{entry_in, entry_end, at_entry, at_kind}
 use Rattle.table_spec.specs.Reading.{Tokens, over, fault, line, comment, starts, Ending as EndRead, ends, none, ending, Mode, fresh, inner, ended, opening, inside, step, stop}
 use Rattle.table_lines.specs.Seen.{seen, later, behind, here, seen_end, later_seen, later_none, seen_kind, byte_back}
 use Rattle.table_lines.specs.Ends.{Commented, end_of, end_at, Ended}

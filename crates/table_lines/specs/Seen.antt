@@ -4,9 +4,9 @@ use Rattle.std.proofs.Common.{ap, ◌∙◌, subst, arith, add-zero, add-suc, su
 use Rattle.terms.specs.Logic.{pick}
 use Rattle.alphabet_spec.specs.Kinds.{tabs_too}
 use Rattle.alphabet_spec.specs.Bytes.{Byte, kind}
-use Rattle.alphabet_spec.specs.KindLaws.{Back, kind_back}
+use Rattle.alphabet_spec.proofs.KindLaws.{Back, kind_back}
 use Rattle.alphabet_spec.specs.Entries.{entry_at, kind_of}
-use Rattle.alphabet_spec.specs.EntryLaws.{at_kind}
+use Rattle.alphabet_spec.proofs.EntryLaws.{at_kind}
 use Rattle.table_spec.specs.Reading.{Tokens, Mode, inner, step, stop, tokens}
 
 -- what is left to read from the place i

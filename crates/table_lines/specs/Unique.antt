@@ -6,7 +6,7 @@ use Rattle.alphabet_spec.specs.Kinds.{tabs_too}
 use Rattle.alphabet_spec.specs.Digits.{digits, some}
 use Rattle.alphabet_spec.specs.Bytes.{Byte, digit, lead, sign, quest, blank, point, lf, cr, dollar, other, kind}
 use Rattle.alphabet_spec.specs.Entries.{code, entry}
-use Rattle.alphabet_spec.specs.EntryLaws.{at_entry}
+use Rattle.alphabet_spec.proofs.EntryLaws.{at_entry}
 use Rattle.table_spec.specs.Reading.{Tokens, over, fault, head, HeadDigits, no_head, sized, value, line, Mode, fresh, headed, thousandths, opening, step}
 use Rattle.table_lines.specs.Seen.{seen, seen_step}
 use Rattle.table_lines.specs.Ends.{Blanked, Ended, Started}

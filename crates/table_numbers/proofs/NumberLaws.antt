@@ -14,10 +14,10 @@ use Rattle.terms.specs.Logic.{pick, by_case}
 use Rattle.alphabet_spec.specs.Kinds.{Lead, sqz, dif, dup, tabs_too, Pseudo, sqz_up, sqz_down, dif_zero, dif_up, dif_down, dup_low, dup_nine}
 use Rattle.alphabet_spec.specs.Digits.{long, run, digits}
 use Rattle.alphabet_spec.specs.Bytes.{Byte, digit, lead, sign, quest, blank, point, lf, cr, dollar, other, kind}
-use Rattle.alphabet_spec.specs.KindLaws.{Back, kind_back}
+use Rattle.alphabet_spec.proofs.KindLaws.{Back, kind_back}
 use Rattle.alphabet_spec.specs.Entries.{code, entry, entry_at, kind_of}
-use Rattle.alphabet_spec.specs.EntryLaws.{entry_in, at_entry}
-use Rattle.alphabet_spec.specs.DigitLaws.{digit_at}
+use Rattle.alphabet_spec.proofs.EntryLaws.{entry_in, at_entry}
+use Rattle.alphabet_spec.proofs.DigitLaws.{digit_at}
 use Rattle.alphabet.specs.Ran.{AllDigits, Ran, ran_below, first_low, first_there}
 use Rattle.table_spec.specs.Values.{Value, own, gap, by, times, value_of, room}
 use Rattle.table_spec.specs.Reading.{Tokens, value, fault, Mode, inner, valued, inside, step}

@@ -7,8 +7,9 @@ use Rattle.terms.specs.declared.TableRead.TheVariants.{Accepted, Refused}
 use Rattle.table_spec.specs.Frame.{Rules, rules, abscissa, entry_for}
 use Rattle.table_spec.specs.Reading.{Answer, refuse, accept, read_table, stored}
 use Rattle.table_law.specs.Spelling.{Spells}
-use Rattle.table_law.specs.Sound.{spells_unique}
-use Rattle.table_law.specs.Outcome.{Allowed, accepted_allowed, accepted_count, accepted_spells, spells_accepted, accepted_stored, refused_none}
+use Rattle.table_law.proofs.Sound.{spells_unique}
+use Rattle.table_law.specs.Outcome.{Allowed}
+use Rattle.table_law.proofs.Outcome.{accepted_allowed, accepted_count, accepted_spells, spells_accepted, accepted_stored, refused_none}
 use Rattle.table_read.specs.Answers.{told, TableSays}
 
 module _ (f l : ℤ) (n : ℕ) (body : List ℕ) (out out' : List ℤ) where

@@ -15,9 +15,9 @@ use Rattle.table_spec.specs.Writing.{Outcome, declined, wrote, fitted, written, 
 use Rattle.table_spec.specs.Groups.{in_full}
 use Rattle.frame.specs.Legal.{framed}
 use Rattle.frame.specs.FrameLaws.{framed_legal}
-use Rattle.table_write_law.specs.Written.{Takes}
-use Rattle.table_write_law.specs.Lengths.{plain_written_most}
-use Rattle.table_write_law.specs.ReadBack.{always_written, wrote_most, wrote_ceiling}
+use Rattle.table_write_law.proofs.Written.{Takes}
+use Rattle.table_write_law.proofs.Lengths.{plain_written_most}
+use Rattle.table_write_law.proofs.ReadBack.{always_written, wrote_most, wrote_ceiling}
 use Rattle.table_text.specs.Answers.{told, refused, Answered}
 use Rattle.table_write.specs.Room.{enough, Measured}
 use Rattle.table_room.specs.Room.{ceiling, ByRoom, refuses, writes}

@@ -8,7 +8,7 @@ use Rattle.terms.specs.Logic.{pick, both, by_case, no_way}
 use Rattle.terms.specs.Places.{line_of, column_after}
 use Rattle.alphabet_spec.specs.Digits.{within, Run, long, run, one_more, digits, some}
 use Rattle.alphabet_spec.specs.Bytes.{Byte, digit, lead, sign, quest, blank, point, lf, cr, dollar, other, kind}
-use Rattle.alphabet_spec.specs.KindLaws.{Back, kind_back}
+use Rattle.alphabet_spec.proofs.KindLaws.{Back, kind_back}
 use Rattle.table_spec.specs.Frame.{Rules, rules, abscissa}
 use Rattle.table_spec.specs.Values.{Value, own, gap, room, value_of, headed_at, Form, Spot, first, last_or, after, Own}
 use Rattle.table_spec.specs.Reading.{Tokens, over, fault, head, value, line, HeadDigits, no_head, sized, comment, starts, ends, none, ending, scaled, pointed, thousandths}

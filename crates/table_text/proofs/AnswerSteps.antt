@@ -16,8 +16,8 @@ use Rattle.frame.specs.Legal.{framed, Sound}
 use Rattle.frame.specs.FrameLaws.{framed_legal}
 use Rattle.table_spec.specs.Frame.{ordinate_of}
 use Rattle.table_spec.specs.Writing.{lines_of, written, write_table, laid}
-use Rattle.table_write_law.specs.Written.{Takes}
-use Rattle.table_write_law.specs.Lengths.{written_most}
+use Rattle.table_write_law.proofs.Written.{Takes}
+use Rattle.table_write_law.proofs.Lengths.{written_most}
 use Rattle.table_text.specs.Pieces.{Put, head_of, ordinates}
 use Rattle.table_text.specs.Answers.{refused, Answered, FramedAnswer}
 use Rattle.table_spec.specs.declared.Style.{Style}

@@ -14,7 +14,7 @@ use Rattle.frame.specs.declared.Frame.{Frame}
 use Rattle.frame.specs.declared.Framed.TheVariants.{Legal}
 use Rattle.frame.specs.Legal.{framed}
 use Rattle.frame.specs.FrameLaws.{framed_legal}
-use Rattle.table_write_law.specs.ReadBack.{always_written}
+use Rattle.table_write_law.proofs.ReadBack.{always_written}
 use Rattle.table_text.specs.Pieces.{head_of, ordinates}
 use Rattle.table_text.specs.Answers.{told, refused, Tells}
 use Rattle.table_write.specs.Room.{enough, Measured}

@@ -10,16 +10,13 @@ use Rattle.std.proofs.Math.ListN.{length, length-append}
 use borrow.Author.Tests.{leb-false}
 use Rattle.terms.specs.Logic.{pick, by_case}
 use Rattle.alphabet_spec.specs.Kinds.{Lead, sqz, dif, dup}
-use Rattle.table_spec.specs.Frame.{nearest, zero_ordinate, longest_body, longest_line}
+use Rattle.table_spec.specs.Frame.{zero_ordinate, longest_line}
 use Rattle.table_spec.specs.Values.{Form, Own, Gap, By, Dup, is_dif}
-use Rattle.table_spec.specs.Numerals.{low, numeral, head_text}
+use Rattle.table_spec.specs.Numerals.{low, numeral}
 use Rattle.table_spec.specs.Groups.{form, sqz_text, token_text, many, dup_text, group}
-use Rattle.table_spec.specs.Writing.{put, check, open_line, go_on, close, text, lines_of, written}
+use Rattle.table_spec.specs.Writing.{put, check, open_line, go_on, close, text, lines_of}
 use Rattle.table_write_law.specs.Numbers.{numeral_length}
-use Rattle.table_write_law.specs.Abscissas.{nearest_range}
-use Rattle.table_write_law.specs.Heads.{head_length}
 use Rattle.table_write_law.specs.Tokens.{many_le, form_cases}
-use Rattle.table_write_law.specs.Written.{Takes}
 use Rattle.table_spec.specs.declared.Style.{Style}
 use Rattle.table_spec.specs.declared.Style.TheVariants.{Affn, Pac, Sqz, Difdup}
 use Rattle.table_spec.specs.Groups.{in_full, form, sqz_text, plain_text, pac_text, affn_text, own_text, gap_text, token_text, many, dup_text, group}
@@ -181,7 +178,7 @@ module _ (N : ℕ) (few : N ≤ 65536) (hd : ℕ → List ℕ) (short : (i : ℕ
   text_most (y ∷ ys) zero i p d col l g b = omega (arith, goes_most y ys (text_most ys) d i p col g b)
   text_most (y ∷ ys) (suc n) i p d col l g b = omega (arith, text_most ys n (suc i) y d col (le_of_suc-le-suc l) (omega arith) (omega arith))
 
-  lines_most : (ys : List ℕ) → length ys ≡ N → length (lines_of Difdup hd ys) ≤ 15 * N + 44
+  pub lines_most : (ys : List ℕ) → length ys ≡ N → length (lines_of Difdup hd ys) ≤ 15 * N + 44
   unfolding lines_of open_line
   lines_most [] b = omega arith
   lines_most (y ∷ ys) b =
@@ -190,7 +187,7 @@ module _ (N : ℕ) (few : N ≤ 65536) (hd : ℕ → List ℕ) (short : (i : ℕ
       omega (arith, length-append c (put Difdup hd (text Difdup hd ys) (length c) 0 0 y ys), put_most y ys (text_most ys) 0 0 (length c) (omega arith), short 0 (omega arith), w.0)
 
   -- one point: a line, and no check line after it
-  one_most : (y : ℕ) → 0 < N → length (lines_of Difdup hd (y ∷ [])) ≤ 24
+  pub one_most : (y : ℕ) → 0 < N → length (lines_of Difdup hd (y ∷ [])) ≤ 24
   unfolding lines_of open_line put text close many
   one_most y h =
       let c = hd 0 in
@@ -216,51 +213,9 @@ module _ (st : Style) (full : in_full st ≡ true) (N : ℕ) (hd : ℕ → List 
       let s = values (value_text st) hd ys (suc i) (length (hd i) + length v) in
       omega (arith, length-append (hd i) (v ++ s), length-append v s, short i (omega arith), values_most ys (suc i) (length (hd i) + length v) (omega arith)))
 
-  plain_lines_most : (ys : List ℕ) → length ys ≡ N → length (lines_of st hd ys) ≤ 15 * N + 17
+  pub plain_lines_most : (ys : List ℕ) → length ys ≡ N → length (lines_of st hd ys) ≤ 15 * N + 17
   plain_lines_most [] b = unfold lines_of in omega arith
   plain_lines_most (y ∷ ys) b =
       let h = short 0 (omega arith) in
       rw (plain_lines st full hd y ys (omega (arith, value_most st y)))
       (omega (arith, length-append (hd 0) (values (value_text st) hd (y ∷ ys) 0 (length (hd 0))), values_most (y ∷ ys) 0 (length (hd 0)) (omega arith)))
-
--- ---- the text of a frame that the writer takes
-
--- a written head
-pub head_most : (first last n : ℕ) → Takes first last n → (i : ℕ) → i < n → length (head_text (nearest first last n i)) ≤ 12
-head_most first last n t i l =
-    let low_first = t.low_first in let low_last = t.low_last in let high_first = t.high_first in let high_last = t.high_last in
-    let z = nearest_range first last n i 1 19999999999 l (omega arith) (omega arith) (omega arith) (omega arith) in
-    head_length (nearest first last n i) (omega (arith, z.0)) (omega (arith, z.1))
-
--- "Each value is written in full": 15 bytes a point and 17 more
-pub plain_written_most : (st : Style) → in_full st ≡ true → (first last n : ℕ) (ys : List ℕ) → Takes first last n → length ys ≡ n → length (written st first last n ys) ≤ 15 * n + 17
-unfolding written
-plain_written_most st full first last n ys t e = plain_lines_most st full n (λ i. head_text (nearest first last n i)) (head_most first last n t) ys e
-
-difdup_written_most : (first last n : ℕ) (ys : List ℕ) → Takes first last n → length ys ≡ n → length (written Difdup first last n ys) ≤ 15 * n + 44
-unfolding written
-difdup_written_most first last n ys t e = lines_most n t.few (λ i. head_text (nearest first last n i)) (head_most first last n t) ys e
-
--- one bound for the four forms
-pub written_most : (st : Style) (first last n : ℕ) (ys : List ℕ) → Takes first last n → length ys ≡ n → length (written st first last n ys) ≤ 15 * n + 44
-written_most Affn first last n ys t e = omega (arith, plain_written_most Affn refl first last n ys t e)
-written_most Pac first last n ys t e = omega (arith, plain_written_most Pac refl first last n ys t e)
-written_most Sqz first last n ys t e = omega (arith, plain_written_most Sqz refl first last n ys t e)
-written_most Difdup first last n ys t e = difdup_written_most first last n ys t e
-
--- a ceiling that holds from one point on: 34 bytes for each and 24 more
-pub written_ceiling : (st : Style) (first last n : ℕ) (ys : List ℕ) → Takes first last n → length ys ≡ n → length (written st first last n ys) ≤ 34 * n + 24
-written_ceiling Affn first last n ys t e = omega (arith, plain_written_most Affn refl first last n ys t e)
-written_ceiling Pac first last n ys t e = omega (arith, plain_written_most Pac refl first last n ys t e)
-written_ceiling Sqz first last n ys t e = omega (arith, plain_written_most Sqz refl first last n ys t e)
-written_ceiling Difdup first last n ys t e = ceiling ys e
-  where
-    ceiling : (ys : List ℕ) → length ys ≡ n → length (written Difdup first last n ys) ≤ 34 * n + 24
-    ceiling [] e = let some = t.some in absurd (omega arith)
-    ceiling (y ∷ []) e = unfold written in
-        omega (arith, one_most n t.few (λ i. head_text (nearest first last n i)) (λ i l. head_most first last n t i l) y t.some)
-    ceiling (y ∷ z ∷ ys) e = omega (arith, written_most Difdup first last n (y ∷ z ∷ ys) t e)
-
--- a written body is never longer than a body may be
-pub written_is_a_body : (st : Style) (first last n : ℕ) (ys : List ℕ) → Takes first last n → length ys ≡ n → length (written st first last n ys) ≤ longest_body
-written_is_a_body st first last n ys t e = let few = t.few in omega (arith, written_most st first last n ys t e)

@@ -12,8 +12,8 @@ use Rattle.table_spec.specs.Numerals.{numeral}
 use Rattle.table_spec.specs.Groups.{form, sqz_text, token_text, alike, many, dup_text}
 use Rattle.table_law.specs.Spelling as sp
 use Rattle.table_law.specs.Small.{Small}
-use Rattle.table_law.specs.Meaning.{step, own_copies, gap_copies}
-use Rattle.table_law.specs.Sound.{ends}
+use Rattle.table_law.proofs.Meaning.{step, own_copies, gap_copies}
+use Rattle.table_law.proofs.Sound.{ends}
 use Rattle.table_write_law.specs.Numbers.{Spellable, numeral_spelled}
 use Rattle.alphabet_spec.specs.Kinds.{sqz, dif, dup, space}
 use Rattle.table_spec.specs.declared.Style.{Style}
@@ -22,7 +22,7 @@ use Rattle.table_spec.specs.Values.{Value, own, gap, times, Form, Own, Gap, By, 
 use Rattle.table_spec.specs.Groups.{in_full, form, sqz_text, plain_text, pac_text, affn_text, own_text, gap_text, seen_after, token_text, alike, many, more_of, dup_text}
 use Rattle.table_write_law.specs.Numbers.{Spellable, digits, top_small, numeral_spelled}
 use Rattle.alphabet_spec.specs.SpelledDigits.{SpelledDigits, none}
-use Rattle.alphabet_spec.specs.SpelledDigitLaws.{first_digit}
+use Rattle.alphabet_spec.proofs.SpelledDigitLaws.{first_digit}
 
 -- ---- a line from one of its values on, and the lines after it
 

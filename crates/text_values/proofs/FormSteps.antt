@@ -20,7 +20,7 @@ use Rattle.table_write_law.specs.Lengths.{value_most}
 use Rattle.frame.specs.declared.Frame.{Frame}
 use Rattle.frame.specs.Legal.{Sound}
 use Rattle.table_spec.specs.Frame.{nearest}
-use Rattle.table_write_law.specs.Abscissas.{nearest_range}
+use Rattle.table_write_law.proofs.Abscissas.{nearest_range}
 use Rattle.table_write_law.specs.Heads.{head_length}
 use Rattle.table_text.specs.Pieces.{number, head_of}
 use Rattle.text_marks.specs.declared.Marks.{Marks}

@@ -1,0 +1,4 @@
+pub mod DigitLaws
+pub mod EntryLaws
+pub mod KindLaws
+pub mod SpelledDigitLaws

@@ -1,0 +1,12 @@
+-- `host_read::tell_blocks` meets its contract: how many blocks, or a refusal.
+use mathlib.Core.Path.{ap}
+use Rattle.host_numbers.specs.NumberLaws.{tells}
+use Rattle.host_read.specs.Answers.{blocks_numbers}
+use borrow.Author.Rules.{rules}
+use Rattle.host_read.proofs.tell_blocks.Goals as goal
+
+pub returns-in-Refused : goal.returns-in-Refused
+returns-in-Refused c = tells _ (ap blocks_numbers c.in-Refused.is)
+
+pub returns-in-Compound : goal.returns-in-Compound
+returns-in-Compound c = tells _ (ap blocks_numbers c.in-Compound.is)

@@ -1,0 +1,20 @@
+-- `host_read::tell_file` meets its contract: N, F, L and what is exact, or a refusal.
+use mathlib.Core.Path.{ap}
+use mir.Facts.{to_z-of_z}
+use mir.Syntax.{w64}
+use borrow.Author.Rules.{sfits_of}
+use Rattle.host_numbers.specs.NumberLaws.{tells}
+use Rattle.host_read.specs.Answers.{file_numbers}
+use Rattle.host_read.proofs.Tellings.{tells_accepted}
+use borrow.Author.Rules.{rules}
+use Rattle.host_read.proofs.tell_file.Goals as goal
+
+pub returns-in-Accepted : goal.returns-in-Accepted
+returns-in-Accepted c =
+    let k = c.struct_told-1.given in let j = c.struct_told-in-Accepted-1.given in
+    tells_accepted c.in-Accepted.is
+    (rw (to_z-of_z (sfits_of {w = w64} k.1.0.1)) at c.bits_of-f.ensures) (rw (to_z-of_z (sfits_of {w = w64} j.1.1.0.1)) at c.bits_of-l.ensures)
+    c.flag_of-ef.ensures c.flag_of-el.ensures c.flag_of-ey.ensures
+
+pub returns-in-Refused : goal.returns-in-Refused
+returns-in-Refused c = tells _ (ap file_numbers c.in-Refused.is)

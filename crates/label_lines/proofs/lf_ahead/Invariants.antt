@@ -1,0 +1,12 @@
+-- `label_lines::lf_ahead` meets its contract: no LF has come up to i, and one is ahead.
+use Prim.Native.Nat.{◌-◌}
+use lib.ListN.{length}
+use Rattle.label_lines.specs.Post.{Ahead}
+use Rattle.label_lines.proofs.LineTurns.{Along}
+use Rattle.label_lines.proofs.lf_ahead.Given as goal
+
+abbrev pub invariant-loop-i : goal.invariant-loop-i
+invariant-loop-i l = Along l.s l.at l.i × Ahead l.s l.i
+
+abbrev pub decreases-loop-i : goal.decreases-loop-i
+decreases-loop-i l = length l.s - l.i

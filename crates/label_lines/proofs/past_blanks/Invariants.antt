@@ -1,0 +1,12 @@
+-- `label_lines::past_blanks` meets its contract: only blanks were passed.
+use Prim.Native.Nat.{◌-◌}
+use lib.ListN.{length}
+use borrow.Author.Rules.{rules}
+use Rattle.label_lines.proofs.LineTurns.{Blanks}
+use Rattle.label_lines.proofs.past_blanks.Given as goal
+
+abbrev pub invariant-loop-i : goal.invariant-loop-i
+invariant-loop-i l = Blanks l.s l.at l.i
+
+abbrev pub decreases-loop-i : goal.decreases-loop-i
+decreases-loop-i l = length l.s - l.i

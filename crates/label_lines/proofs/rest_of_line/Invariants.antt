@@ -1,0 +1,12 @@
+-- `label_lines::rest_of_line` meets its contract: no LF has come up to i.
+use Prim.Native.Nat.{◌-◌}
+use lib.ListN.{length}
+use borrow.Author.Rules.{rules}
+use Rattle.label_lines.proofs.LineTurns.{Along}
+use Rattle.label_lines.proofs.rest_of_line.Given as goal
+
+abbrev pub invariant-loop-i : goal.invariant-loop-i
+invariant-loop-i l = Along l.s l.at l.i
+
+abbrev pub decreases-loop-i : goal.decreases-loop-i
+decreases-loop-i l = length l.s - l.i

@@ -1,0 +1,10 @@
+-- `night_numbers::level_bits` meets its contract: a number of the report, or the mark for `none`.
+use mathlib.Core.Path.{refl}
+use mir.Syntax.{w64}
+use mir.Facts.{to_z-of_z}
+use borrow.Author.Rules.{sfits_of}
+use borrow.Author.Rules.{rules}
+use Rattle.night_numbers.proofs.level_bits.Goals as goal
+
+pub returns-in-Is : goal.returns-in-Is
+returns-in-Is c = rw (c.bits_of.ensures, to_z-of_z (sfits_of {w = w64} {z = c.in-Is.x} c.in-Is.known_told-1-own.given.0.1), c.in-Is.is) refl

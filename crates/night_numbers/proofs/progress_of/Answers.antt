@@ -1,0 +1,10 @@
+-- `night_numbers::progress_of` meets its contract: each number in its place, the sum with its sign.
+use mathlib.Core.Path.{refl}
+use mir.Syntax.{w64}
+use mir.Facts.{to_z-of_z}
+use borrow.Author.Rules.{sfits_of}
+use borrow.Author.Rules.{rules}
+use Rattle.night_numbers.proofs.progress_of.Goals as goal
+
+pub returns : goal.returns
+returns c = rw (to_z-of_z (sfits_of {w = w64} c.number_of-sum.type_inv), c.number_of-sum.ensures) refl

@@ -1,0 +1,12 @@
+-- `profile_told::store_numbers` meets its contract: one entry after the other, as far as there is room.
+use Prim.Native.Nat.{◌-◌}
+use lib.ListN.{length}
+use borrow.Author.Rules.{rules}
+use Rattle.profile_told.proofs.ToldTurns.{Storing}
+use Rattle.profile_told.proofs.store_numbers.Given as goal
+
+abbrev pub invariant-loop-i : goal.invariant-loop-i
+invariant-loop-i l = Storing l.numbers l.initial.out l.out l.i
+
+abbrev pub decreases-loop-i : goal.decreases-loop-i
+decreases-loop-i l = length l.numbers - l.i

@@ -1,0 +1,10 @@
+-- `table_text::digits::put_digits` meets its contract: the n further digits of v from the right; its first digit, which is what is left.
+use borrow.Author.Rules.{rules}
+use Rattle.table_text.specs.Digits.{Digits}
+use Rattle.table_text.proofs.digits.put_digits.Given as goal
+
+abbrev pub invariant-loop-j : goal.invariant-loop-j
+invariant-loop-j l = Digits l.v l.n l.at l.initial.out l.out l.w l.j
+
+abbrev pub decreases-loop-j : goal.decreases-loop-j
+decreases-loop-j l = l.j

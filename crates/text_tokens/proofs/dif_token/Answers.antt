@@ -1,0 +1,13 @@
+-- `text_tokens::dif_token` meets its contract: the DIF token of the ordinate y after p.
+use native.Mathlib.Omega.{arith}
+use Rattle.text_tokens.proofs.TokenSteps.{dif_either}
+use borrow.Author.Rules.{rules}
+use Rattle.text_tokens.proofs.dif_token.Goals as goal
+
+pub overflow_add-size : goal.overflow_add-size
+overflow_add-size c = omega (arith, c.above-up.ensures, c.above-down.ensures, c.requires.1, c.requires.3)
+
+pub returns : goal.returns
+returns c =
+    let p = c.requires in
+    rw (c.base_of-base.ensures.0, c.above-up.ensures, c.above-down.ensures) (dif_either _ _ p.0 p.1 p.2 p.3)
