@@ -13,5 +13,5 @@ digit_lead-requires c = let p = c.requires in let h = p.1 in (p.0, omega arith, 
 
 pub returns : goal.returns
 returns c =
-    let high : let b = c.args.b in b - b / 32 % 2 * 32 < 74 = leb-false 74 _ c.if-letter-gt73.false in
+    let high : let b = c.args.b in b - b / 32 % 2 * 32 < 74 = omega arith in
     let p = c.requires in let h = p.1 in let u = high in λ l. letter_leads _ _ (omega arith) p.2 c.if-letter-lt65.false (omega arith)

@@ -2,13 +2,14 @@
 -- where a digit was found: it is one
 use mathlib.Core.Path.{◌≡◌, sym, ◌∙◌}
 use mathlib.Core.Bool.{true}
-use mathlib.Core.Logic.{◌⊎◌, ⊎_elim, inl, inr}
+use mathlib.Core.Logic.{◌⊎◌, inl, inr}
 use native.Mathlib.Omega.{arith}
 use borrow.Author.Rules.{rules}
 use Rattle.alphabet_spec.specs.Digits.{within}
 use Rattle.alphabet.specs.Standing.{within_in}
 use Rattle.table_leads.proofs.Leads.{sign_leads}
 use Rattle.table_leads.proofs.sign_lead.Goals as goal
+use Rattle.table_leads.proofs.sign_lead.Goals.{then-b-ne-PLUS+else-b-ne-MINUS, else-b-ne-PLUS}
 
 pub returns-then-b-ne-MINUS : goal.returns-then-b-ne-MINUS
 returns-then-b-ne-MINUS c = λ l. absurd (let y = rw c.no_lead.ensures at l in omega arith)
@@ -23,6 +24,6 @@ overflow_sub-result c =
 
 pub returns : goal.returns
 returns c =
-    let signs : (c.args.b ≡ 43) ⊎ (c.args.b ≡ 45) = ⊎_elim (λ x. inr x.1.left) (λ x. inl x.left) c.if-b-ne-PLUS.branch in
+    let signs : (c.args.b ≡ 43) ⊎ (c.args.b ≡ 45) = elim c.if-b-ne-PLUS.branch [ then-b-ne-PLUS+else-b-ne-MINUS w ↦ inr (w.if-b-ne-MINUS.false) | else-b-ne-PLUS w ↦ inl (w.if-b-ne-PLUS.false) ] in
     let found : within 48 10 c.standing_in-x.result ≡ true = sym c.is_digit.ensures ∙ c.if-not-is_digit.false in
     let p = c.requires in let h = p.0 in λ l. sign_leads _ _ (omega arith) p.1 signs h c.standing_in-x.ensures found

@@ -13,7 +13,7 @@ use Rattle.table_shorts.proofs.short.Goals as goal
 
 pub few_digits-r-requires : goal.few_digits-r-requires
 few_digits-r-requires c =
-    let high : let b = c.args.b in b - b / 32 % 2 * 32 < 83 = leb-false 83 _ c.if-letter-gt82.false in
+    let high : let b = c.args.b in b - b / 32 % 2 * 32 < 83 = omega arith in
     let l = c.requires.0 in let h = high in let g = c.if-letter-lt74.false in (omega arith, omega arith)
 
 pub returns-then-is_digit : goal.returns-then-is_digit
@@ -21,7 +21,7 @@ returns-then-is_digit c = inl (ap (λ (r : Run). r.at) c.nothing.ensures)
 
 pub returns : goal.returns
 returns c =
-    let high : let b = c.args.b in b - b / 32 % 2 * 32 < 83 = leb-false 83 _ c.if-letter-gt82.false in
+    let high : let b = c.args.b in b - b / 32 % 2 * 32 < 83 = omega arith in
     let p = c.requires in let l = p.0 in let h = high in
     inr (letter_short _ _ (omega arith) p.1 c.if-letter-lt74.false (omega arith) c.few_digits-r.ensures
     (digit_seen_not _ _ c.few_digits-r.ensures.stands c.is_digit.ensures c.if-is_digit.false))

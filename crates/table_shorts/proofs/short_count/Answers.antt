@@ -18,7 +18,7 @@ returns-then-b-lt83 c = none _ c.nothing.ensures
 
 pub few_digits-r-requires : goal.few_digits-r-requires
 few_digits-r-requires c =
-    let high : c.args.b < 91 = leb-false 91 _ c.if-b-gt90.false in
+    let high : c.args.b < 91 = omega arith in
     let l = c.requires.0 in let h = high in let g = c.if-b-lt83.false in (omega arith, omega arith)
 
 pub returns-then-is_digit : goal.returns-then-is_digit
@@ -26,7 +26,7 @@ returns-then-is_digit c = none _ c.nothing-then-is_digit.ensures
 
 pub returns : goal.returns
 returns c =
-    let high : c.args.b < 91 = leb-false 91 _ c.if-b-gt90.false in
+    let high : c.args.b < 91 = omega arith in
     let p = c.requires in let l = p.0 in let h = high in
     λ _. count_short _ _ (omega arith) p.1 c.if-b-lt83.false (omega arith) c.few_digits-r.ensures
     (digit_seen_not _ _ c.few_digits-r.ensures.stands c.is_digit.ensures c.if-is_digit.false)
