@@ -70,10 +70,10 @@ prove_library() {
     prove prove-library "$members" tools/library
 }
 
-# Proves and builds a program, and runs it on no input, as rt has no command that only builds one.
+# Proves and builds a program, for every x86-64 processor, and runs it on no input, as rt has no command that only
+# builds one.
 build_program() {
-    cd "crates/$1"
-    rt run
+    (cd "crates/$1" && rt run --cpu x86-64)
 }
 
 # Proves and builds a program, target/bin/NAME, and its object, target/obj/NAME.o, if it is absent or older than its

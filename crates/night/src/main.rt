@@ -3,14 +3,19 @@
 // A read that fails or ends early ends the input: what came before it is the spool.
 #![tactic(auto)]
 
+ghost use Rattle.std.specs.Prelude.{◌<◌};
+
 use night_print::{print_file, print_stopped, print_whole};
 use night_spec::Reported;
 use standard_input::read_full;
 use std::io;
-use std::io::Print;
+use std::io::{Print, Read};
 
 // The most bytes of a spool that there is room for.
 const LONGEST_SPOOL: usize = 4194304;
+
+// Room for a spool, and for a byte more, by which a longer one is known.
+const ROOM: usize = LONGEST_SPOOL + 1;
 
 // Room for the ordinates of every file that is accepted (01, "The frame of a table").
 const MOST_POINTS: usize = 65536;
@@ -19,12 +24,7 @@ const MOST_POINTS: usize = 65536;
 const MOST_STEPS: u64 = 1001;
 
 // The report on a spool.
-fn walk(
-    output: &impl Print,
-    errors: &impl Print,
-    spool: &[u8],
-    out: &mut [i32],
-) -> io::Result<()> {
+fn walk(output: &impl Print, errors: &impl Print, spool: &[u8], out: &mut [i32]) -> io::Result<()> {
     let mut p = night_totals::start();
     for _ in 0..MOST_STEPS {
         let at = p.at;
@@ -47,16 +47,41 @@ fn walk(
     Ok(())
 }
 
-fn main(rt: HostRuntime) -> io::Result<()> {
-    let errors = rt.stderr();
-    let mut spool = [0u8; LONGEST_SPOOL + 1];
-    let mut out = [0i32; MOST_POINTS];
-    let n = read_full(&mut rt.stdin(), &mut spool);
+// Reads a spool and reports on it, in the room that is lent.
+fn answer(
+    input: &mut impl Read,
+    output: &impl Print,
+    errors: &impl Print,
+    spool: &mut [u8],
+    out: &mut [i32],
+) -> io::Result<()> {
+    let n = read_full(input, spool);
     if n > LONGEST_SPOOL {
         errors.write_all(
             b"spool: it has more than 4194304 bytes, and there is no room for it; nothing is reported\n",
         )
     } else {
-        walk(&rt.stdout(), &errors, &spool[..n], &mut out)
+        walk(output, errors, &spool[..n], out)
     }
+}
+
+// The same with the room itself. The sizes are parameters, so that no proof counts so many zeros.
+fn answer_in<const BYTES: usize, const POINTS: usize>(
+    input: &mut impl Read,
+    output: &impl Print,
+    errors: &impl Print,
+) -> io::Result<()>
+    requires bytes { BYTES < 4294967296 }
+    requires points { POINTS < 4294967296 }
+{
+    let mut spool = [0u8; BYTES];
+    let mut out = [0i32; POINTS];
+    answer(input, output, errors, &mut spool, &mut out)
+}
+
+fn main(rt: HostRuntime) -> io::Result<()> {
+    let mut input = rt.stdin();
+    let output = rt.stdout();
+    let errors = rt.stderr();
+    answer_in::<ROOM, MOST_POINTS>(&mut input, &output, &errors)
 }

@@ -1,0 +1,27 @@
+-- `table_write::write_form` meets its contract: the refusal of the tests before writing, and else what the frame gives.
+-- where the tests are made, and the start from there
+use mir.Facts.{to_z-of_z}
+use Rattle.frame.specs.FrameLaws.{framed_legal}
+use Rattle.table_text.proofs.AnswerSteps.{inside}
+use Rattle.table_given.specs.Checks.{Checks}
+use Rattle.table_given.specs.declared.Checked.{Checked}
+use Rattle.table_write.proofs.RoomSteps.{refused_tells, enough_ordinates}
+use borrow.Author.Rules.{rules}
+use Rattle.table_write.proofs.write_form.Goals as goal
+
+pub write_framed-requires : goal.write_framed-requires
+write_framed-requires c =
+    let taken : let a = c.args in Checks a.first a.last a.points a.ordinates.now (Checked.Taken c.in-Taken.fr) = rw (to_z-of_z c.ranges.first, to_z-of_z c.ranges.last, c.in-Taken.is) at c.check.ensures in
+    let t = taken in
+    ((framed_legal _ _ _ t.0).sound, enough_ordinates _ _ _ c.args.ordinates.now t.0 t.1)
+
+pub returns-in-Refused : goal.returns-in-Refused
+returns-in-Refused c =
+    let no = rw (to_z-of_z c.ranges.first, to_z-of_z c.ranges.last, c.in-Refused.is) at c.check.ensures in
+    refused_tells (no c.args.style _) c.refused.ensures
+
+pub returns-in-Taken : goal.returns-in-Taken
+returns-in-Taken c =
+    let taken : let a = c.args in Checks a.first a.last a.points a.ordinates.now (Checked.Taken c.in-Taken.fr) = rw (to_z-of_z c.ranges.first, to_z-of_z c.ranges.last, c.in-Taken.is) at c.check.ensures in
+    let a = c.args in
+    inside a.style _ _ _ a.ordinates.now _ taken.0 c.write_framed.ensures
