@@ -37,17 +37,17 @@ returns-then-not-agree c =
     let points_at : (1 ≤ c.args.n.npoints) × (c.args.n.npoints ≤ 65536) = framing_points (framed_legal _ _ _ (sym (rw (to_z-of_z c.ranges.first, to_z-of_z c.ranges.last) at c.new.ensures) ∙ c.in-Legal.is)) in
     let a = c.args in
     let no = sym compared ∙ c.if-not-agree.true in
-    λ title _ space. unequal title a.n a.ordinates.now space a.first a.last legal_at c.if-ordinates-points.left points_at.0 no
+    λ title _ space. unequal title a.n a.ordinates.now space a.first a.last legal_at c.if-ordinates-points.false points_at.0 no
 
 pub bounds-ordinates-0-in-Legal : goal.bounds-ordinates-0-in-Legal
 bounds-ordinates-0-in-Legal c =
     let points_at : (1 ≤ c.args.n.npoints) × (c.args.n.npoints ≤ 65536) = framing_points (framed_legal _ _ _ (sym (rw (to_z-of_z c.ranges.first, to_z-of_z c.ranges.last) at c.new.ensures) ∙ c.in-Legal.is)) in
-    let p = points_at in omega (arith, p.0, c.if-ordinates-points.left)
+    let p = points_at in omega (arith, p.0, c.if-ordinates-points.false)
 
 pub returns-in-Outside : goal.returns-in-Outside
 returns-in-Outside c =
     let a = c.args in
-    let out = framed_outside _ _ _ (sym (rw (to_z-of_z c.NOFIELD-fits.first, to_z-of_z c.NOFIELD-fits.last) at c.new.ensures) ∙ c.in-Outside.is) in
+    let out = framed_outside _ _ _ (sym (rw (to_z-of_z c.ranges.first, to_z-of_z c.ranges.last) at c.new.ensures) ∙ c.in-Outside.is) in
     λ title _ space. outside title a.n a.ordinates.now space a.first a.last out
 
 pub returns-else-not-agree : goal.returns-else-not-agree
@@ -58,15 +58,15 @@ returns-else-not-agree c =
     let legal_at : frame_legal c.args.first c.args.last c.args.n.npoints ≡ true = (framed_legal _ _ _ (sym (rw (to_z-of_z c.ranges.first, to_z-of_z c.ranges.last) at c.new.ensures) ∙ c.in-Legal.is)).legal in
     let exact_here : c.exact_with-exact.result ≡ exact_in c.args.n c.args.ordinates.now = let a = c.args in
     let first = get_or c.args.ordinates.now 0 (pos 0) in
-    let read = first_ordinate a.n.npoints a.ordinates.now points_at.0 c.if-ordinates-points.left in
-    rw (to_z-of_z (sfits_of {w = w32} {c.before.before.before.before.before.before.before.before.before.before.before.before = first} c.exact_with-arg-1.given), c.ratio_of-q.ensures.0) at c.exact_with-exact.ensures
+    let read = first_ordinate a.n.npoints a.ordinates.now points_at.0 c.if-ordinates-points.false in
+    rw (to_z-of_z (sfits_of {w = w32} {z = first} c.exact_with-arg-1.given), c.ratio_of-q.ensures.0) at c.exact_with-exact.ensures
     ∙ carried_exact (ordinate_of first) c.requires.1 ∙ ap (exactness_of a.n) (sym read) in
     let a = c.args in
     let yes = sym compared ∙ c.if-not-agree.false in
-    rw (to_z-of_z c.NOFIELD-fits.first, to_z-of_z c.NOFIELD-fits.last) (λ title short. record {
+    rw (to_z-of_z c.ranges.first, to_z-of_z c.ranges.last) (λ title short. record {
       titled = short;
       writable = all_writable c.requires.0 points_at.1;
-      framed = record { legal = legal_at; =.before.before.before.before.before c.if-ordinates-points.left };
+      framed = record { legal = legal_at; enough = c.if-ordinates-points.false };
       exact = exact_here;
-      text = λ space. equal title a.n a.ordinates.now space a.first a.last legal_at c.if-ordinates-points.left points_at.0 yes;
+      text = λ space. equal title a.n a.ordinates.now space a.first a.last legal_at c.if-ordinates-points.false points_at.0 yes;
     })

@@ -23,4 +23,4 @@ pub returns : goal.returns
 unfolding totals_legal
 returns c =
     let z = to_z-of_z (sfits_of {w = w64} {z = c.args.t.sum} c.struct_told-1.given.1.1.1.0.1) in
-    rw (le-leb _ _ c.if-files-seen.false, le-leb _ _ c.if-points-seen.false, le-leb _ _ c.if-missing-points.false, c.NOFIELD-type_size.ensures, z) refl
+    rw (le-leb _ _ c.if-files-seen.false, le-leb _ _ c.if-points-seen.false, le-leb _ _ c.if-missing-points.false, c.size_of.ensures, z) refl

@@ -20,14 +20,14 @@ fits-requires c =
 pub lay-length-requires : goal.lay-length-requires
 lay-length-requires c =
     let few : let a = c.args in length (take a.fr.points a.ordinates.now) ≡ a.fr.points = let a = c.args in length-take-le a.fr.points a.ordinates.now c.requires.1 in
-    (c.requires.0, few, leb-true _ _ (sym c.NOFIELD-fits2.ensures ∙ c.if-fits.true))
+    (c.requires.0, few, leb-true _ _ (sym c.fits.ensures ∙ c.if-fits.true))
 
 pub returns-then-fits : goal.returns-then-fits
 returns-then-fits c =
     let a = c.args in
-    in_room a.style a.fr a.ordinates.now a.text.now c.requires.1 (leb-true _ _ (sym c.NOFIELD-fits2.ensures ∙ c.if-fits.true)) c.lay-length.ensures refl
+    in_room a.style a.fr a.ordinates.now a.text.now c.requires.1 (leb-true _ _ (sym c.fits.ensures ∙ c.if-fits.true)) c.lay-length.ensures refl
 
 pub returns : goal.returns
 returns c =
     let a = c.args in
-    too_long a.style a.fr a.ordinates.now a.text.now c.requires.1 (leb-false _ _ (sym c.NOFIELD-fits2.ensures ∙ c.if-fits.false)) c.refused.ensures refl
+    too_long a.style a.fr a.ordinates.now a.text.now c.requires.1 (leb-false _ _ (sym c.fits.ensures ∙ c.if-fits.false)) c.refused.ensures refl
