@@ -1,5 +1,5 @@
 -- 02, T-11: what the report says of one file, over the list of its ordinates. An ordinate y stands as y + 2^31, a missing one as 0. Assumes nothing.
-use Rattle.std.specs.Prelude.{List, [], ◌∷◌, ℕ, suc, ◌+◌, ◌-◌, ltb, eqb, ℤ, pos, ◌+ℤ◌, length}
+use Rattle.std.specs.Prelude.{List, [], ◌∷◌, ℕ, suc, ◌+◌, ltb, eqb, ℤ, pos, ◌+ℤ◌, length}
 use Rattle.terms.specs.Logic.{pick}
 use Rattle.terms.specs.Refusals.{refusal_in}
 use Rattle.table_spec.specs.Frame.{zero_ordinate, entry_for, apart}

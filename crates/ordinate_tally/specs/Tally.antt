@@ -1,5 +1,5 @@
 -- The ordinates of a file as the code adds them up, each as y + 2^31, from the last to the first. 0 stands for none. Assumes nothing.
-use Rattle.std.specs.Prelude.{◌≡◌, List, [], ◌∷◌, ℕ, ◌+◌, ◌-◌, ◌*◌, ◌<◌, ◌≤◌, ltb, eqb}
+use Rattle.std.specs.Prelude.{◌≡◌, List, [], ◌∷◌, ℕ, ◌+◌, ◌*◌, ◌<◌, ◌≤◌, ltb, eqb}
 use Rattle.terms.specs.Logic.{pick}
 use Rattle.table_spec.specs.Frame.{zero_ordinate, apart}
 use Rattle.ordinate_tally.specs.declared.Tally.{Tally}

@@ -1,5 +1,5 @@
 -- What a line did, by the check of its head and the rest of its row, and what the code keeps of its front (02, T-14). Assumes nothing.
-use Rattle.std.specs.Prelude.{◌≡◌, Bool, false, List, ℕ, ◌-◌}
+use Rattle.std.specs.Prelude.{◌≡◌, Bool, false, List, ℕ}
 use Rattle.terms.specs.Logic.{pick}
 use Rattle.table_spec.specs.Frame.{passes}
 use Rattle.table_spec.specs.Values.{Dup, is_dif, index}

@@ -3,7 +3,6 @@ use mathlib.Core.Path.{◌≡◌, sym, ◌∙◌}
 use Prim.Native.Nat.{◌-◌, ◌<◌}
 use native.Mathlib.Omega.{arith}
 use lib.ListN.{length}
-use borrow.Author.Rules.{rules}
 use Rattle.alphabet.specs.Ran.{start, Taken, taken, ended, run_out}
 use Rattle.alphabet.proofs.digits.Goals as goal
 

@@ -1,6 +1,5 @@
 -- `alphabet::digits` meets its contract: the digits from a place on, after the number v.
 use Prim.Native.Nat.{◌-◌, ◌≤◌}
-use borrow.Author.Rules.{rules}
 use Rattle.alphabet.specs.Ran.{Running}
 use Rattle.alphabet.proofs.digits.Given as goal
 

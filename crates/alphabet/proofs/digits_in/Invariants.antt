@@ -2,7 +2,6 @@
 use mathlib.Core.Path.{◌≡◌}
 use Prim.Native.Nat.{◌+◌, ◌-◌}
 use lib.ListN.{length}
-use borrow.Author.Rules.{rules}
 use Rattle.alphabet.specs.Standing.{standing}
 use Rattle.alphabet.specs.Ran.{Running}
 use Rattle.alphabet.proofs.digits_in.Given as goal

@@ -1,7 +1,6 @@
 -- `alphabet::entry_at` meets its contract: the entry of the byte at a place, 256 at the end of the text.
 use mathlib.Core.Path.{sym, ◌∙◌}
 use Rattle.alphabet_spec.proofs.EntryLaws.{at_entry, past_end}
-use borrow.Author.Rules.{rules}
 use Rattle.alphabet.proofs.entry_at.Goals as goal
 
 pub returns-then-i-s : goal.returns-then-i-s

@@ -1,7 +1,6 @@
 -- `alphabet::entry_there` meets its contract: the entry of what stands at a place.
 use mathlib.Core.Path.{◌≡◌, sym, ◌∙◌}
 use mathlib.Core.Bool.{true}
-use borrow.Author.Rules.{rules}
 use Rattle.alphabet_spec.specs.Digits.{within}
 use Rattle.alphabet.specs.Standing.{within_in, digit_stands}
 use Rattle.alphabet.proofs.entry_there.Goals as goal

@@ -3,7 +3,6 @@
 use mathlib.Core.Path.{refl, sym, ◌∙◌}
 use Prim.Native.Nat.{◌+◌, ◌-◌, ◌*◌}
 use native.Mathlib.Omega.{arith}
-use borrow.Author.Rules.{rules}
 use Rattle.alphabet.specs.Ran.{Running, start, stop, Taken, taken, ended}
 use Rattle.alphabet.proofs.few_digits.Goals as goal
 

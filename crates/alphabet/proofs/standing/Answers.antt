@@ -1,6 +1,5 @@
 -- `alphabet::standing` meets its contract: the byte at a place, 256 at the end of the text.
 use mathlib.Core.Path.{sym, ◌∙◌}
-use borrow.Author.Rules.{rules}
 use Rattle.alphabet.specs.Standing.{stands_in, stands_over}
 use Rattle.alphabet.proofs.standing.Goals as goal
 

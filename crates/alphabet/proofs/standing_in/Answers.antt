@@ -1,6 +1,5 @@
 -- `alphabet::standing_in` meets its contract: the byte at a place within the text.
 use mathlib.Core.Path.{sym, ◌∙◌}
-use borrow.Author.Rules.{rules}
 use Rattle.alphabet.specs.Standing.{stands_in}
 use Rattle.alphabet.proofs.standing_in.Goals as goal
 

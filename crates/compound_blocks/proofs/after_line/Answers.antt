@@ -2,7 +2,6 @@
 use mathlib.Core.Path.{refl}
 use Prim.Native.Nat.{◌-◌}
 use native.Mathlib.Omega.{arith}
-use borrow.Author.Rules.{rules}
 use Rattle.compound_blocks.proofs.PassTurns.{line_over, line_here, line_on}
 use Rattle.compound_blocks.proofs.after_line.Goals as goal
 

@@ -1,7 +1,6 @@
 -- `compound_blocks::after_line` meets its contract: byte by byte up to LF.
 use Prim.Native.Nat.{◌-◌}
 use lib.ListN.{length}
-use borrow.Author.Rules.{rules}
 use Rattle.compound_blocks.proofs.PassTurns.{Line}
 use Rattle.compound_blocks.proofs.after_line.Given as goal
 

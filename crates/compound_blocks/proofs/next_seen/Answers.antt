@@ -1,7 +1,6 @@
 -- `compound_blocks::next_seen` meets its contract: END, TITLE, a DATA TYPE that is LINK, or another.
 use mathlib.Core.Path.{sym, ◌∙◌}
 use native.Mathlib.Omega.{arith}
-use borrow.Author.Rules.{rules}
 use Rattle.compound_blocks.proofs.PassTurns.{seen_none, seen_bad, seen_end, seen_title, seen_link, seen_other}
 use Rattle.compound_blocks.proofs.next_seen.Goals as goal
 

@@ -1,7 +1,6 @@
 -- `compound_blocks::put_block` meets its contract: entry by entry.
 use native.Mathlib.Omega.{arith}
 use lib.ListN.{length-set}
-use borrow.Author.Rules.{rules}
 use Rattle.compound_blocks.proofs.PassTurns.{four}
 use Rattle.compound_blocks.proofs.put_block.Goals as goal
 

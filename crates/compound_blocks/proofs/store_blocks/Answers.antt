@@ -3,7 +3,6 @@ use mathlib.Core.Path.{refl}
 use mathlib.Core.Bool.{false}
 use Prim.Native.Nat.{◌-◌}
 use native.Mathlib.Omega.{arith}
-use borrow.Author.Rules.{rules}
 use Rattle.compound_blocks.proofs.PassTurns.{pass_begin, pass_done, pass_over, pass_other, pass_link, pass_title, pass_shut, pass_block, put_length}
 use Rattle.compound_blocks.proofs.store_blocks.Goals as goal
 

@@ -4,7 +4,6 @@ use mathlib.Core.Bool.{false}
 use Prim.Native.Nat.{◌+◌, ◌-◌}
 use lib.ListN.{length}
 use lib.Seq.{sets}
-use borrow.Author.Rules.{rules}
 use Rattle.label_spec.specs.Labels.{from}
 use Rattle.compound_spec.specs.Answers.{entries}
 use Rattle.compound_law.specs.Flat.{plain, flat}

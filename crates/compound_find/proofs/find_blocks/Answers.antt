@@ -1,6 +1,5 @@
 -- `compound_find::find_blocks` meets its contract: the survey, the whole, then what is stored.
 use native.Mathlib.Omega.{arith}
-use borrow.Author.Rules.{rules}
 use Rattle.compound_find.proofs.FindTurns.{found_refused, found_fault, found_one, found_all}
 use Rattle.compound_find.proofs.find_blocks.Goals as goal
 

@@ -1,5 +1,4 @@
 -- `compound_find::judge_count` meets its contract: BLOCKS against the count.
-use borrow.Author.Rules.{rules}
 use Rattle.compound_find.proofs.FindTurns.{count_bad, count_right, count_wrong}
 use Rattle.compound_find.proofs.judge_count.Goals as goal
 

@@ -1,7 +1,6 @@
 -- `compound_find::judge_whole` meets its contract: LINK or not, then BLOCKS.
 use mathlib.Core.Path.{refl}
 use borrow.Author.Tests.{not-true, not-false}
-use borrow.Author.Rules.{rules}
 use Rattle.compound_find.proofs.FindTurns.{whole_one, whole_absent, whole_text}
 use Rattle.compound_find.proofs.judge_whole.Goals as goal
 

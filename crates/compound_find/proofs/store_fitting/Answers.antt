@@ -1,5 +1,4 @@
 -- `compound_find::store_fitting` meets its contract: all, or as many as fit.
-use borrow.Author.Rules.{rules}
 use Rattle.compound_find.proofs.FindTurns.{stores_all, stores_some}
 use Rattle.compound_find.proofs.store_fitting.Goals as goal
 

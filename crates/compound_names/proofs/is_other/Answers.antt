@@ -1,5 +1,4 @@
 -- `compound_names::is_other` meets its contract: by three first bytes.
-use borrow.Author.Rules.{rules}
 use Rattle.compound_names.proofs.NameScan.{other_end, other_title, other_name}
 use Rattle.compound_names.proofs.is_other.Goals as goal
 

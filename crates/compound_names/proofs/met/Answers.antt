@@ -1,6 +1,5 @@
 -- `compound_names::met` meets its contract: END, TITLE, an inner label, then the names.
 use mathlib.Core.Path.{sym, ◌∙◌}
-use borrow.Author.Rules.{rules}
 use Rattle.compound_names.proofs.NameScan.{meet_over, meet_leave, meet_enter, meet_pass, meet_known, meet_other}
 use Rattle.compound_names.proofs.met.Goals as goal
 

@@ -1,7 +1,6 @@
 -- `compound_names::met_here` meets its contract: by the first byte, and by the label and its name.
 use mathlib.Core.Path.{sym, ◌∙◌}
 use native.Mathlib.Omega.{arith}
-use borrow.Author.Rules.{rules}
 use Rattle.label_spec.specs.LabelLaws.{hash_in}
 use Rattle.compound_names.proofs.NameScan.{passes_none, passes_bad, passes_met, passes_other}
 use Rattle.compound_names.proofs.met_here.Goals as goal

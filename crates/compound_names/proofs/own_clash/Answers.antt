@@ -1,6 +1,5 @@
 -- `compound_names::own_clash` meets its contract: an empty name, and the scan.
 use mathlib.Core.Path.{sym, ◌∙◌}
-use borrow.Author.Rules.{rules}
 use Rattle.compound_names.proofs.NameScan.{clash_empty, clash_some, some_name}
 use Rattle.compound_names.proofs.own_clash.Goals as goal
 

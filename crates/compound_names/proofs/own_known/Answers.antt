@@ -1,7 +1,6 @@
 -- `compound_names::own_known` meets its contract: mark by mark, up to the label's own.
 use Prim.Native.Nat.{◌-◌}
 use native.Mathlib.Omega.{arith}
-use borrow.Author.Rules.{rules}
 use Rattle.label_spec.specs.LabelLaws.{hash_in}
 use Rattle.compound_names.proofs.NameScan.{near_begin, near_past, near_none, near_known, near_over, near_on}
 use Rattle.compound_names.proofs.own_known.Goals as goal

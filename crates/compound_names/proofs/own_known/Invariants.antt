@@ -1,7 +1,6 @@
 -- `compound_names::own_known` meets its contract: mark by mark, up to the label's own.
 use Prim.Native.Nat.{◌-◌}
 use lib.ListN.{length}
-use borrow.Author.Rules.{rules}
 use Rattle.label_spec.specs.Names.{name_in}
 use Rattle.compound_names.proofs.NameScan.{Near}
 use Rattle.compound_names.proofs.own_known.Given as goal

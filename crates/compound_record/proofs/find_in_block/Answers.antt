@@ -1,7 +1,6 @@
 -- `compound_record::find_in_block` meets its contract: the places, then the block's records.
 use mathlib.Core.Path.{sym, ◌∙◌}
 use native.Mathlib.Omega.{arith}
-use borrow.Author.Rules.{rules}
 use Rattle.compound_record.proofs.RecordTurns.{in_long, in_outside, in_crossed, in_bare, in_text, in_absent}
 use Rattle.compound_record.proofs.find_in_block.Goals as goal
 

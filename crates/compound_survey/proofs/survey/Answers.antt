@@ -1,6 +1,5 @@
 -- `compound_survey::survey` meets its contract: 19, 21, then the walk over the outermost block.
 use native.Mathlib.Omega.{arith}
-use borrow.Author.Rules.{rules}
 use Rattle.compound_survey.specs.Told.{told_long, told_title, told_fault, told_end}
 use Rattle.compound_survey.proofs.survey.Goals as goal
 

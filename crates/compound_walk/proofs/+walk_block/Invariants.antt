@@ -1,7 +1,6 @@
 -- `compound_walk::walk_block` meets its contract: label by label; an inner block by its own contract, with one depth less left.
 use Prim.Native.Nat.{◌-◌}
 use lib.ListN.{length}
-use borrow.Author.Rules.{rules}
 use Rattle.compound_walk.specs.Turns.{Gone}
 use Rattle.compound_walk.proofs.+walk_block.Given as goal
 

@@ -1,7 +1,6 @@
 -- `compound_walk::count_more` meets its contract: itself among them, or not.
 use mathlib.Core.Path.{refl}
 use native.Mathlib.Omega.{arith}
-use borrow.Author.Rules.{rules}
 use Rattle.compound_walk.proofs.count_more.Goals as goal
 
 pub returns-then-link : goal.returns-then-link

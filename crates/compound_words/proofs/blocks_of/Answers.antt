@@ -1,6 +1,5 @@
 -- `compound_words::blocks_of` meets its contract: by the name.
 use mathlib.Core.Path.{refl, sym, ◌∙◌}
-use borrow.Author.Rules.{rules}
 use Rattle.compound_words.proofs.blocks_of.Goals as goal
 
 pub returns-then-is_blocks : goal.returns-then-is_blocks

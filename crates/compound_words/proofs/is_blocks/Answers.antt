@@ -1,5 +1,4 @@
 -- `compound_words::is_blocks` meets its contract: by the name.
-use borrow.Author.Rules.{rules}
 use Rattle.label_spec.specs.Names.{norm, ignored, blank, upper}
 use Rattle.compound_spec.specs.Blocks.{BLOCKS}
 use Rattle.compound_words.proofs.is_blocks.Goals as goal

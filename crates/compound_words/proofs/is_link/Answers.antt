@@ -1,5 +1,4 @@
 -- `compound_words::is_link` meets its contract: by the word LINK.
-use borrow.Author.Rules.{rules}
 use Rattle.compound_spec.specs.Blocks.{LINK}
 use Rattle.compound_words.proofs.is_link.Goals as goal
 

@@ -1,5 +1,4 @@
 -- `compound_words::is_table` meets its contract: by the name.
-use borrow.Author.Rules.{rules}
 use Rattle.label_spec.specs.Names.{norm, ignored, blank, upper}
 use Rattle.compound_words.proofs.is_table.Goals as goal
 

@@ -1,6 +1,5 @@
 -- `compound_words::note` meets its contract: field by field.
 use mathlib.Core.Path.{refl}
-use borrow.Author.Rules.{rules}
 use Rattle.compound_words.specs.Post.{note_of}
 use Rattle.compound_words.proofs.note.Goals as goal
 

@@ -1,6 +1,5 @@
 -- `compound_words::says_link` meets its contract: by the name, then the text.
 use mathlib.Core.Path.{refl, sym, ◌∙◌}
-use borrow.Author.Rules.{rules}
 use Rattle.compound_words.proofs.says_link.Goals as goal
 
 pub returns-then-not-is_data_type : goal.returns-then-not-is_data_type

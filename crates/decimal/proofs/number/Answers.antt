@@ -4,7 +4,6 @@ use native.Mathlib.Omega.{arith}
 use lib.Dec.{lit<}
 use Rattle.decimal.proofs.Reading.{number_plus, number_minus, number_plain}
 use Rattle.terms.specs.Places.{inside}
-use borrow.Author.Rules.{rules}
 use Rattle.decimal.proofs.number.Goals as goal
 
 pub unsigned-requires : goal.unsigned-requires

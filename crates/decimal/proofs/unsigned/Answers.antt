@@ -1,7 +1,6 @@
 -- `unsigned` meets its contract: mantissa and exponent put together. Assumes nothing.
 use native.Mathlib.Omega.{arith}
 use Rattle.decimal.proofs.Reading.{no_mantissa, bad_exponent, decimal_is}
-use borrow.Author.Rules.{rules}
 use Rattle.decimal.proofs.unsigned.Goals as goal
 
 pub exponent-requires : goal.exponent-requires

@@ -4,7 +4,6 @@ use Prim.Native.Nat.{◌≤◌}
 use Rattle.alphabet_spec.specs.Entries.{entry_at}
 use Rattle.alphabet.specs.Standing.{digit_seen, digit_seen_not}
 use Rattle.decimal_digits.proofs.Reading.{count_long, count_none, count_large, count_is}
-use borrow.Author.Rules.{rules}
 use Rattle.decimal_digits.proofs.count.Goals as goal
 
 pub returns-then-is_digit : goal.returns-then-is_digit

@@ -8,7 +8,6 @@ use Rattle.alphabet_spec.specs.Entries.{entry_at}
 use Rattle.alphabet.specs.Standing.{digit_seen, digit_seen_not}
 use Rattle.decimal_digits.proofs.Reading.{room, whole_long, no_point, behind_long, behind_run}
 use Rattle.terms.specs.Places.{inside}
-use borrow.Author.Rules.{rules}
 use Rattle.decimal_digits.proofs.mantissa.Goals as goal
 
 pub returns-then-is_digit : goal.returns-then-is_digit

@@ -5,7 +5,6 @@ use native.Mathlib.Omega.{arith}
 use lib.Dec.{lit<}
 use Rattle.decimal_power.proofs.Reading.{no_exponent, exponent_plus, exponent_minus, no_sign}
 use Rattle.terms.specs.Places.{inside}
-use borrow.Author.Rules.{rules}
 use Rattle.decimal_power.proofs.exponent.Goals as goal
 
 pub returns-then-byte_at-ne69 : goal.returns-then-byte_at-ne69

@@ -6,7 +6,6 @@ use native.Mathlib.Omega.{arith}
 use Rattle.alphabet_spec.specs.Entries.{entry_at}
 use Rattle.alphabet.specs.Standing.{digit_seen, digit_seen_not}
 use Rattle.decimal_power.proofs.Reading.{power_long, power_short, power_large, power_is}
-use borrow.Author.Rules.{rules}
 use Rattle.decimal_power.proofs.power_digits.Goals as goal
 
 pub returns-then-is_digit : goal.returns-then-is_digit

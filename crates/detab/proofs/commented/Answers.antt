@@ -1,6 +1,5 @@
 -- `detab::commented` meets its contract: is the next place within a comment?
 use mathlib.Core.Path.{refl, sym}
-use borrow.Author.Rules.{rules}
 use borrow.Author.Tests.{eq-eqb, ne_eqb}
 use Rattle.detab.proofs.Turns.{next_starts, none_starts, unended}
 use Rattle.detab.proofs.commented.Goals as goal

@@ -5,7 +5,6 @@ use Prim.Native.Nat.{◌-◌, ◌≤◌, ◌<◌}
 use native.Mathlib.Omega.{arith}
 use native.Mathlib.Numerals.{add-one}
 use lib.ListN.{length, length-set}
-use borrow.Author.Rules.{rules}
 use Rattle.detab.proofs.Turns.{at_start, turn, at_end}
 use Rattle.detab.proofs.detab.Goals as goal
 

@@ -3,7 +3,6 @@ use mathlib.Core.Path.{◌≡◌}
 use mathlib.Core.Bool.{false}
 use Prim.Native.Nat.{◌-◌, ◌≤◌}
 use lib.ListN.{length}
-use borrow.Author.Rules.{rules}
 use Rattle.table_spec.specs.Tabs.{spaced}
 use Rattle.detab.proofs.Turns.{from_there}
 use Rattle.detab.proofs.detab.Given as goal

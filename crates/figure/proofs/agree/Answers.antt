@@ -5,7 +5,6 @@ use borrow.Author.Tests.{ne_eqb}
 use mir.Facts.{to_z-of_z}
 use Rattle.file_spec.specs.Figures.{equals}
 use Rattle.figure.specs.Bounds.{RoundedIn}
-use borrow.Author.Rules.{rules}
 use Rattle.figure.proofs.agree.Goals as goal
 
 pub returns-then-u-eq0 : goal.returns-then-u-eq0

@@ -4,7 +4,6 @@ use native.Mathlib.Omega.{arith}
 use Prim.Native.Nat.{◌-◌}
 use borrow.Author.Tests.{ne_eqb}
 use Rattle.table_spec.specs.Frame.{zero_ordinate}
-use borrow.Author.Rules.{rules}
 use Rattle.figure.proofs.equal_to.Goals as goal
 
 pub returns-then-size-zero : goal.returns-then-size-zero

@@ -2,7 +2,6 @@
 use mathlib.Core.Path.{refl, sym, ◌∙◌}
 use borrow.Author.Tests.{ne_eqb}
 use mir.Facts.{to_z-of_z}
-use borrow.Author.Rules.{rules}
 use Rattle.figure.proofs.exact_with.Goals as goal
 
 pub returns-then-ordinate-eq0 : goal.returns-then-ordinate-eq0

@@ -4,7 +4,6 @@ use native.Mathlib.Omega.{arith}
 use Rattle.file_spec.specs.Figures.{exceeding}
 use Rattle.figure.specs.Bounds.{GivenIn}
 use Rattle.figure.proofs.FigureLaws.{exceeds_not, exceeds_zero, exceeds}
-use borrow.Author.Rules.{rules}
 use Rattle.figure.proofs.exceed.Goals as goal
 
 pub returns-then-d : goal.returns-then-d

@@ -4,7 +4,6 @@ use native.Mathlib.Omega.{arith}
 use Rattle.decimal_spec.specs.Quotient.{quotient_of}
 use Rattle.file_spec.specs.Figures.{ratio}
 use Rattle.figure.proofs.FigureLaws.{rounded_in}
-use borrow.Author.Rules.{rules}
 use Rattle.figure.proofs.ratio_of.Goals as goal
 
 pub returns : goal.returns

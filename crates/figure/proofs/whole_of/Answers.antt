@@ -2,7 +2,6 @@
 use mathlib.Core.Path.{refl}
 use mir.Facts.{to_z-of_z}
 use Rattle.figure.proofs.FigureLaws.{wide, minus_is, minus_fits}
-use borrow.Author.Rules.{rules}
 use Rattle.figure.proofs.whole_of.Goals as goal
 
 pub overflow_sub-result : goal.overflow_sub-result

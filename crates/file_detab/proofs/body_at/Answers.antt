@@ -4,7 +4,6 @@ use mathlib.Core.List.{List}
 use mathlib.Core.Path.{sym, ◌∙◌}
 use Prim.Native.Nat.{ℕ}
 use native.Mathlib.Omega.{arith}
-use borrow.Author.Rules.{rules}
 use Rattle.file_detab.proofs.Bodies.{unlisted, body_listed}
 use Rattle.file_detab.proofs.body_at.Goals as goal
 

@@ -3,7 +3,6 @@
 use mathlib.Core.Path.{sym, ◌∙◌}
 use native.Mathlib.Omega.{arith}
 use lib.ListN.{length}
-use borrow.Author.Rules.{rules}
 use Rattle.file_marks.specs.Spans.{Within}
 use Rattle.file_detab.proofs.Bodies.{left_as_it_is, body_converted}
 use Rattle.file_detab.proofs.detab_file.Goals as goal

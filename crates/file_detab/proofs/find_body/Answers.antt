@@ -4,7 +4,6 @@ use mathlib.Core.List.{List}
 use mathlib.Core.Path.{sym, ◌∙◌}
 use Prim.Native.Nat.{ℕ}
 use native.Mathlib.Omega.{arith}
-use borrow.Author.Rules.{rules}
 use Rattle.file_detab.proofs.Bodies.{labels_refused, records_lacking, records_all}
 use Rattle.file_detab.proofs.find_body.Goals as goal
 

@@ -1,7 +1,6 @@
 -- `file_gather::gather` meets its contract: the seven records in the order that 25 lists, or that one is lacking.
 use mathlib.Core.Path.{sym, ◌∙◌}
 use Prim.Native.Nat.{◌-◌}
-use borrow.Author.Rules.{rules}
 use Rattle.file_gather.proofs.GatherLaws.{gathers_none, gathers_lacking, gathers_on, gathers_all, all_inside}
 use Rattle.file_gather.proofs.gather.Goals as goal
 

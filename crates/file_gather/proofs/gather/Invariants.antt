@@ -1,6 +1,5 @@
 -- `file_gather::gather` meets its contract: the seven records in the order that 25 lists, or that one is lacking.
 use Prim.Native.Nat.{◌-◌}
-use borrow.Author.Rules.{rules}
 use Rattle.file_gather.proofs.GatherLaws.{Gathers}
 use Rattle.file_gather.proofs.gather.Given as goal
 

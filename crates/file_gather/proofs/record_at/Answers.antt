@@ -1,7 +1,6 @@
 -- `file_gather::record_at` meets its contract: the record with the k-th name.
 use Prim.Native.Nat.{◌≤◌}
 use native.Mathlib.Omega.{arith}
-use borrow.Author.Rules.{rules}
 use Rattle.label_spec.specs.Names.{norm, ignored, blank, upper}
 use Rattle.file_gather.proofs.GatherLaws.{past, sixth}
 use Rattle.file_gather.proofs.record_at.Goals as goal

@@ -8,7 +8,6 @@ use borrow.Author.Rules.{sfits_of}
 use Rattle.frame.specs.Legal.{lifted}
 use Rattle.file_write_spec.specs.declared.GivenDecimal.{GivenDecimal}
 use Rattle.file_given.proofs.GivenSteps.{small_not, large_not, no_mantissa, no_exponent, given_below, given_above}
-use borrow.Author.Rules.{rules}
 use Rattle.file_given.proofs.decimal_of.Goals as goal
 
 pub returns-then-u-le-BELOW_MANTISSAS : goal.returns-then-u-le-BELOW_MANTISSAS

@@ -1,7 +1,6 @@
 -- `file_given::factor_of` meets its contract: the decimal, if it exceeds zero.
 use mathlib.Core.Path.{ap, ◌∙◌}
 use Rattle.file_spec.specs.Figures.{exceeding}
-use borrow.Author.Rules.{rules}
 use Rattle.file_given.proofs.factor_of.Goals as goal
 
 pub returns : goal.returns

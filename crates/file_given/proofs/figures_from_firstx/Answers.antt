@@ -1,7 +1,6 @@
 -- `file_given::figures_from_firstx` meets its contract: FIRSTX, LASTX and FIRSTY, or that one is outside its rule.
 use mathlib.Core.Path.{sym, ◌∙◌}
 use Rattle.file_given.proofs.GivenSteps.{firstx_wrong, lastx_wrong, firsty_wrong, all_right}
-use borrow.Author.Rules.{rules}
 use Rattle.file_given.proofs.figures_from_firstx.Goals as goal
 
 pub returns-in_default : goal.returns-in_default

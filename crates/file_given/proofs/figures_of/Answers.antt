@@ -1,7 +1,6 @@
 -- `file_given::figures_of` meets its contract: XFACTOR and YFACTOR, then the rest, or that one is outside its rule.
 use mathlib.Core.Path.{sym, ◌∙◌}
 use Rattle.file_given.proofs.GivenSteps.{xfactor_wrong, yfactor_wrong, factors_right}
-use borrow.Author.Rules.{rules}
 use Rattle.file_given.proofs.figures_of.Goals as goal
 
 pub returns-in_default : goal.returns-in_default

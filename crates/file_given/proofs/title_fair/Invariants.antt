@@ -1,5 +1,4 @@
 -- `file_given::title_fair` meets its contract: each byte is looked at once, with the one after it.
-use borrow.Author.Rules.{rules}
 use mathlib.Core.Path.{◌≡◌}
 use Prim.Native.Nat.{◌-◌, ◌≤◌}
 use lib.ListN.{length, drop}

@@ -1,5 +1,4 @@
 -- `file_lines::put_count_line` meets its contract: label, count, CR LF.
-use borrow.Author.Rules.{rules}
 use Prim.Native.Nat.{◌-◌}
 use native.Mathlib.Omega.{arith}
 use Rattle.file_lines.proofs.Steps.{line_put}

@@ -1,7 +1,6 @@
 -- `file_lines::put_from_firstx` meets its contract: the three lines of its records.
 use native.Mathlib.Omega.{arith}
 use Rattle.file_lines.proofs.Steps.{three}
-use borrow.Author.Rules.{rules}
 use Rattle.file_lines.proofs.put_from_firstx.Goals as goal
 
 pub returns : goal.returns

@@ -1,7 +1,6 @@
 -- `file_lines::put_from_firsty` meets its contract: the two lines of its records.
 use native.Mathlib.Omega.{arith}
 use Rattle.file_lines.proofs.Steps.{two}
-use borrow.Author.Rules.{rules}
 use Rattle.file_lines.proofs.put_from_firsty.Goals as goal
 
 pub returns : goal.returns

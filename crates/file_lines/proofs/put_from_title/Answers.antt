@@ -2,7 +2,6 @@
 use native.Mathlib.Omega.{arith}
 use Rattle.label_spec.specs.Names.{TITLE}
 use Rattle.file_lines.proofs.Steps.{three}
-use borrow.Author.Rules.{rules}
 use Rattle.file_lines.proofs.put_from_title.Goals as goal
 
 pub returns : goal.returns

@@ -2,7 +2,6 @@
 use native.Mathlib.Omega.{arith}
 use Rattle.file_lines.specs.Lines.{from_title, from_firstx, from_firsty}
 use Rattle.file_lines.proofs.Steps.{entries_then}
-use borrow.Author.Rules.{rules}
 use Rattle.file_lines.proofs.put_heading.Goals as goal
 
 pub returns : goal.returns

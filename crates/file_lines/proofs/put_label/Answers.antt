@@ -1,5 +1,4 @@
 -- `file_lines::put_label` meets its contract: `##`, the name, `=`.
-use borrow.Author.Rules.{rules}
 use Prim.Native.Nat.{◌-◌}
 use native.Mathlib.Omega.{arith}
 use Rattle.file_lines.proofs.Steps.{label_put}

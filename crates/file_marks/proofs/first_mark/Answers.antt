@@ -2,7 +2,6 @@
 use mathlib.Core.Path.{refl, sym, ◌∙◌}
 use Prim.Native.Nat.{◌-◌}
 use native.Mathlib.Omega.{arith}
-use borrow.Author.Rules.{rules}
 use Rattle.file_marks.proofs.TextLaws.{mark_end, mark_here, mark_on}
 use Rattle.file_marks.proofs.first_mark.Goals as goal
 

@@ -2,7 +2,6 @@
 use mathlib.Core.Path.{◌≡◌}
 use Prim.Native.Nat.{◌-◌, ◌≤◌}
 use lib.ListN.{length, drop}
-use borrow.Author.Rules.{rules}
 use Rattle.file_spec.specs.Texts.{first_mark, mark_in}
 use Rattle.file_marks.proofs.first_mark.Given as goal
 

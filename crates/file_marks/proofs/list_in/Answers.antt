@@ -3,7 +3,6 @@ use mathlib.Core.Path.{subst}
 use Prim.Native.Nat.{ℕ}
 use Rattle.file_marks.specs.Spans.{ListedWithin}
 use Rattle.file_marks.proofs.TextLaws.{text_length}
-use borrow.Author.Rules.{rules}
 use Rattle.file_marks.proofs.list_in.Goals as goal
 
 pub returns : goal.returns

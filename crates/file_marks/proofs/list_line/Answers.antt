@@ -4,7 +4,6 @@ use mathlib.Core.List.{List}
 use Prim.Native.Nat.{ℕ, ◌-◌}
 use native.Mathlib.Omega.{arith}
 use lib.ListN.{drop}
-use borrow.Author.Rules.{rules}
 use Rattle.file_spec.specs.Texts.{LIST, listed_as, listed_in}
 use Rattle.file_marks.proofs.TextLaws.{list_end, list_lf, list_step_lem, list_stop, ended_in}
 use Rattle.file_marks.proofs.list_line.Goals as goal

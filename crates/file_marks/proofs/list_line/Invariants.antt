@@ -2,7 +2,6 @@
 use mathlib.Core.Path.{◌≡◌}
 use Prim.Native.Nat.{◌-◌, ◌≤◌}
 use lib.ListN.{length, drop}
-use borrow.Author.Rules.{rules}
 use Rattle.file_spec.specs.Texts.{LIST, listed_as, listed_in}
 use Rattle.file_marks.proofs.list_line.Given as goal
 

@@ -1,7 +1,6 @@
 -- `file_marks::list_step` meets its contract: a blank, the next byte of the list, or neither.
 use mathlib.Core.Path.{refl, sym, ◌∙◌}
 use borrow.Author.Tests.{ne_eqb, eq-eqb, le-leb, lt-leb}
-use borrow.Author.Rules.{rules}
 use Rattle.file_marks.proofs.list_step.Goals as goal
 
 pub returns-then-spacing : goal.returns-then-spacing

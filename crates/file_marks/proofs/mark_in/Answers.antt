@@ -1,7 +1,6 @@
 -- `file_marks::mark_in` meets its contract: the record's start, and the place within its text.
 use mathlib.Core.Path.{refl}
 use Rattle.file_spec.specs.Texts.{mark_of}
-use borrow.Author.Rules.{rules}
 use Rattle.file_marks.proofs.mark_in.Goals as goal
 
 pub returns : goal.returns

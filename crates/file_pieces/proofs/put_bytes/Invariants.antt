@@ -1,5 +1,4 @@
 -- `file_pieces::put_bytes` meets its contract: each byte in its place; what is left is stored from the next one on.
-use borrow.Author.Rules.{rules}
 use mathlib.Core.Path.{◌≡◌}
 use Prim.Native.Nat.{◌+◌, ◌-◌, ◌≤◌}
 use lib.ListN.{length, drop}

@@ -1,6 +1,5 @@
 -- `file_pieces::put_count` meets its contract: a number whose first digit is a plain one.
 use Rattle.file_pieces.proofs.Steps.{count_put}
-use borrow.Author.Rules.{rules}
 use Rattle.file_pieces.proofs.put_count.Goals as goal
 
 pub returns : goal.returns

@@ -2,15 +2,13 @@
 use Prim.Native.Nat.{◌-◌}
 use native.Mathlib.Omega.{arith}
 use Rattle.file_pieces.proofs.Steps.{decimal_minus, decimal_plain}
-use borrow.Author.Rules.{rules}
 use Rattle.file_pieces.proofs.put_decimal.Goals as goal
 
 pub returns-then-d : goal.returns-then-d
-returns-then-d c =
-    (
-      decimal_minus _ c.if-d.true c.put.ensures c.put_count-e.ensures.0 c.put_power.ensures.0,
-      omega (arith, c.put_count-e.ensures.1, c.put_power.ensures.1),
-    )
+returns-then-d c = (
+  decimal_minus _ c.if-d.true c.put.ensures c.put_count-e.ensures.0 c.put_power.ensures.0,
+  omega (arith, c.put_count-e.ensures.1, c.put_power.ensures.1),
+)
 
 pub returns : goal.returns
 returns c =

@@ -1,7 +1,6 @@
 -- `file_pieces::put_power` meets its contract: `+` from the origin on, `-` below it.
 use Prim.Native.Nat.{◌-◌}
 use Rattle.file_pieces.proofs.Steps.{power_up, power_down}
-use borrow.Author.Rules.{rules}
 use Rattle.file_pieces.proofs.put_power.Goals as goal
 
 pub returns-then-p-ge-ORIGIN : goal.returns-then-p-ge-ORIGIN

@@ -7,7 +7,6 @@ use Rattle.file_write_law.specs.Lengths.{title_fits}
 use Rattle.file_plan.specs.Stages.{Scaled}
 use Rattle.file_plan.proofs.Joined.{figures_wrong, figures_all, all_scaled, title_declined, scales_declined, numbers_next}
 use Rattle.file_plan.proofs.StageSteps.{plans_same}
-use borrow.Author.Rules.{rules}
 use Rattle.file_plan.proofs.plan_file.Goals as goal
 
 pub returns-then-not-title_fair : goal.returns-then-not-title_fair

@@ -15,7 +15,6 @@ use Rattle.file_spec.specs.Figures.{ratio, agrees, exactness_of}
 use Rattle.figure.specs.Carried.{carried_exact}
 use Rattle.file_plan.specs.Stages.{exact_in}
 use Rattle.file_plan.proofs.StageSteps.{all_writable, framing_points, first_ordinate, outside, too_few, unequal, equal}
-use borrow.Author.Rules.{rules}
 use Rattle.file_plan.proofs.plan_in.Goals as goal
 
 pub returns-then-ordinates-points : goal.returns-then-ordinates-points

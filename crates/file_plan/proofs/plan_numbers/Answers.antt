@@ -7,7 +7,6 @@ use borrow.Author.Rules.{sfits_of}
 use Rattle.decimal_spec.specs.declared.Rounded.{Rounded}
 use Rattle.decimal_spec.specs.declared.Quotient.{Quotient}
 use Rattle.file_plan.proofs.StageSteps.{plans_same, first_beyond, last_beyond, both_whole}
-use borrow.Author.Rules.{rules}
 use Rattle.file_plan.proofs.plan_numbers.Goals as goal
 
 rounded_is : {q r : Quotient} {x : Rounded} → q ≡ r → q.rounded ≡ x → r.rounded ≡ x

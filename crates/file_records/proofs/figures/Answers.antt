@@ -1,7 +1,6 @@
 -- `file_records::figures` meets its contract: XFACTOR and YFACTOR, and then the rest, or where the first that is wrong stands.
 -- the start of the code, from where the first number is read, and that place from where it is right
 use mathlib.Core.Path.{sym, ◌∙◌}
-use borrow.Author.Rules.{rules}
 use Rattle.file_records.proofs.FigureSteps.{xfactor_wrong, yfactor_wrong, factors_right}
 use Rattle.file_records.proofs.figures.Goals as goal
 

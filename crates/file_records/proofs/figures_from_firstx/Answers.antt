@@ -1,7 +1,6 @@
 -- `file_records::figures_from_firstx` meets its contract: FIRSTX and LASTX, then the rest, or where the first that is wrong stands.
 -- the start of the code, from where the first number is read, and that place from where it is right
 use mathlib.Core.Path.{sym, ◌∙◌}
-use borrow.Author.Rules.{rules}
 use Rattle.file_records.proofs.FigureSteps.{firstx_wrong, lastx_wrong, abscissas_right}
 use Rattle.file_records.proofs.figures_from_firstx.Goals as goal
 

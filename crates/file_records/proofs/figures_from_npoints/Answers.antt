@@ -1,7 +1,6 @@
 -- `file_records::figures_from_npoints` meets its contract: NPOINTS and FIRSTY, or where the first that is wrong stands.
 -- the start of the code, from where the first number is read, and that place from where it is right
 use mathlib.Core.Path.{sym, ◌∙◌}
-use borrow.Author.Rules.{rules}
 use Rattle.file_records.proofs.FigureSteps.{npoints_wrong, firsty_wrong, all_right}
 use Rattle.file_records.proofs.figures_from_npoints.Goals as goal
 

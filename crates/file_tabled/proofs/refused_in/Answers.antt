@@ -1,7 +1,6 @@
 -- `file_tabled::refused_in` meets its contract: 1 and 2 stand at 0, any other is counted in the file.
 use mathlib.Core.Path.{refl}
 use borrow.Author.Tests.{le-leb, lt-leb}
-use borrow.Author.Rules.{rules}
 use Rattle.file_tabled.proofs.refused_in.Goals as goal
 
 pub returns-then-number-le2 : goal.returns-then-number-le2

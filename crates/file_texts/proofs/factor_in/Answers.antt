@@ -1,7 +1,6 @@
 -- `file_texts::factor_in` meets its contract: the decimal, if it exceeds zero.
 use mathlib.Core.Path.{ap, ◌∙◌}
 use Rattle.file_spec.specs.Figures.{exceeding}
-use borrow.Author.Rules.{rules}
 use Rattle.file_texts.proofs.factor_in.Goals as goal
 
 pub returns : goal.returns

@@ -5,7 +5,6 @@ use mir.Facts.{to_z-of_z}
 use Rattle.table_spec.specs.Frame.{zero_abscissa}
 use Rattle.signed.specs.Scale.{lift_sum, lift_small}
 use Rattle.frame.proofs.Limits.{too_low, too_high, within_mag, within_limits, lifted_fits}
-use borrow.Author.Rules.{rules}
 use Rattle.frame.proofs.lift.Goals as goal
 
 pub returns-then-x : goal.returns-then-x

@@ -1,6 +1,5 @@
 -- `host_detab::lastarunc_detab_file` meets its contract: whether there is a body, as C has it, and the file as the converter leaves it.
 use mathlib.Core.Path.{refl, sym, ◌∙◌}
-use borrow.Author.Rules.{rules}
 use Rattle.host_detab.proofs.lastarunc_detab_file.Goals as goal
 
 pub returns-then-detab_file : goal.returns-then-detab_file

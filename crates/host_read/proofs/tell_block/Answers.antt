@@ -2,7 +2,6 @@
 use mathlib.Core.Path.{sym, ap}
 use Rattle.host_numbers.specs.NumberLaws.{tells, told_as}
 use Rattle.host_read.specs.Answers.{block_numbers}
-use borrow.Author.Rules.{rules}
 use Rattle.host_read.proofs.tell_block.Goals as goal
 
 pub returns-in-Accepted : goal.returns-in-Accepted

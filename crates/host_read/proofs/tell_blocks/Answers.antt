@@ -2,7 +2,6 @@
 use mathlib.Core.Path.{ap}
 use Rattle.host_numbers.specs.NumberLaws.{tells}
 use Rattle.host_read.specs.Answers.{blocks_numbers}
-use borrow.Author.Rules.{rules}
 use Rattle.host_read.proofs.tell_blocks.Goals as goal
 
 pub returns-in-Refused : goal.returns-in-Refused

@@ -6,7 +6,6 @@ use borrow.Author.Rules.{sfits_of}
 use Rattle.host_numbers.specs.NumberLaws.{tells}
 use Rattle.host_read.specs.Answers.{file_numbers}
 use Rattle.host_read.proofs.Tellings.{tells_accepted}
-use borrow.Author.Rules.{rules}
 use Rattle.host_read.proofs.tell_file.Goals as goal
 
 pub returns-in-Accepted : goal.returns-in-Accepted

@@ -2,7 +2,6 @@
 use mathlib.Core.Path.{ap}
 use Rattle.host_numbers.specs.NumberLaws.{tells}
 use Rattle.host_read.specs.Answers.{record_numbers}
-use borrow.Author.Rules.{rules}
 use Rattle.host_read.proofs.tell_record.Goals as goal
 
 pub returns-in-Text : goal.returns-in-Text

@@ -1,5 +1,4 @@
 -- `keyword::is_keyword` meets its contract: blanks, line ends and comments before and after the word.
-use borrow.Author.Rules.{rules}
 use Rattle.keyword.proofs.WordTurns.{keyword_no, keyword_yes}
 use Rattle.keyword.proofs.is_keyword.Goals as goal
 

@@ -1,7 +1,6 @@
 -- `keyword::word_at` meets its contract: byte for byte, as far as the word goes.
 use Prim.Native.Nat.{◌-◌}
 use native.Mathlib.Omega.{arith}
-use borrow.Author.Rules.{rules}
 use Rattle.keyword.proofs.WordTurns.{word_begin, word_done, word_short, word_differs, word_on}
 use Rattle.keyword.proofs.word_at.Goals as goal
 

@@ -1,7 +1,6 @@
 -- `keyword::word_at` meets its contract: byte for byte, as far as the word goes.
 use Prim.Native.Nat.{◌-◌}
 use lib.ListN.{length}
-use borrow.Author.Rules.{rules}
 use Rattle.keyword.proofs.WordTurns.{Word}
 use Rattle.keyword.proofs.word_at.Given as goal
 

@@ -1,7 +1,6 @@
 -- `label::eq_here` meets its contract: by the first bytes, and by the label and its name.
 use mathlib.Core.Path.{sym, ◌∙◌}
 use native.Mathlib.Omega.{arith}
-use borrow.Author.Rules.{rules}
 use Rattle.label_spec.specs.LabelLaws.{hash_in}
 use Rattle.label_names.proofs.NameTurns.{apart_word, told_apart}
 use Rattle.label.proofs.RecordTurns.{named_apart, named_none, named_bad, named_here, named_other}

@@ -1,7 +1,6 @@
 -- `label::find` meets its contract: by the parts' answers.
 use native.Mathlib.Omega.{arith}
 use Rattle.label.proofs.FileTurns.{record_refused, record_text, record_absent}
-use borrow.Author.Rules.{rules}
 use Rattle.label.proofs.find.Goals as goal
 
 pub find_from_title-requires : goal.find_from_title-requires

@@ -1,7 +1,6 @@
 -- `label::find_from_title` meets its contract: TITLE's record, or one after it.
 use mathlib.Core.Path.{sym, ◌∙◌}
 use Rattle.label.proofs.RecordTurns.{title_text, title_on}
-use borrow.Author.Rules.{rules}
 use Rattle.label.proofs.find_from_title.Goals as goal
 
 pub returns-then-is_word : goal.returns-then-is_word

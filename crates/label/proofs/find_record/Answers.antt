@@ -2,7 +2,6 @@
 use mathlib.Core.Path.{refl}
 use Prim.Native.Nat.{◌-◌}
 use native.Mathlib.Omega.{arith}
-use borrow.Author.Rules.{rules}
 use Rattle.label.proofs.RecordTurns.{finds_past, finds_over, finds_text, unfound_on}
 use Rattle.label.proofs.find_record.Goals as goal
 

@@ -1,7 +1,6 @@
 -- `label::find_record` meets its contract: no record passed has the name.
 use Prim.Native.Nat.{◌-◌}
 use lib.ListN.{length}
-use borrow.Author.Rules.{rules}
 use Rattle.label_spec.specs.Names.{norm}
 use Rattle.label.proofs.RecordTurns.{Unfound}
 use Rattle.label.proofs.find_record.Given as goal

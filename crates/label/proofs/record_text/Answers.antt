@@ -1,7 +1,6 @@
 -- `label::record_text` meets its contract: by the places that `find` answers.
 use mathlib.Core.Path.{◌∙◌}
 use Rattle.label.proofs.FileTurns.{text_part, text_absent, text_refused}
-use borrow.Author.Rules.{rules}
 use Rattle.label.proofs.record_text.Goals as goal
 
 pub part_of-requires : goal.part_of-requires

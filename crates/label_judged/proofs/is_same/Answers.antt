@@ -1,5 +1,4 @@
 -- `label_judged::is_same` meets its contract: by the first bytes, and by the whole names.
-use borrow.Author.Rules.{rules}
 use Rattle.label_names.proofs.NameTurns.{apart, told_apart}
 use Rattle.label_judged.proofs.MarkTurns.{alike_not, alike_is}
 use Rattle.label_judged.proofs.is_same.Goals as goal

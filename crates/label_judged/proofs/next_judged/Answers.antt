@@ -2,7 +2,6 @@
 use mathlib.Core.Path.{sym, ◌∙◌}
 use native.Mathlib.Omega.{arith}
 use Rattle.label_judged.proofs.JudgeTurns.{told_none, told_bad, told_end, told_title, told_empty, told_named}
-use borrow.Author.Rules.{rules}
 use Rattle.label_judged.proofs.next_judged.Goals as goal
 
 pub is_end-requires : goal.is_end-requires

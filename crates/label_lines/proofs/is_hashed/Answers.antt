@@ -1,6 +1,5 @@
 -- `label_lines::is_hashed` meets its contract: by the tests.
 use Rattle.label_spec.specs.LabelLaws.{hash_no, hash_end, hash_next}
-use borrow.Author.Rules.{rules}
 use Rattle.label_lines.proofs.is_hashed.Goals as goal
 
 pub returns-then-s-at-ne35 : goal.returns-then-s-at-ne35

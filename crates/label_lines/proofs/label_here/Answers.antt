@@ -3,7 +3,6 @@ use mathlib.Core.Path.{sym, ◌∙◌}
 use native.Mathlib.Omega.{arith}
 use Rattle.label_spec.specs.LabelLaws.{hash_in}
 use Rattle.label_lines.proofs.LineTurns.{here_none, here_long, here_at}
-use borrow.Author.Rules.{rules}
 use Rattle.label_lines.proofs.label_here.Goals as goal
 
 pub overflow_add-start : goal.overflow_add-start

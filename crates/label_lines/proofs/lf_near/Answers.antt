@@ -1,5 +1,4 @@
 -- `label_lines::lf_near` meets its contract: one byte after the other is looked at, eight in all.
-use borrow.Author.Rules.{rules}
 use Rattle.label_lines.proofs.LineTurns.{within_eight}
 use Rattle.label_lines.proofs.lf_near.Goals as goal
 

@@ -2,7 +2,6 @@
 use mathlib.Core.Path.{refl}
 use Prim.Native.Nat.{◌-◌}
 use native.Mathlib.Omega.{arith}
-use borrow.Author.Rules.{rules}
 use Rattle.label_lines.proofs.LineTurns.{along_free, along_rest}
 use Rattle.label_lines.proofs.line_end.Goals as goal
 

@@ -1,7 +1,6 @@
 -- `label_lines::line_end` meets its contract: no LF has come up to i.
 use Prim.Native.Nat.{◌-◌}
 use lib.ListN.{length}
-use borrow.Author.Rules.{rules}
 use Rattle.label_lines.proofs.LineTurns.{Along}
 use Rattle.label_lines.proofs.line_end.Given as goal
 

@@ -2,7 +2,6 @@
 use Prim.Native.Nat.{◌-◌}
 use mathlib.Core.Path.{refl}
 use native.Mathlib.Omega.{arith}
-use borrow.Author.Rules.{rules}
 use Rattle.label_lines.proofs.LineTurns.{sought_end, sought_here, sought_line, sought_on}
 use Rattle.label_lines.proofs.name_end.Goals as goal
 

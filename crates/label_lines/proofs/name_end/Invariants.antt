@@ -1,7 +1,6 @@
 -- `label_lines::name_end` meets its contract: neither `=` nor LF has come up to i.
 use Prim.Native.Nat.{◌-◌}
 use lib.ListN.{length}
-use borrow.Author.Rules.{rules}
 use Rattle.label_lines.proofs.LineTurns.{Sought}
 use Rattle.label_lines.proofs.name_end.Given as goal
 

@@ -1,6 +1,5 @@
 -- `label_lines::next_label` meets its contract: the next `##`, and the label there.
 use Rattle.label_lines.proofs.LineTurns.{next_none, next_here}
-use borrow.Author.Rules.{rules}
 use Rattle.label_lines.proofs.next_label.Goals as goal
 
 pub returns-then-mark-s : goal.returns-then-mark-s

@@ -2,7 +2,6 @@
 use mathlib.Core.Path.{refl, sym, ◌∙◌}
 use Prim.Native.Nat.{◌-◌}
 use native.Mathlib.Omega.{arith}
-use borrow.Author.Rules.{rules}
 use Rattle.label_lines.proofs.LineTurns.{mark_over, mark_none, mark_here, mark_on}
 use Rattle.label_lines.proofs.next_mark.Goals as goal
 

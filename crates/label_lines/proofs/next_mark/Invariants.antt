@@ -1,7 +1,6 @@
 -- `label_lines::next_mark` meets its contract: the lines passed have no `##` first.
 use Prim.Native.Nat.{◌-◌}
 use lib.ListN.{length}
-use borrow.Author.Rules.{rules}
 use Rattle.label_lines.proofs.LineTurns.{Along}
 use Rattle.label_lines.proofs.next_mark.Given as goal
 

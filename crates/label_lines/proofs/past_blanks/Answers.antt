@@ -2,7 +2,6 @@
 use mathlib.Core.Path.{refl}
 use Prim.Native.Nat.{◌-◌}
 use native.Mathlib.Omega.{arith}
-use borrow.Author.Rules.{rules}
 use Rattle.label_lines.proofs.LineTurns.{blanks_end, blanks_stop, blanks_on}
 use Rattle.label_lines.proofs.past_blanks.Goals as goal
 

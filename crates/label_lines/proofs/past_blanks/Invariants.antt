@@ -1,7 +1,6 @@
 -- `label_lines::past_blanks` meets its contract: only blanks were passed.
 use Prim.Native.Nat.{◌-◌}
 use lib.ListN.{length}
-use borrow.Author.Rules.{rules}
 use Rattle.label_lines.proofs.LineTurns.{Blanks}
 use Rattle.label_lines.proofs.past_blanks.Given as goal
 

@@ -2,7 +2,6 @@
 use mathlib.Core.Path.{refl}
 use Prim.Native.Nat.{◌-◌}
 use native.Mathlib.Omega.{arith}
-use borrow.Author.Rules.{rules}
 use Rattle.label_lines.proofs.LineTurns.{along_end, along_stop, along_on}
 use Rattle.label_lines.proofs.rest_of_line.Goals as goal
 

@@ -1,6 +1,5 @@
 -- `label_names::first_of` meets its contract: by whether the byte is left out.
 use Rattle.label_names.proofs.NameTurns.{first_left, first_kept}
-use borrow.Author.Rules.{rules}
 use Rattle.label_names.proofs.first_of.Goals as goal
 
 pub returns-then-is_ignored : goal.returns-then-is_ignored

@@ -1,7 +1,6 @@
 -- `label_names::is_end` meets its contract: END is its own name as it is compared.
 use Rattle.label_spec.specs.Names.{norm, ignored, blank, upper}
 use Rattle.label_spec.specs.Names.{END}
-use borrow.Author.Rules.{rules}
 use Rattle.label_names.proofs.is_end.Goals as goal
 
 pub returns : goal.returns

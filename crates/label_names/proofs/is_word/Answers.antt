@@ -2,7 +2,6 @@
 use mathlib.Core.Path.{◌∙◌, ap}
 use Rattle.label_spec.specs.Names.{sames}
 use Rattle.label_spec.specs.NameLaws.{whole}
-use borrow.Author.Rules.{rules}
 use Rattle.label_names.proofs.is_word.Goals as goal
 
 pub returns : goal.returns

@@ -1,5 +1,4 @@
 -- `label_names::name_length` meets its contract: the bytes counted and those that are left make the whole length.
-use borrow.Author.Rules.{rules}
 use Prim.Native.Nat.{◌-◌}
 use native.Mathlib.Omega.{arith}
 use Rattle.label_names.proofs.NameTurns.{length_end, length_on}

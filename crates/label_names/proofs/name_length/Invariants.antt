@@ -1,5 +1,4 @@
 -- `label_names::name_length` meets its contract: the bytes counted and those that are left make the whole length.
-use borrow.Author.Rules.{rules}
 use mathlib.Core.Path.{◌≡◌}
 use Prim.Native.Nat.{◌+◌, ◌-◌, ◌≤◌}
 use lib.ListN.{length}

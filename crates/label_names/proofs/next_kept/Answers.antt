@@ -2,7 +2,6 @@
 use mathlib.Core.Path.{refl}
 use Prim.Native.Nat.{◌-◌}
 use native.Mathlib.Omega.{arith}
-use borrow.Author.Rules.{rules}
 use Rattle.label_names.proofs.NameTurns.{idle_end, idle_stop, idle_on}
 use Rattle.label_names.proofs.next_kept.Goals as goal
 

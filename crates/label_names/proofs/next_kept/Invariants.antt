@@ -1,6 +1,5 @@
 -- `label_names::next_kept` meets its contract: the bytes passed do not count in the name.
 use Prim.Native.Nat.{◌-◌}
-use borrow.Author.Rules.{rules}
 use Rattle.label_names.proofs.NameTurns.{Idle}
 use Rattle.label_names.proofs.next_kept.Given as goal
 

@@ -1,5 +1,4 @@
 -- `label_names::same_name` meets its contract: what is left of one name equals what is left of the other exactly if the whole names are equal.
-use borrow.Author.Rules.{rules}
 use mathlib.Core.Path.{◌≡◌}
 use Prim.Native.Nat.{◌-◌, ◌≤◌}
 use Rattle.label_spec.specs.Names.{name_in, sames}

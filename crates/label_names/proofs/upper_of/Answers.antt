@@ -1,6 +1,5 @@
 -- `label_names::upper_of` meets its contract: by the two tests.
 use Rattle.label_spec.specs.NameLaws.{upper_low, upper_high, upper_small}
-use borrow.Author.Rules.{rules}
 use Rattle.label_names.proofs.upper_of.Goals as goal
 
 pub returns-then-b-lt97 : goal.returns-then-b-lt97

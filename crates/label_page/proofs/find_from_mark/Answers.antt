@@ -1,7 +1,6 @@
 -- `label_page::find_from_mark` meets its contract: the record here, or one after it.
 use mathlib.Core.Path.{sym, ◌∙◌}
 use native.Mathlib.Omega.{arith}
-use borrow.Author.Rules.{rules}
 use Rattle.label_spec.specs.LabelLaws.{hash_in}
 use Rattle.label.proofs.RecordTurns.{named_none, named_bad, named_here, named_other}
 use Rattle.label_page.proofs.PageTurns.{from_on, from_here}

@@ -1,6 +1,5 @@
 -- `label_space::is_opening` meets its contract: by the tests.
 use Rattle.label_spec.specs.SpaceLaws.{opens_cr, opens_dollar, opens_no}
-use borrow.Author.Rules.{rules}
 use Rattle.label_space.proofs.is_opening.Goals as goal
 
 pub returns-then-s-i-eq13 : goal.returns-then-s-i-eq13

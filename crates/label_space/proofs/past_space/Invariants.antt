@@ -1,5 +1,4 @@
 -- `label_space::past_space` meets its contract: what is passed is blank, line end or comment.
-use borrow.Author.Rules.{rules}
 use Prim.Native.Nat.{◌-◌}
 use lib.ListN.{length}
 use Rattle.label_space.proofs.SpaceTurns.{Gone}

@@ -1,7 +1,6 @@
 -- `label_title::open_title` meets its contract: by the first byte that is no blank, line end or comment.
 use mathlib.Core.Path.{sym, ◌∙◌}
 use Rattle.label_title.proofs.OpenTurns.{open_none, open_past, file_opens}
-use borrow.Author.Rules.{rules}
 use Rattle.label_title.proofs.open_title.Goals as goal
 
 pub returns-then-place-file : goal.returns-then-place-file

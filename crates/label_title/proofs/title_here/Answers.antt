@@ -2,7 +2,6 @@
 use mathlib.Core.Path.{sym, ◌∙◌}
 use native.Mathlib.Omega.{arith}
 use Rattle.label_title.proofs.OpenTurns.{open_bad, open_over, open_title, open_other}
-use borrow.Author.Rules.{rules}
 use Rattle.label_title.proofs.title_here.Goals as goal
 
 pub is_title-requires : goal.is_title-requires

@@ -1,7 +1,6 @@
 -- `label_walk::labels` meets its contract: by the parts' answers.
 use native.Mathlib.Omega.{arith}
 use Rattle.label_walk.proofs.LabelTurns.{labels_long, labels_unopened, labels_fault, labels_ended}
-use borrow.Author.Rules.{rules}
 use Rattle.label_walk.proofs.labels.Goals as goal
 
 pub returns-then-file-gt-LONGEST_FILE : goal.returns-then-file-gt-LONGEST_FILE

@@ -1,7 +1,6 @@
 -- `label_walk::walk` meets its contract: the outer scan's invariant is `Far`, the inner one's `Near`; each turn is a lemma of WalkTurns.
 use Prim.Native.Nat.{◌-◌}
 use native.Mathlib.Omega.{arith}
-use borrow.Author.Rules.{rules}
 use Rattle.label_walk.proofs.WalkTurns.{far_start, far_done, far_empty, far_on, far_second, named_in}
 use Rattle.label_walk.proofs.WalkTurns.{near_start, near_over, near_hashed, near_hit, near_on}
 use Rattle.label_walk.proofs.walk.Goals as goal

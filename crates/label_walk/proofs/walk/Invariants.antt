@@ -1,7 +1,6 @@
 -- `label_walk::walk` meets its contract: the outer scan's invariant is `Far`, the inner one's `Near`; each turn is a lemma of WalkTurns.
 use Prim.Native.Nat.{◌-◌}
 use lib.ListN.{length}
-use borrow.Author.Rules.{rules}
 use Rattle.label_spec.specs.Names.{name_in}
 use Rattle.label_walk.proofs.WalkTurns.{Far}
 use Rattle.label_walk.proofs.WalkTurns.{Near}

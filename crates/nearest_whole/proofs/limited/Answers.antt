@@ -1,6 +1,5 @@
 -- `limited` meets its contract: the answer that a nearest number gives, and exact where nothing is left. Assumes nothing.
 use Rattle.nearest_whole.proofs.Rests.{over_limit, zero_by_rest, signed_by_rest}
-use borrow.Author.Rules.{rules}
 use Rattle.nearest_whole.proofs.limited.Goals as goal
 
 pub returns-then-q-limit : goal.returns-then-q-limit

@@ -3,7 +3,6 @@ use mathlib.Core.Path.{refl}
 use mir.Syntax.{w64}
 use mir.Facts.{to_z-of_z}
 use borrow.Author.Rules.{sfits_of}
-use borrow.Author.Rules.{rules}
 use Rattle.night_numbers.proofs.level_bits.Goals as goal
 
 pub returns-in-Is : goal.returns-in-Is

@@ -6,7 +6,6 @@ use mir.Syntax.{w64}
 use mir.Facts.{to_z_pos, to_z-of_z}
 use lib.IntN.{negsuc}
 use Rattle.night_numbers.proofs.BitLaws.{minus_one, number_low, number_high}
-use borrow.Author.Rules.{rules}
 use Rattle.night_numbers.proofs.number_of.Goals as goal
 
 pub returns-then-u-lt9223372036854775808 : goal.returns-then-u-lt9223372036854775808

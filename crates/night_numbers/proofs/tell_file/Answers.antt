@@ -1,6 +1,5 @@
 -- `night_numbers::tell_file` meets its contract: a file that was read, or its refusal.
 use mathlib.Core.Path.{refl}
-use borrow.Author.Rules.{rules}
 use Rattle.night_numbers.proofs.tell_file.Goals as goal
 
 pub returns-in-Read : goal.returns-in-Read

@@ -1,7 +1,6 @@
 -- `night_totals::size_of` meets its contract: the magnitude of a number with a sign.
 use mir.Facts.{to_z-of_z}
 use Rattle.night_totals.proofs.SizeLaws.{below_fits, under_cast, under_size, size_small, over_cast}
-use borrow.Author.Rules.{rules}
 use Rattle.night_totals.proofs.size_of.Goals as goal
 
 pub overflow_sub-below : goal.overflow_sub-below

@@ -4,7 +4,7 @@ use mir.Syntax.{w64}
 use mir.Facts.{to_z-of_z}
 use borrow.Author.Tests.{le-leb, lt-leb}
 use Rattle.night_spec.specs.Steps.{totals_legal}
-use borrow.Author.Rules.{rules, sfits_of}
+use borrow.Author.Rules.{sfits_of}
 use Rattle.night_totals.proofs.totals_legal.Goals as goal
 
 pub returns-then-files-seen : goal.returns-then-files-seen

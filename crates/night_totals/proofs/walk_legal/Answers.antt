@@ -2,7 +2,6 @@
 use mathlib.Core.Path.{refl}
 use borrow.Author.Tests.{le-leb, lt-leb}
 use Rattle.night_spec.specs.Steps.{walk_legal}
-use borrow.Author.Rules.{rules}
 use Rattle.night_totals.proofs.walk_legal.Goals as goal
 
 pub returns-then-seen-gt1000 : goal.returns-then-seen-gt1000

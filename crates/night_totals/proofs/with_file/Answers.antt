@@ -3,7 +3,6 @@ use mathlib.Core.Path.{refl}
 use native.Mathlib.Numerals.{add-one}
 use mir.Facts.{to_z-of_z}
 use Rattle.night_totals.proofs.TotalLaws.{account_fits, totals_fits, sum_fits}
-use borrow.Author.Rules.{rules}
 use Rattle.night_totals.proofs.with_file.Goals as goal
 
 pub overflow_add-sum : goal.overflow_add-sum

@@ -1,7 +1,6 @@
 -- `night_totals::with_report` meets its contract: an accepted file is added, a refused one adds nothing.
 use mathlib.Core.Path.{refl}
 use Rattle.night_spec.specs.Night.{with_report}
-use borrow.Author.Rules.{rules}
 use Rattle.night_totals.proofs.with_report.Goals as goal
 
 pub with_file-requires : goal.with_file-requires

@@ -6,7 +6,6 @@ use Rattle.table_spec.specs.Frame.{ordinate_of}
 use Rattle.ordinate_account.specs.Account.{account_from}
 use Rattle.ordinate_tally.proofs.TallyLaws.{front_length}
 use Rattle.ordinate_account.proofs.MeanLaws.{account_is}
-use borrow.Author.Rules.{rules}
 use Rattle.ordinate_account.proofs.account.Goals as goal
 
 pub returns : goal.returns

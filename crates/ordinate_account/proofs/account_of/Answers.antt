@@ -4,7 +4,6 @@ use mir.Facts.{to_z-of_z}
 use borrow.Author.Rules.{sfits_of}
 use mathlib.Core.Path.{refl}
 use Rattle.ordinate_account.specs.Account.{account_from}
-use borrow.Author.Rules.{rules}
 use Rattle.ordinate_account.proofs.account_of.Goals as goal
 
 pub returns : goal.returns

@@ -4,7 +4,6 @@ use mir.Facts.{to_z-of_z}
 use borrow.Author.Rules.{sfits_of}
 use mathlib.Core.Path.{refl}
 use borrow.Author.Tests.{eq-eqb, ne_eqb}
-use borrow.Author.Rules.{rules}
 use Rattle.ordinate_account.proofs.level_of.Goals as goal
 
 pub returns-then-raised-eq0 : goal.returns-then-raised-eq0

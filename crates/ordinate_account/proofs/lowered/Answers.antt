@@ -4,7 +4,6 @@ use native.Mathlib.Omega.{arith}
 use mir.Syntax.{w64}
 use mir.Facts.{to_z_pos, to_z-of_z}
 use Rattle.ordinate_account.proofs.MeanLaws.{minus_is, sub_fits}
-use borrow.Author.Rules.{rules}
 use Rattle.ordinate_account.proofs.lowered.Goals as goal
 
 pub overflow_sub-result : goal.overflow_sub-result

@@ -1,7 +1,6 @@
 -- `ordinate_tally::faint_of` meets its contract: the faintest magnitude with one ordinate more, zero left out.
 use mathlib.Core.Path.{refl}
 use borrow.Author.Tests.{eq-eqb, ne_eqb}
-use borrow.Author.Rules.{rules}
 use Rattle.ordinate_tally.proofs.faint_of.Goals as goal
 
 pub returns-then-u-eq2147483648 : goal.returns-then-u-eq2147483648

@@ -2,7 +2,6 @@
 use mathlib.Core.Path.{refl}
 use borrow.Author.Tests.{eq-eqb, ne_eqb}
 use Rattle.ordinate_tally.specs.Tally.{with_ordinate}
-use borrow.Author.Rules.{rules}
 use Rattle.ordinate_tally.proofs.tallied.Goals as goal
 
 pub returns-then-u-eq0 : goal.returns-then-u-eq0

@@ -2,7 +2,6 @@
 use mathlib.Core.Path.{◌∙◌}
 use Prim.Native.Nat.{◌-◌}
 use native.Mathlib.Omega.{arith}
-use borrow.Author.Rules.{rules}
 use Rattle.ordinate_tally.proofs.TallyLaws.{far_start, far_more, far_end, front_length, front_entry}
 use Rattle.ordinate_tally.proofs.tally_up.Goals as goal
 

@@ -2,7 +2,6 @@
 use mathlib.Core.List.{map}
 use Prim.Native.Nat.{◌-◌}
 use lib.ListN.{take}
-use borrow.Author.Rules.{rules}
 use Rattle.table_spec.specs.Frame.{ordinate_of}
 use Rattle.ordinate_tally.proofs.TallyLaws.{Far}
 use Rattle.ordinate_tally.proofs.tally_up.Given as goal

@@ -1,7 +1,6 @@
 -- `plain_expand::expand` meets its contract: the row grows value by value, and is laid.
 use Prim.Native.Nat.{◌-◌}
 use lib.ListN.{length}
-use borrow.Author.Rules.{rules}
 use Rattle.plain_expand.proofs.GrowLaws.{Growing}
 use Rattle.plain_expand.proofs.expand.Given as goal
 

@@ -8,7 +8,6 @@ use Rattle.table_numbers.proofs.NumberLaws.{gap_token, kinds}
 use Rattle.plain_expand.proofs.GrowLaws.{next_end, next_fault, next_not, next_gives}
 use Rattle.plain_values.specs.Means.{form_of}
 use Rattle.plain_values.proofs.ValueLaws.{gap_is}
-use borrow.Author.Rules.{rules}
 use Rattle.plain_expand.proofs.next_value.Goals as goal
 
 pub returns-in-Next : goal.returns-in-Next

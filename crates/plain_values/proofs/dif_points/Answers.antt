@@ -1,7 +1,6 @@
 -- `plain_values::dif_points` meets its contract: one step of the difference, or 8 or 9.
 use mathlib.Core.Path.{sym, ◌∙◌}
 use Rattle.plain_values.proofs.ValueLaws.{dif_8, dif_9, dif_is}
-use borrow.Author.Rules.{rules}
 use Rattle.plain_values.proofs.dif_points.Goals as goal
 
 pub returns-then-q-eq0 : goal.returns-then-q-eq0

@@ -4,7 +4,6 @@ use native.Mathlib.Omega.{arith}
 use Rattle.table_spec.specs.Values.{times, Own, Gap, By}
 use Rattle.plain_values.specs.Means.{form_of, Means, same_again}
 use Rattle.plain_values.proofs.ValueLaws.{dup_few, dup_dup, dup_own, dup_gap, down}
-use borrow.Author.Rules.{rules}
 use Rattle.plain_values.proofs.dup_points.Goals as goal
 
 pub returns-then-v-lt2 : goal.returns-then-v-lt2

@@ -3,7 +3,6 @@ use Prim.Native.Nat.{◌<◌, ◌≤◌}
 use native.Mathlib.Omega.{arith}
 use Rattle.table_numbers.proofs.NumberLaws.{below_ten, dup_at, dif_at, own_at_all}
 use Rattle.plain_values.specs.Means.{form_of}
-use borrow.Author.Rules.{rules}
 use Rattle.plain_values.proofs.stands_for.Goals as goal
 
 pub dup_points-requires : goal.dup_points-requires

@@ -1,7 +1,6 @@
 -- `profile_find::find_kth` meets its contract: the name by the number of the record.
 use mathlib.Core.Path.{◌≡◌}
 use native.Mathlib.Omega.{arith}
-use borrow.Author.Rules.{rules}
 use Rattle.label_spec.specs.Names.{norm, ignored, blank, upper}
 use Rattle.profile_spec.specs.Wanted.{wanted}
 use Rattle.profile_find.proofs.FindTurns.{beyond}

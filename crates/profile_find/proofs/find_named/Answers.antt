@@ -1,5 +1,4 @@
 -- `profile_find::find_named` meets its contract: the record of the file, or else of the page.
-use borrow.Author.Rules.{rules}
 use Rattle.profile_find.proofs.FindTurns.{named_file, named_page, named_none}
 use Rattle.profile_find.proofs.find_named.Goals as goal
 

@@ -1,6 +1,5 @@
 -- `profile_judged::check_records` meets its contract: by what the fifteen records say.
 use mathlib.Core.Path.{refl}
-use borrow.Author.Rules.{rules}
 use Rattle.profile_judged.proofs.JudgeTurns.{records_checked}
 use Rattle.profile_judged.proofs.check_records.Goals as goal
 

@@ -1,6 +1,5 @@
 -- `profile_records::first_fault` meets its contract: by what was said before.
 use mathlib.Core.Path.{refl}
-use borrow.Author.Rules.{rules}
 use Rattle.profile_records.specs.Post.{after}
 use Rattle.profile_records.proofs.first_fault.Goals as goal
 

@@ -1,5 +1,4 @@
 -- `profile_records::judge_in` meets its contract: a listed word, or the place of another.
-use borrow.Author.Rules.{rules}
 use Rattle.profile_records.proofs.RecordTurns.{judged_listed, judged_unlisted}
 use Rattle.profile_records.proofs.judge_in.Goals as goal
 

@@ -1,7 +1,6 @@
 -- `profile_records::put` meets its contract: entry by entry.
 use native.Mathlib.Omega.{arith}
 use lib.ListN.{length-set}
-use borrow.Author.Rules.{rules}
 use Rattle.profile_records.proofs.RecordTurns.{three}
 use Rattle.profile_records.proofs.put.Goals as goal
 

@@ -1,7 +1,6 @@
 -- `profile_records::survey` meets its contract: one record after the other.
 use Prim.Native.Nat.{◌-◌}
 use native.Mathlib.Omega.{arith}
-use borrow.Author.Rules.{rules}
 use Rattle.profile_records.proofs.RecordTurns.{gone_begin, gone_done, gone_lacks, gone_on}
 use Rattle.profile_records.proofs.survey.Goals as goal
 

@@ -1,6 +1,5 @@
 -- `profile_records::survey` meets its contract: one record after the other.
 use Prim.Native.Nat.{◌-◌}
-use borrow.Author.Rules.{rules}
 use Rattle.profile_records.proofs.RecordTurns.{Gone}
 use Rattle.profile_records.proofs.survey.Given as goal
 

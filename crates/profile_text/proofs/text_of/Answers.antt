@@ -1,6 +1,5 @@
 -- `profile_text::text_of` meets its contract: the record of the file, or else of the page.
 use mathlib.Core.Path.{sym, ◌∙◌}
-use borrow.Author.Rules.{rules}
 use Rattle.profile_text.proofs.TextTurns.{shown_file, shown_refused, shown_page, shown_none}
 use Rattle.profile_text.proofs.text_of.Goals as goal
 

@@ -1,5 +1,4 @@
 -- `profile_told::refuse` meets its contract: on the page, or in the file.
-use borrow.Author.Rules.{rules}
 use Rattle.profile_told.proofs.ToldTurns.{refuse_is}
 use Rattle.profile_told.proofs.refuse.Goals as goal
 

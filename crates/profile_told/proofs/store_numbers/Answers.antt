@@ -1,7 +1,6 @@
 -- `profile_told::store_numbers` meets its contract: one entry after the other, as far as there is room.
 use mathlib.Core.Path.{refl}
 use Prim.Native.Nat.{◌-◌}
-use borrow.Author.Rules.{rules}
 use Rattle.profile_told.proofs.ToldTurns.{storing_full, storing_done, storing_on}
 use Rattle.profile_told.proofs.store_numbers.Goals as goal
 

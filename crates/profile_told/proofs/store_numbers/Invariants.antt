@@ -1,7 +1,6 @@
 -- `profile_told::store_numbers` meets its contract: one entry after the other, as far as there is room.
 use Prim.Native.Nat.{◌-◌}
 use lib.ListN.{length}
-use borrow.Author.Rules.{rules}
 use Rattle.profile_told.proofs.ToldTurns.{Storing}
 use Rattle.profile_told.proofs.store_numbers.Given as goal
 

@@ -1,6 +1,5 @@
 -- `profile_words::is_listed` meets its contract: the words by the number of the record.
 use mathlib.Core.Path.{refl}
-use borrow.Author.Rules.{rules}
 use Rattle.profile_spec.specs.Wanted.{wanted}
 use Rattle.profile_words.proofs.WordTurns.{no_words, one_of}
 use Rattle.profile_words.proofs.is_listed.Goals as goal

@@ -1,5 +1,4 @@
 -- `profile_words::is_mode` meets its contract: one of the ten ionisation codes.
-use borrow.Author.Rules.{rules}
 use Rattle.profile_words.proofs.WordTurns.{one_of}
 use Rattle.profile_words.proofs.is_mode.Goals as goal
 

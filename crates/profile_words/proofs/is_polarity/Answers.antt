@@ -1,5 +1,4 @@
 -- `profile_words::is_polarity` meets its contract: one of the two polarities.
-use borrow.Author.Rules.{rules}
 use Rattle.profile_words.proofs.WordTurns.{one_of}
 use Rattle.profile_words.proofs.is_polarity.Goals as goal
 

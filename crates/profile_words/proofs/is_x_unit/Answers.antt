@@ -1,5 +1,4 @@
 -- `profile_words::is_x_unit` meets its contract: one of the four X units.
-use borrow.Author.Rules.{rules}
 use Rattle.profile_words.proofs.WordTurns.{one_of}
 use Rattle.profile_words.proofs.is_x_unit.Goals as goal
 

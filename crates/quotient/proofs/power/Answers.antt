@@ -1,6 +1,5 @@
 -- `power` meets its contract: an entry of the table is the power that its place says, by the rule of Powers. Assumes nothing.
 use Rattle.decimal_spec.specs.Powers.{powers, is_power}
-use borrow.Author.Rules.{rules}
 use Rattle.quotient.proofs.power.Goals as goal
 
 pub returns : goal.returns

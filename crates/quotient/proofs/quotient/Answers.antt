@@ -2,7 +2,6 @@
 use native.Mathlib.Omega.{arith}
 use native.Mathlib.Nat.{mul-pos}
 use Rattle.quotient.proofs.Division.{down, up, tiny, nil, huge, large, within, product, positive}
-use borrow.Author.Rules.{rules}
 use Rattle.quotient.proofs.quotient.Goals as goal
 
 pub returns-then-down-gt9 : goal.returns-then-down-gt9

@@ -2,7 +2,6 @@
 use mathlib.Core.Path.{refl}
 use mir.Facts.{to_z-of_z}
 use Rattle.signed.specs.Scale.{entry_fits, entry_wide, wide}
-use borrow.Author.Rules.{rules}
 use Rattle.signed.proofs.entry_for.Goals as goal
 
 pub overflow_sub-w : goal.overflow_sub-w

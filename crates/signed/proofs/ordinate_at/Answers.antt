@@ -1,6 +1,6 @@
 -- `signed::ordinate_at` meets its contract: the ordinate at an index of the slice.
 use mathlib.Core.Path.{sym, ap, ◌∙◌}
-use borrow.Author.Rules.{rules, sfits_of}
+use borrow.Author.Rules.{sfits_of}
 use mir.Syntax.{w32}
 use mir.Facts.{to_z-of_z}
 use lib.IntN.{pos}

@@ -2,7 +2,6 @@
 use mathlib.Core.Path.{sym, ◌∙◌}
 use Prim.Native.Nat.{◌-◌}
 use Rattle.spool_record.proofs.RecordLaws.{record_over, record_full, record_short, record_first, record_second, record_long, record_file}
-use borrow.Author.Rules.{rules}
 use Rattle.spool_record.proofs.record_at.Goals as goal
 
 pub returns-then-len-at : goal.returns-then-len-at

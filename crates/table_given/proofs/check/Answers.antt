@@ -5,7 +5,6 @@ use mir.Facts.{to_z-of_z}
 use Rattle.frame.specs.declared.Framed.TheVariants.{Legal}
 use Rattle.frame.specs.Legal.{framed}
 use Rattle.table_given.proofs.CheckSteps.{outside_refused, few_refused}
-use borrow.Author.Rules.{rules}
 use Rattle.table_given.proofs.check.Goals as goal
 
 pub returns-then-ordinates-points : goal.returns-then-ordinates-points

@@ -1,6 +1,5 @@
 -- `table_owns::digit_lead` meets its contract: a digit directly after a blank begins an ordinate of its own.
 use native.Mathlib.Omega.{arith}
-use borrow.Author.Rules.{rules}
 use Rattle.alphabet.specs.Standing.{within_in, blank_seen}
 use Rattle.table_leads.proofs.Leads.{digit_leads}
 use Rattle.table_leads.proofs.digit_lead.Goals as goal

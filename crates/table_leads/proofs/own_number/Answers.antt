@@ -1,7 +1,6 @@
 -- `table_owns::own_number` meets its contract: the number of the ordinate of its own at a place.
 -- where one begins: the start of the code, and its first digit
 use native.Mathlib.Omega.{arith}
-use borrow.Author.Rules.{rules}
 use Rattle.alphabet.specs.Standing.{digit_seen_not}
 use Rattle.table_leads.specs.Leads.{LeadAt}
 use Rattle.table_leads.proofs.own_number.Goals as goal

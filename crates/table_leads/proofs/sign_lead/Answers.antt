@@ -4,7 +4,6 @@ use mathlib.Core.Path.{◌≡◌, sym, ◌∙◌}
 use mathlib.Core.Bool.{true}
 use mathlib.Core.Logic.{◌⊎◌, inl, inr}
 use native.Mathlib.Omega.{arith}
-use borrow.Author.Rules.{rules}
 use Rattle.alphabet_spec.specs.Digits.{within}
 use Rattle.alphabet.specs.Standing.{within_in}
 use Rattle.table_leads.proofs.Leads.{sign_leads}

@@ -1,6 +1,5 @@
 -- `table_lengths::ends_at_80` meets its contract: the two bytes after the 80, one after the other.
 use Rattle.table_lengths.proofs.LengthLaws.{ends_not, ends_by}
-use borrow.Author.Rules.{rules}
 use Rattle.table_lengths.proofs.ends_at_80.Goals as goal
 
 pub returns-then-s-at-ne13 : goal.returns-then-s-at-ne13

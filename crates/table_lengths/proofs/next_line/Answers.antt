@@ -2,7 +2,6 @@
 use mathlib.Core.Path.{sym, ◌∙◌}
 use native.Mathlib.Omega.{arith}
 use Rattle.table_lengths.proofs.LengthLaws.{next_after, next_by}
-use borrow.Author.Rules.{rules}
 use Rattle.table_lengths.proofs.next_line.Goals as goal
 
 pub returns-then-ends_at_80 : goal.returns-then-ends_at_80

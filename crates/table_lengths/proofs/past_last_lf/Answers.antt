@@ -1,7 +1,6 @@
 -- `table_lengths::past_last_lf` meets its contract: no LF stands from i on.
 use Prim.Native.Nat.{◌-◌}
 use native.Mathlib.Omega.{arith}
-use borrow.Author.Rules.{rules}
 use Rattle.table_lengths.proofs.LengthLaws.{scan_start, scan_on, scan_found, scan_none}
 use Rattle.table_lengths.proofs.past_last_lf.Goals as goal
 

@@ -1,6 +1,5 @@
 -- `table_lengths::past_last_lf` meets its contract: no LF stands from i on.
 use Prim.Native.Nat.{◌-◌}
-use borrow.Author.Rules.{rules}
 use Rattle.table_lengths.proofs.LengthLaws.{Scanned}
 use Rattle.table_lengths.proofs.past_last_lf.Given as goal
 

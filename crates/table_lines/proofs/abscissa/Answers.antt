@@ -1,6 +1,5 @@
 -- `table_lines::abscissa` meets its contract: a head of so many thousandths, with its unit.
 use mathlib.Core.Path.{refl}
-use borrow.Author.Rules.{rules}
 use Rattle.table_lines.proofs.abscissa.Goals as goal
 
 pub returns-then-minus : goal.returns-then-minus

@@ -2,7 +2,6 @@
 use mathlib.Core.Path.{◌≡◌}
 use Prim.Native.Nat.{ℕ, ◌-◌, ◌<◌, ◌≤◌}
 use lib.ListN.{length}
-use borrow.Author.Rules.{rules}
 use Rattle.alphabet_spec.specs.Entries.{entry_at}
 use Rattle.table_spec.specs.Reading.{fresh, inner}
 use Rattle.table_lines.specs.Seen.{seen, behind}

@@ -7,7 +7,6 @@ use Rattle.alphabet_spec.specs.Entries.{entry_at}
 use Rattle.alphabet.specs.Standing.{digit_seen, digit_seen_not, point_stands, point_stood}
 use Rattle.table_lines.proofs.LineEnds.{inside_text}
 use Rattle.table_lines.proofs.HeadLaws.{whole_only, fraction_long, fraction_small, fraction_read}
-use borrow.Author.Rules.{rules}
 use Rattle.table_lines.proofs.fraction.Goals as goal
 
 pub returns-then-w-ne-FULL_STOP : goal.returns-then-w-ne-FULL_STOP

@@ -2,7 +2,6 @@
 -- the start of the code, from where the digits are read, and where they begin
 use mathlib.Core.Logic.{⊎_elim, inl, inr}
 use native.Mathlib.Omega.{arith}
-use borrow.Author.Rules.{rules}
 use Rattle.alphabet.specs.Standing.{digit_seen, digit_seen_not}
 use Rattle.table_lines.proofs.HeadLaws.{From, head_small, head_long, head_alone, head_headed}
 use Rattle.table_lines.proofs.head.Goals as goal

@@ -5,7 +5,6 @@ use native.Mathlib.Omega.{arith}
 use Rattle.alphabet_spec.proofs.EntryLaws.{entry_in}
 use Rattle.table_spec.specs.Reading.{comment}
 use Rattle.table_lines.proofs.LineEnds.{end_over, end_lf, end_cr, end_comment, end_no_cr, end_no_dollar, end_bad}
-use borrow.Author.Rules.{rules}
 use Rattle.table_lines.proofs.line_end.Goals as goal
 
 pub returns-then-e-eq-END : goal.returns-then-e-eq-END

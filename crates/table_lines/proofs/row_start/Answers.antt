@@ -2,7 +2,6 @@
 use mathlib.Core.Path.{sym, ◌∙◌}
 use Prim.Native.Nat.{◌-◌}
 use native.Mathlib.Omega.{arith}
-use borrow.Author.Rules.{rules}
 use Rattle.alphabet_spec.proofs.EntryLaws.{entry_in}
 use Rattle.table_lines.proofs.LineEnds.{start_end}
 use Rattle.table_lines.proofs.row_start.Goals as goal

@@ -2,7 +2,6 @@
 use mathlib.Core.Path.{◌≡◌}
 use Prim.Native.Nat.{◌-◌, ◌≤◌}
 use lib.ListN.{length}
-use borrow.Author.Rules.{rules}
 use Rattle.table_spec.specs.Reading.{fresh}
 use Rattle.table_lines.specs.Seen.{seen}
 use Rattle.table_lines.proofs.row_start.Given as goal

@@ -3,7 +3,6 @@
 use mathlib.Core.Logic.{⊎_elim}
 use Prim.Native.Nat.{◌<◌}
 use native.Mathlib.Omega.{arith}
-use borrow.Author.Rules.{rules}
 use Rattle.alphabet.specs.Standing.{digit_seen, digit_seen_not, blank_seen, blank_seen_not}
 use Rattle.table_numbers.proofs.NumberLaws.{number_in, digit_late, plain_number, signed_number, packed_fits, packed_long, packed_token}
 use Rattle.table_numbers.proofs.number.Goals as goal

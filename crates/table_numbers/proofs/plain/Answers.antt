@@ -1,7 +1,6 @@
 -- `table_numbers::plain` meets its contract: the number of the digits from a place on, at most ten.
 use mathlib.Core.Logic.{inl, inr}
 use native.Mathlib.Omega.{arith}
-use borrow.Author.Rules.{rules}
 use Rattle.alphabet.specs.Standing.{digit_seen, digit_seen_not}
 use Rattle.table_numbers.proofs.plain.Goals as goal
 

@@ -1,6 +1,6 @@
 -- `table_ordinates::put` meets its contract: stores an ordinate, if there is room for it.
 use mathlib.Core.Path.{refl, sym}
-use borrow.Author.Rules.{rules, sfits_of}
+use borrow.Author.Rules.{sfits_of}
 use mir.Syntax.{w32}
 use mir.Facts.{to_z-of_z}
 use lib.Seq.{set_out}

@@ -2,7 +2,6 @@
 use mathlib.Core.List.{map}
 use Prim.Native.Nat.{◌-◌}
 use native.Mathlib.Omega.{arith}
-use borrow.Author.Rules.{rules}
 use Rattle.table_spec.specs.Frame.{entry_for}
 use Rattle.table_spec.specs.Values.{By, copies}
 use Rattle.table_ordinates.proofs.Repeats.{past_end, repeat_start, repeat_reach, repeat_small, repeat_turn, repeat_end}

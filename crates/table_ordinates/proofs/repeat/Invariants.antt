@@ -1,6 +1,5 @@
 -- `table_ordinates::repeat` meets its contract: stores n ordinates, each a step from the one before.
 use Prim.Native.Nat.{◌-◌}
-use borrow.Author.Rules.{rules}
 use Rattle.table_ordinates.proofs.Repeats.{Repeating}
 use Rattle.table_ordinates.proofs.repeat.Given as goal
 

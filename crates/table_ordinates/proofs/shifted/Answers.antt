@@ -2,7 +2,6 @@
 -- the sum that the sign picks
 use mathlib.Core.Logic.{inl, inr}
 use Rattle.table_ordinates.proofs.Moves.{Raised, raised_under, raised_over, raised_in}
-use borrow.Author.Rules.{rules}
 use Rattle.table_ordinates.proofs.shifted.Goals as goal
 use Rattle.table_ordinates.proofs.shifted.Goals.{then-minus, else-minus}
 

@@ -1,6 +1,5 @@
 -- `table_ordinates::turned` meets its contract: an ordinate and a difference, where both sums are ones.
 use mathlib.Core.Path.{refl}
-use borrow.Author.Rules.{rules}
 use Rattle.table_ordinates.proofs.turned.Goals as goal
 
 pub returns-then-minus : goal.returns-then-minus

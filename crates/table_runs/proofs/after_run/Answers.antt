@@ -1,6 +1,5 @@
 -- `table_runs::after_run` meets its contract: the state after a run.
 use mathlib.Core.Path.{refl}
-use borrow.Author.Rules.{rules}
 use borrow.Author.Tests.{eq-eqb, ne_eqb, lt-ltb, le-ltb}
 use Rattle.table_runs.proofs.after_run.Goals as goal
 

@@ -1,5 +1,5 @@
 -- `table_runs::differences` meets its contract: THE HOT LOOP.
-use mathlib.Core.Path.{◌≡◌, refl}
+use mathlib.Core.Path.{refl}
 use mathlib.Core.Logic.{inl, ⊎_elim}
 use Prim.Native.Nat.{◌+◌, ◌-◌, ◌≤◌}
 use native.Mathlib.Omega.{arith}
@@ -58,7 +58,7 @@ returns c =
     let a = c.args in
     let i = c.loop-w.invariant in
     let ended : Been a.points a.s.now a.c c.loop-w-test.w a.out.now c.loop-w-test.out = elim c.loop-w-test.branch [
-        else-loop-w-test w ↦ rw (w.w-is, w.out-is) i.1
-        | then-loop-w-test+then-w-at w ↦ rw (w.w-is, w.out-is) (w.onward-w.ensures.been _ _ _ c.requires.1 i.2 i.1)
+      | else-loop-w-test w ↦ rw (w.w-is, w.out-is) i.1
+      | then-loop-w-test+then-w-at w ↦ rw (w.w-is, w.out-is) (w.onward-w.ensures.been _ _ _ c.requires.1 i.2 i.1)
     ] in
     rw c.after_run.ensures (onward_end c.loop-w-test.w c.requires.1 ended)

@@ -2,7 +2,6 @@
 use mathlib.Core.Path.{◌≡◌}
 use Prim.Native.Nat.{◌+◌, ◌-◌, ◌≤◌}
 use lib.ListN.{length}
-use borrow.Author.Rules.{rules}
 use Rattle.table_steps.specs.Ways.{left, Safe, Been}
 use Rattle.table_runs.proofs.differences.Given as goal
 

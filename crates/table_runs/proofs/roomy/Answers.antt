@@ -1,6 +1,5 @@
 -- `table_runs::roomy` meets its contract: may a run begin here?
 use native.Mathlib.Omega.{arith}
-use borrow.Author.Rules.{rules}
 use borrow.Author.Tests.{leb-true}
 use Rattle.terms.specs.Logic.{no_way}
 use Rattle.table_runs.proofs.roomy.Goals as goal

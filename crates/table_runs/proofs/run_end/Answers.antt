@@ -2,7 +2,6 @@
 -- no more than are left, and no more than a run takes
 use Prim.Native.Nat.{◌≤◌}
 use native.Mathlib.Omega.{arith}
-use borrow.Author.Rules.{rules}
 use Rattle.table_runs.proofs.run_end.Goals as goal
 use Rattle.table_runs.proofs.run_end.Goals.{then-left-gt-MOST, else-left-gt-MOST}
 

@@ -4,8 +4,6 @@ use mathlib.Core.Path.{ap}
 use mathlib.Core.Logic.{inl, inr}
 use Prim.Native.Nat.{◌-◌, ◌*◌, ◌/◌, ◌%◌, ◌<◌}
 use native.Mathlib.Omega.{arith}
-use borrow.Author.Rules.{rules}
-use borrow.Author.Tests.{leb-false}
 use Rattle.alphabet.specs.declared.Run.{Run}
 use Rattle.alphabet.specs.Standing.{digit_seen_not}
 use Rattle.table_shorts.proofs.Shorts.{letter_short}

@@ -3,8 +3,6 @@
 use mathlib.Core.Path.{◌≡◌, ap}
 use Prim.Native.Nat.{ℕ, ◌≤◌, ◌<◌}
 use native.Mathlib.Omega.{arith}
-use borrow.Author.Rules.{rules}
-use borrow.Author.Tests.{leb-false}
 use Rattle.alphabet.specs.declared.Run.{Run}
 use Rattle.alphabet.specs.Standing.{digit_seen_not}
 use Rattle.table_shorts.proofs.Shorts.{count_short}

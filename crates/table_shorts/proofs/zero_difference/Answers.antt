@@ -2,7 +2,6 @@
 use mathlib.Core.Path.{ap}
 use mathlib.Core.Logic.{inl, inr}
 use native.Mathlib.Omega.{arith}
-use borrow.Author.Rules.{rules}
 use Rattle.alphabet.specs.declared.Run.{Run}
 use Rattle.alphabet.specs.Standing.{digit_seen_not}
 use Rattle.table_shorts.proofs.Shorts.{zero_short}

@@ -1,6 +1,5 @@
 -- `table_steps::apart` meets its contract: how far apart two ordinates are.
 use mathlib.Core.Path.{refl}
-use borrow.Author.Rules.{rules}
 use borrow.Author.Tests.{lt-ltb, le-ltb}
 use Rattle.table_steps.proofs.apart.Goals as goal
 

@@ -1,7 +1,6 @@
 -- `table_steps::onward` meets its contract: the way past a short difference, or past the DUP of the last one.
 -- where a difference was taken: the start of the code, and the difference
 use mathlib.Core.Logic.{⊎_elim}
-use borrow.Author.Rules.{rules}
 use Rattle.table_shorts.specs.Short.{ShortAt}
 use Rattle.table_steps.proofs.Ways.{dif_turns, dif_high, onward_dif}
 use Rattle.table_steps.proofs.onward.Goals as goal

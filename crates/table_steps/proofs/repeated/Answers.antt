@@ -4,7 +4,6 @@ use mathlib.Core.Path.{◌≡◌, subst}
 use Prim.Native.Nat.{ℕ, ◌+◌, ◌-◌, ◌*◌, ◌<◌, ◌≤◌}
 use native.Mathlib.Omega.{arith}
 use lib.Dec.{ltb}
-use borrow.Author.Rules.{rules}
 use Rattle.table_spec.specs.Values.{times}
 use Rattle.table_numbers.specs.Numbers.{Token}
 use Rattle.table_ordinates.proofs.Moves.{reaches}

@@ -9,7 +9,6 @@ use Rattle.table_value.proofs.Turns.{value_not, value_full, value_adds, value_st
 use Rattle.table_ordinates.proofs.Moves.{shift_some}
 use Rattle.table_value.proofs.Meanings.{dif_none, dif_out, dif_adds}
 use Rattle.table_value.proofs.Turns.{sits_next}
-use borrow.Author.Rules.{rules}
 use Rattle.table_value.proofs.difference.Goals as goal
 
 pub returns-then-q-eq0 : goal.returns-then-q-eq0

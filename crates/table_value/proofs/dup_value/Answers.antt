@@ -6,7 +6,6 @@ use Rattle.table_spec.specs.Values.{times}
 use Rattle.table_numbers.specs.Numbers.{Token}
 use Rattle.table_value.proofs.Turns.{value_not}
 use Rattle.table_value.proofs.Meanings.{dup_nowhere, dup_few}
-use borrow.Author.Rules.{rules}
 use Rattle.table_value.proofs.dup_value.Goals as goal
 
 pub returns-then-form-lt2 : goal.returns-then-form-lt2

@@ -8,7 +8,6 @@ use Rattle.table_value.specs.States.{going, gap as codes-gap}
 use Rattle.table_value.proofs.Turns.{value_not, value_full, value_adds, value_stepped}
 use Rattle.table_numbers.proofs.NumberLaws.{gap_token}
 use Rattle.table_value.proofs.Meanings.{gap_asked, gap_free}
-use borrow.Author.Rules.{rules}
 use Rattle.table_value.proofs.missing.Goals as goal
 
 pub returns-then-want-ne0 : goal.returns-then-want-ne0

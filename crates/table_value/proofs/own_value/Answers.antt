@@ -9,7 +9,6 @@ use Rattle.table_value.proofs.Turns.{value_not, value_full, value_adds, value_st
 use Rattle.table_ordinates.proofs.Moves.{own_reach, own_small}
 use Rattle.table_value.proofs.Meanings.{own_large, own_free, own_unequal, own_equal}
 use Rattle.table_value.proofs.Turns.{sits_next}
-use borrow.Author.Rules.{rules}
 use Rattle.table_value.proofs.own_value.Goals as goal
 
 pub returns-then-v-gt2147483647 : goal.returns-then-v-gt2147483647

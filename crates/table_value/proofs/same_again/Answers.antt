@@ -9,7 +9,6 @@ use Rattle.table_value.proofs.Turns.{value_full, value_adds, value_stepped}
 use Rattle.table_ordinates.proofs.Moves.{copies_length, same_last}
 use Rattle.table_value.proofs.Meanings.{dup_same}
 use Rattle.table_value.proofs.Turns.{sits_next}
-use borrow.Author.Rules.{rules}
 use Rattle.table_value.proofs.same_again.Goals as goal
 
 pub returns-then-end-points : goal.returns-then-end-points

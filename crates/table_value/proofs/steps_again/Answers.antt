@@ -9,7 +9,6 @@ use Rattle.table_value.proofs.Turns.{value_not, value_full, value_adds, value_st
 use Rattle.table_ordinates.proofs.Moves.{copies_length, steps_last, shift_some, reaches, far_small}
 use Rattle.table_value.proofs.Meanings.{repeats, dup_out, dup_steps}
 use Rattle.table_value.proofs.Turns.{sits_next}
-use borrow.Author.Rules.{rules}
 use Rattle.table_value.proofs.steps_again.Goals as goal
 
 pub overflow_mul-far : goal.overflow_mul-far

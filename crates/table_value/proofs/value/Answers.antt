@@ -2,7 +2,6 @@
 use Prim.Native.Nat.{◌-◌, ◌<◌, ◌≤◌}
 use native.Mathlib.Omega.{arith}
 use Rattle.table_numbers.proofs.NumberLaws.{below_ten, dup_at, dif_at, own_at_all}
-use borrow.Author.Rules.{rules}
 use Rattle.table_value.proofs.value.Goals as goal
 
 pub dup_value-requires : goal.dup_value-requires

@@ -7,7 +7,6 @@ use Rattle.table_text.specs.Answers.{told}
 use Rattle.table_given.specs.Checks.{Checks}
 use Rattle.table_given.specs.declared.Checked.{Checked}
 use Rattle.table_write.proofs.RoomSteps.{as_many, measured}
-use borrow.Author.Rules.{rules}
 use Rattle.table_write.proofs.text_length.Goals as goal
 
 pub slice_bounds-length_of-end : goal.slice_bounds-length_of-end

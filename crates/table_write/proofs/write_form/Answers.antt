@@ -6,7 +6,6 @@ use Rattle.table_text.proofs.AnswerSteps.{inside}
 use Rattle.table_given.specs.Checks.{Checks}
 use Rattle.table_given.specs.declared.Checked.{Checked}
 use Rattle.table_write.proofs.RoomSteps.{refused_tells, enough_ordinates}
-use borrow.Author.Rules.{rules}
 use Rattle.table_write.proofs.write_form.Goals as goal
 
 pub write_framed-requires : goal.write_framed-requires

@@ -4,7 +4,6 @@ use lib.ListN.{length, take}
 use lib.Seq.{length-take-le}
 use borrow.Author.Tests.{leb-true, leb-false}
 use Rattle.table_text.proofs.AnswerSteps.{too_long, in_room}
-use borrow.Author.Rules.{rules}
 use Rattle.table_write.proofs.write_framed.Goals as goal
 
 pub slice_bounds-ys-end : goal.slice_bounds-ys-end

@@ -1,6 +1,5 @@
 -- `table_write::write_table` meets its contract: what `write_form` answers of DIFDUP.
 use mir.Facts.{to_z-of_z}
-use borrow.Author.Rules.{rules}
 use Rattle.table_write.proofs.write_table.Goals as goal
 
 pub returns : goal.returns

@@ -1,7 +1,6 @@
 -- `text::byte_at` meets its contract: the byte at a place, 0 past the end.
 use mathlib.Core.Path.{sym}
 use lib.ListN.{get_or-eq_default}
-use borrow.Author.Rules.{rules}
 use Rattle.text.proofs.byte_at.Goals as goal
 
 pub returns : goal.returns

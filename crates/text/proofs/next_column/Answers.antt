@@ -1,7 +1,6 @@
 -- `text::next_column` meets its contract: the column goes on, and starts again after an LF.
 use mathlib.Core.Path.{refl, sym, ◌∙◌}
 use native.Mathlib.Numerals.{add-one}
-use borrow.Author.Rules.{rules}
 use Rattle.text.proofs.next_column.Goals as goal
 
 pub returns-then-ends_line : goal.returns-then-ends_line

@@ -1,7 +1,6 @@
 -- `text::next_line` meets its contract: the line goes on after an LF only.
 use mathlib.Core.Path.{refl, sym, ◌∙◌}
 use native.Mathlib.Numerals.{add-one}
-use borrow.Author.Rules.{rules}
 use Rattle.text.proofs.next_line.Goals as goal
 
 pub returns-then-ends_line : goal.returns-then-ends_line

@@ -1,7 +1,6 @@
 -- `text::refusal_in` meets its contract: the line and the column that were counted are those of the place.
 use Prim.Native.Nat.{◌-◌}
 use native.Mathlib.Omega.{arith}
-use borrow.Author.Rules.{rules}
 use Rattle.text.proofs.Counting.{counted_start, counted_line, counted_column, counted_on, counted_done}
 use Rattle.text.proofs.refusal_in.Goals as goal
 

@@ -1,6 +1,5 @@
 -- `text::refusal_in` meets its contract: the line and the column that were counted are those of the place.
 use Prim.Native.Nat.{◌-◌}
-use borrow.Author.Rules.{rules}
 use Rattle.text.proofs.Counting.{Counted}
 use Rattle.text.proofs.refusal_in.Given as goal
 

@@ -1,6 +1,5 @@
 -- `text_differences::put_lone` meets its contract: differences that stand alone, stored as long as they fit on the line.
 use Prim.Native.Nat.{◌-◌}
-use borrow.Author.Rules.{rules}
 use lib.ListN.{length}
 use Rattle.table_text.specs.Pieces.{ordinates}
 use Rattle.text_openings.specs.Lines.{difference_state}

@@ -1,6 +1,5 @@
 -- `text_differences::put_small` meets its contract: a number of at most four digits in four bytes.
 use Rattle.text_differences.proofs.SmallSteps.{over_small}
-use borrow.Author.Rules.{rules}
 use Rattle.text_differences.proofs.put_small.Goals as goal
 
 pub returns : goal.returns

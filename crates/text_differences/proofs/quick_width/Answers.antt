@@ -4,7 +4,6 @@ use Prim.Native.Nat.{ℕ, ◌+◌}
 use native.Mathlib.Omega.{arith}
 use Rattle.table_text.specs.Digits.{further}
 use Rattle.text_differences.proofs.LoneSteps.{lone_alone}
-use borrow.Author.Rules.{rules}
 use Rattle.text_differences.proofs.quick_width.Goals as goal
 
 pub returns : goal.returns

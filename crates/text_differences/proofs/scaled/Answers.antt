@@ -8,7 +8,6 @@ use native.Mathlib.Omega.{arith}
 use lib.ListN.{get_or}
 use Rattle.table_text.proofs.SmallSteps.{further_few}
 use Rattle.text_differences.proofs.SmallSteps.{scaled_small}
-use borrow.Author.Rules.{rules}
 use Rattle.text_differences.proofs.scaled.Goals as goal
 
 pub offset_bounds-k-n : goal.offset_bounds-k-n

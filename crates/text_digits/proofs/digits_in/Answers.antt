@@ -9,7 +9,6 @@ use lib.ListN.{get_or}
 use Rattle.table_text.specs.DigitLaws.{further_le}
 use Rattle.text_digits.specs.Counts.{counts}
 use Rattle.text_digits.proofs.CountSteps.{zeros_some, zeros_in, zeros_small, zeros_count}
-use borrow.Author.Rules.{rules}
 use Rattle.text_digits.proofs.digits_in.Goals as goal
 
 entry_is : (l : List ℕ) (v : ℕ) → l ≡ counts → get_or l (count_leading_zeros 32 v - 1) 0 ≡ get_or counts (count_leading_zeros 32 v - 1) 0

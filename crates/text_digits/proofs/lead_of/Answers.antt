@@ -6,7 +6,6 @@ use lib.Dec.{eqb}
 use lib.ListN.{get_or}
 use Rattle.terms.specs.Logic.{pick}
 use Rattle.text_digits.proofs.DigitSteps.{is_lead, lead_small}
-use borrow.Author.Rules.{rules}
 use Rattle.text_digits.proofs.lead_of.Goals as goal
 
 pub returns : goal.returns

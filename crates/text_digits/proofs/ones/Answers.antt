@@ -4,7 +4,6 @@ use mathlib.Core.List.{List}
 use Prim.Native.Nat.{ℕ, ◌+◌, ◌*◌}
 use lib.ListN.{get_or}
 use Rattle.text_digits.specs.Pairs.{is_ones}
-use borrow.Author.Rules.{rules}
 use Rattle.text_digits.proofs.ones.Goals as goal
 
 pub returns : goal.returns

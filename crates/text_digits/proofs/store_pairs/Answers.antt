@@ -2,7 +2,6 @@
 use mathlib.Core.Path.{refl}
 use native.Mathlib.Omega.{arith}
 use lib.ListN.{length-set}
-use borrow.Author.Rules.{rules}
 use Rattle.table_text.specs.DigitLaws.{digits_start}
 use Rattle.text_digits.proofs.DigitSteps.{pair_more, pairs_end}
 use Rattle.text_digits.proofs.store_pairs.Goals as goal

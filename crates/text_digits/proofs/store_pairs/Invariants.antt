@@ -1,7 +1,6 @@
 -- `text_digits::store_pairs` meets its contract: the further digits of v two at a time from the right, and what is left of v.
 use mathlib.Core.Path.{◌≡◌}
 use Prim.Native.Nat.{◌%◌, ◌≤◌}
-use borrow.Author.Rules.{rules}
 use Rattle.table_text.specs.Digits.{Digits}
 use Rattle.text_digits.proofs.store_pairs.Given as goal
 

@@ -1,7 +1,6 @@
 -- `text_ends::put_close` meets its contract: the last check line, if the text ends in DIF form.
 use Rattle.table_text.specs.Pieces.{put_as, put_then, put_none}
 use Rattle.text_openings.proofs.LineSteps.{close_dif, close_not}
-use borrow.Author.Rules.{rules}
 use Rattle.text_ends.proofs.put_close.Goals as goal
 
 pub returns-then-not-dif : goal.returns-then-not-dif

@@ -3,7 +3,6 @@ use mathlib.Core.Path.{sym, ap}
 use Prim.Native.Nat.{ℕ}
 use lib.Dec.{leb}
 use Rattle.table_text.proofs.AnswerSteps.{always_room}
-use borrow.Author.Rules.{rules}
 use Rattle.text_forms.proofs.fits.Goals as goal
 
 pub returns-then-n-room : goal.returns-then-n-room

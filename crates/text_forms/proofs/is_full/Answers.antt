@@ -1,6 +1,5 @@
 -- `text_forms::is_full` meets its contract: which of the four forms write each value in full.
 use mathlib.Core.Path.{refl}
-use borrow.Author.Rules.{rules}
 use Rattle.text_forms.proofs.is_full.Goals as goal
 
 pub returns-in-Difdup : goal.returns-in-Difdup

@@ -1,7 +1,6 @@
 -- `text_forms::lay` meets its contract: the forms in full by `text_values`, DIFDUP by `pass`.
 use mathlib.Core.Path.{sym, ◌∙◌}
 use Rattle.text_forms.proofs.FormSteps.{only_difdup}
-use borrow.Author.Rules.{rules}
 use Rattle.text_forms.proofs.lay.Goals as goal
 
 pub returns : goal.returns

@@ -1,7 +1,6 @@
 -- `text_forms::length_of` meets its contract: the forms in full by `text_values`, DIFDUP by `text_length`.
 use mathlib.Core.Path.{sym, ◌∙◌}
 use Rattle.text_forms.proofs.FormSteps.{only_difdup}
-use borrow.Author.Rules.{rules}
 use Rattle.text_forms.proofs.length_of.Goals as goal
 
 pub returns : goal.returns

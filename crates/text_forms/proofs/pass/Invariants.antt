@@ -1,6 +1,5 @@
 -- `text_forms::pass` meets its contract: the whole text from the start of the lent bytes.
 use Prim.Native.Nat.{◌-◌}
-use borrow.Author.Rules.{rules}
 use lib.ListN.{length}
 use Rattle.table_text.specs.Pieces.{head_of, ordinates}
 use Rattle.text_openings.specs.Lines.{Going}

@@ -1,7 +1,6 @@
 -- `text_groups::copies_of` meets its contract: how many ordinates from a place on have the token again, after p.
 use Prim.Native.Nat.{◌-◌}
 use native.Mathlib.Omega.{arith}
-use borrow.Author.Rules.{rules}
 use mathlib.Core.Path.{sym, ◌∙◌}
 use lib.ListN.{length-map}
 use Rattle.table_spec.specs.Frame.{ordinate_of}

@@ -1,6 +1,5 @@
 -- `text_groups::copies_of` meets its contract: how many ordinates from a place on have the token again, after p.
 use Prim.Native.Nat.{◌-◌}
-use borrow.Author.Rules.{rules}
 use lib.ListN.{length}
 use Rattle.table_text.specs.Pieces.{ordinates}
 use Rattle.text_tokens.proofs.TokenSteps.{Copies}

@@ -1,7 +1,6 @@
 -- `text_groups::dup_byte` meets its contract: the byte of a DUP's first digit.
 use mathlib.Core.Path.{refl}
 use borrow.Author.Tests.{eq-eqb, ne_eqb}
-use borrow.Author.Rules.{rules}
 use Rattle.text_groups.proofs.dup_byte.Goals as goal
 
 pub returns-then-d-eq9 : goal.returns-then-d-eq9

@@ -3,7 +3,6 @@ use mathlib.Core.Path.{sym, ap}
 use lib.ListN.{length}
 use native.Mathlib.Omega.{arith}
 use Rattle.table_text.proofs.NumberSteps.{dup_none, dup_length}
-use borrow.Author.Rules.{rules}
 use Rattle.text_groups.proofs.dup_bytes.Goals as goal
 
 pub returns-then-m-eq0 : goal.returns-then-m-eq0

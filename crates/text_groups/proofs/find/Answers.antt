@@ -4,7 +4,6 @@ use lib.ListN.{length-map}
 use Rattle.table_spec.specs.Frame.{ordinate_of}
 use Rattle.table_text.specs.Pieces.{ordinates}
 use Rattle.text_tokens.proofs.TokenSteps.{found}
-use borrow.Author.Rules.{rules}
 use Rattle.text_groups.proofs.find.Goals as goal
 
 pub returns : goal.returns

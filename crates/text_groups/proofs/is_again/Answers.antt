@@ -1,6 +1,5 @@
 -- `text_groups::is_again` meets its contract: has the ordinate z after q the same token again?
 use Rattle.text_tokens.proofs.TokenSteps.{again_not, again_so}
-use borrow.Author.Rules.{rules}
 use Rattle.text_groups.proofs.is_again.Goals as goal
 
 pub returns-then-q-t : goal.returns-then-q-t

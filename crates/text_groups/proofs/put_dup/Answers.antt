@@ -2,7 +2,6 @@
 use mathlib.Core.Path.{refl}
 use Rattle.table_text.specs.Pieces.{put_as, put_none}
 use Rattle.table_text.proofs.NumberSteps.{dup_none, dup_put}
-use borrow.Author.Rules.{rules}
 use Rattle.text_groups.proofs.put_dup.Goals as goal
 
 pub returns-then-m-eq0 : goal.returns-then-m-eq0

@@ -4,7 +4,6 @@ use Rattle.table_spec.specs.Groups.{dup_text}
 use Rattle.table_text.specs.Pieces.{number}
 use mathlib.Core.Path.{sym}
 use Rattle.table_text.specs.Pieces.{sets_past, put_then}
-use borrow.Author.Rules.{rules}
 use Rattle.text_groups.proofs.put_group.Goals as goal
 
 pub returns-then-out-at : goal.returns-then-out-at

@@ -3,7 +3,6 @@ use mathlib.Core.Path.{sym, ap, ◌∙◌}
 use native.Mathlib.Omega.{arith}
 use lib.ListN.{length}
 use Rattle.text_thousandths.proofs.HeadSteps.{head_up, head_down}
-use borrow.Author.Rules.{rules}
 use Rattle.text_heads.proofs.head_bytes.Goals as goal
 
 pub returns-then-h-ge10000000000 : goal.returns-then-h-ge10000000000

@@ -1,7 +1,6 @@
 -- `text_heads::magnitude_length` meets its contract: the bytes of the whole part, and of the thousandths.
 use native.Mathlib.Omega.{arith}
 use Rattle.text_thousandths.proofs.HeadSteps.{magnitude_bytes}
-use borrow.Author.Rules.{rules}
 use Rattle.text_heads.proofs.magnitude_length.Goals as goal
 
 pub returns : goal.returns

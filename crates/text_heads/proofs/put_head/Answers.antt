@@ -2,7 +2,6 @@
 use native.Mathlib.Omega.{arith}
 use Rattle.table_text.specs.Pieces.{put_as, put_then, put_byte}
 use Rattle.text_thousandths.proofs.HeadSteps.{head_up, head_down}
-use borrow.Author.Rules.{rules}
 use Rattle.text_heads.proofs.put_head.Goals as goal
 
 pub returns-then-h-ge10000000000 : goal.returns-then-h-ge10000000000

@@ -2,7 +2,6 @@
 use native.Mathlib.Omega.{arith}
 use Rattle.table_text.specs.Pieces.{put_as, put_then}
 use Rattle.text_thousandths.proofs.HeadSteps.{magnitude_is}
-use borrow.Author.Rules.{rules}
 use Rattle.text_heads.proofs.put_magnitude.Goals as goal
 
 pub returns : goal.returns

@@ -4,7 +4,6 @@ use lib.ListN.{length-map}
 use Rattle.table_spec.specs.Frame.{ordinate_of}
 use Rattle.text_differences.proofs.LoneSteps.{counted_none, counted_then}
 use Rattle.text_length.proofs.CountSteps.{counted_near}
-use borrow.Author.Rules.{rules}
 use Rattle.text_length.proofs.count_differences.Goals as goal
 
 pub returns-then-s-eq0 : goal.returns-then-s-eq0

@@ -4,7 +4,6 @@ use lib.ListN.{length-map}
 use Rattle.table_spec.specs.Frame.{ordinate_of}
 use Rattle.table_text.specs.Pieces.{ordinates}
 use Rattle.text_differences.proofs.LoneSteps.{counted_group}
-use borrow.Author.Rules.{rules}
 use Rattle.text_length.proofs.count_group.Goals as goal
 
 pub overflow_add-index : goal.overflow_add-index

@@ -3,7 +3,6 @@ use native.Mathlib.Omega.{arith}
 use lib.ListN.{length-map}
 use Rattle.table_spec.specs.Frame.{ordinate_of}
 use Rattle.text_length.proofs.CountSteps.{counted_all, counted_line, line_short}
-use borrow.Author.Rules.{rules}
 use Rattle.text_length.proofs.count_turn.Goals as goal
 
 pub returns-then-t-ys : goal.returns-then-t-ys

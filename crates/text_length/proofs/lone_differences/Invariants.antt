@@ -1,6 +1,5 @@
 -- `text_length::lone_differences` meets its contract: points in DIF form without DUP, after one in DIF form, as long as they fit on the line.
 use Prim.Native.Nat.{◌-◌}
-use borrow.Author.Rules.{rules}
 use lib.ListN.{length}
 use Rattle.table_text.specs.Pieces.{ordinates}
 use Rattle.text_differences.proofs.LoneSteps.{LoneTo}

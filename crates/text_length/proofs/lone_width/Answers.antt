@@ -2,7 +2,6 @@
 use mathlib.Core.Path.{◌∙◌}
 use native.Mathlib.Omega.{arith}
 use Rattle.text_differences.proofs.LoneSteps.{lone_gap, lone_again, lone_alone}
-use borrow.Author.Rules.{rules}
 use Rattle.text_length.proofs.lone_width.Goals as goal
 
 pub returns-then-y-eq0 : goal.returns-then-y-eq0

@@ -1,6 +1,5 @@
 -- `text_length::measure` meets its contract: the text's length.
 use Prim.Native.Nat.{◌-◌, ◌<◌, ◌≤◌}
-use borrow.Author.Rules.{rules}
 use lib.ListN.{length}
 use Rattle.table_text.specs.Pieces.{head_of, ordinates}
 use Rattle.text_openings.specs.Lines.{Going}

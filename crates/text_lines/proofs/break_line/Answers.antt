@@ -5,7 +5,6 @@ use lib.ListN.{length-map}
 use Rattle.table_spec.specs.Frame.{ordinate_of}
 use Rattle.table_text.specs.Pieces.{head_of, ordinates}
 use Rattle.text_openings.proofs.LineSteps.{turn_breaks}
-use borrow.Author.Rules.{rules}
 use Rattle.text_lines.proofs.break_line.Goals as goal
 
 pub returns-then-s : goal.returns-then-s

@@ -4,7 +4,6 @@ use lib.ListN.{length-map}
 use Rattle.table_spec.specs.Frame.{ordinate_of}
 use Rattle.table_text.specs.Pieces.{head_of, ordinates}
 use Rattle.text_openings.proofs.LineSteps.{filled}
-use borrow.Author.Rules.{rules}
 use Rattle.text_lines.proofs.fill.Goals as goal
 
 pub put_group-requires : goal.put_group-requires

@@ -4,7 +4,6 @@ use lib.ListN.{length-map}
 use Rattle.table_spec.specs.Frame.{ordinate_of}
 use Rattle.table_text.specs.Pieces.{head_of, ordinates}
 use Rattle.text_openings.proofs.LineSteps.{turn_fits}
-use borrow.Author.Rules.{rules}
 use Rattle.text_lines.proofs.turn.Goals as goal
 
 pub returns-then-all-le-LONGEST_LINE : goal.returns-then-all-le-LONGEST_LINE

@@ -1,7 +1,6 @@
 -- `text_marks::marks_of` meets its contract: the marks of each form.
 use mathlib.Core.Path.{refl}
 use Rattle.text_marks.specs.Shows.{marks_of}
-use borrow.Author.Rules.{rules}
 use Rattle.text_marks.proofs.marks_of.Goals as goal
 
 pub returns-in-Affn : goal.returns-in-Affn

@@ -1,6 +1,5 @@
 -- `text_marks::width_of` meets its contract: the marks and the digits of a value that is not negative, a missing one, one that is negative.
 use Rattle.text_marks.proofs.ShowSteps.{width_missing, width_up, width_down}
-use borrow.Author.Rules.{rules}
 use Rattle.text_marks.proofs.width_of.Goals as goal
 
 pub returns-then-u-ge-ZERO_ORDINATE : goal.returns-then-u-ge-ZERO_ORDINATE

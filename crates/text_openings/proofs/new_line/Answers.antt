@@ -3,7 +3,6 @@ use mathlib.Core.Path.{refl, sym}
 use mathlib.Core.Bool.{true, false}
 use Rattle.table_text.specs.Pieces.{head_of}
 use Rattle.text_openings.proofs.LineSteps.{new_line}
-use borrow.Author.Rules.{rules}
 use Rattle.text_openings.proofs.new_line.Goals as goal
 
 pub returns-then-s : goal.returns-then-s

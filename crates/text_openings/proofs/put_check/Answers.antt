@@ -2,7 +2,6 @@
 use native.Mathlib.Omega.{arith}
 use Rattle.table_text.specs.Pieces.{put_as, put_then}
 use Rattle.text_openings.proofs.LineSteps.{check_is}
-use borrow.Author.Rules.{rules}
 use Rattle.text_openings.proofs.put_check.Goals as goal
 
 pub returns : goal.returns

@@ -2,7 +2,6 @@
 use native.Mathlib.Omega.{arith}
 use Rattle.table_text.specs.Pieces.{put_as}
 use Rattle.text_openings.proofs.LineSteps.{opening_dif, opening_not}
-use borrow.Author.Rules.{rules}
 use Rattle.text_openings.proofs.put_opening.Goals as goal
 
 pub put_check-requires : goal.put_check-requires

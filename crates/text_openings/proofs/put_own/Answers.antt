@@ -1,7 +1,6 @@
 -- `text_openings::put_own` meets its contract: an ordinate in SQZ form.
 use Rattle.table_text.specs.Pieces.{put_as}
 use Rattle.text_openings.proofs.LineSteps.{sqz_up, sqz_down}
-use borrow.Author.Rules.{rules}
 use Rattle.text_openings.proofs.put_own.Goals as goal
 
 pub returns-then-u-ge-ZERO_ORDINATE : goal.returns-then-u-ge-ZERO_ORDINATE

@@ -1,7 +1,6 @@
 -- `text_points::copy_width` meets its contract: the bytes that one point more adds to a group.
 use native.Mathlib.Omega.{arith}
 use Rattle.text_points.proofs.PointSteps.{dup_first, dup_second, dup_same}
-use borrow.Author.Rules.{rules}
 use Rattle.text_points.proofs.copy_width.Goals as goal
 
 pub returns-then-more-eq0 : goal.returns-then-more-eq0

@@ -1,6 +1,5 @@
 -- `text_points::count_points` meets its contract: the groups from a point on, point by point.
 use Prim.Native.Nat.{◌-◌}
-use borrow.Author.Rules.{rules}
 use lib.ListN.{length}
 use Rattle.table_text.specs.Pieces.{ordinates}
 use Rattle.text_points.proofs.PointSteps.{PointsTo}

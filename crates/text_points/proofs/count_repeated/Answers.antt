@@ -1,6 +1,5 @@
 -- `text_points::count_repeated` meets its contract: nothing is done where the next difference stands alone.
 use Rattle.text_points.proofs.PointSteps.{counted_here}
-use borrow.Author.Rules.{rules}
 use Rattle.text_points.proofs.count_repeated.Goals as goal
 
 pub returns-then-next-n : goal.returns-then-next-n

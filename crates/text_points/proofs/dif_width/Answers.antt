@@ -3,7 +3,6 @@ use mathlib.Core.Path.{ap, ◌∙◌}
 use Prim.Native.Nat.{ℕ, ◌+◌}
 use native.Mathlib.Omega.{arith}
 use Rattle.table_text.specs.Digits.{further}
-use borrow.Author.Rules.{rules}
 use Rattle.text_points.proofs.dif_width.Goals as goal
 
 pub returns : goal.returns

@@ -2,7 +2,6 @@
 use native.Mathlib.Omega.{arith}
 use lib.ListN.{length-set}
 use Rattle.text_marks.proofs.ShowSteps.{parts_length, number_over}
-use borrow.Author.Rules.{rules}
 use Rattle.text_shows.proofs.put_spelled.Goals as goal
 
 pub bounds-out-at : goal.bounds-out-at

@@ -6,7 +6,6 @@ use native.Mathlib.Omega.{arith}
 use lib.Dec.{lit≤, lit<}
 use lib.ListN.{length}
 use Rattle.text_marks.proofs.ShowSteps.{shown_missing, shown_up, shown_down}
-use borrow.Author.Rules.{rules}
 use Rattle.text_shows.proofs.put_value.Goals as goal
 
 pub put_spelled-requires : goal.put_spelled-requires

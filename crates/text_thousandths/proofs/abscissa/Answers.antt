@@ -1,7 +1,6 @@
 -- `text_thousandths::abscissa` meets its contract: the abscissa of the point i, to the nearest thousandth, halves to the larger.
 use native.Mathlib.Omega.{arith}
 use Rattle.text_thousandths.proofs.HeadSteps.{one_point, some_points, nearest_below, products}
-use borrow.Author.Rules.{rules}
 use Rattle.text_thousandths.proofs.abscissa.Goals as goal
 
 pub returns-then-n-eq1 : goal.returns-then-n-eq1

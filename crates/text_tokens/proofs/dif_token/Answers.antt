@@ -1,7 +1,6 @@
 -- `text_tokens::dif_token` meets its contract: the DIF token of the ordinate y after p.
 use native.Mathlib.Omega.{arith}
 use Rattle.text_tokens.proofs.TokenSteps.{dif_either}
-use borrow.Author.Rules.{rules}
 use Rattle.text_tokens.proofs.dif_token.Goals as goal
 
 pub overflow_add-size : goal.overflow_add-size

@@ -1,6 +1,5 @@
 -- `text_tokens::own_token` meets its contract: the SQZ token of an ordinate.
 use Rattle.text_tokens.proofs.TokenSteps.{own_up, own_down}
-use borrow.Author.Rules.{rules}
 use Rattle.text_tokens.proofs.own_token.Goals as goal
 
 pub returns-then-y-ge-ZERO_ORDINATE : goal.returns-then-y-ge-ZERO_ORDINATE

@@ -1,6 +1,5 @@
 -- `text_tokens::token_of` meets its contract: the token of the ordinate y after p; 0.
 use Rattle.text_tokens.proofs.TokenSteps.{gap_token}
-use borrow.Author.Rules.{rules}
 use Rattle.text_tokens.proofs.token_of.Goals as goal
 
 pub returns-then-y-eq0 : goal.returns-then-y-eq0

@@ -2,7 +2,6 @@
 use mathlib.Core.List.{[], map}
 use Prim.Native.Nat.{◌-◌}
 use lib.ListN.{length}
-use borrow.Author.Rules.{rules}
 use Rattle.table_spec.specs.Frame.{ordinate_of}
 use Rattle.text_marks.specs.Shows.{shown}
 use Rattle.text_value_lines.specs.Lines.{Filling}

@@ -3,7 +3,6 @@ use mathlib.Core.List.{map}
 use Prim.Native.Nat.{◌-◌}
 use native.Mathlib.Omega.{arith}
 use lib.ListN.{length-map}
-use borrow.Author.Rules.{rules}
 use Rattle.table_spec.specs.Frame.{ordinate_of}
 use Rattle.text_marks.specs.Shows.{shown}
 use Rattle.text_value_lines.proofs.LineSteps.{filling_starts, filling_room, filling_more, filled_full, filled_end}

@@ -7,7 +7,6 @@ use Rattle.table_text.specs.Pieces.{put_as}
 use Rattle.text_digits.specs.Pairs.{pairs}
 use Rattle.text_digits.specs.Counts.{counts}
 use Rattle.text_values.proofs.FormSteps.{marks_based, form_whole}
-use borrow.Author.Rules.{rules}
 use Rattle.text_values.proofs.lay.Goals as goal
 
 pub pass-requires : goal.pass-requires

@@ -5,7 +5,6 @@ use lib.ListN.{length, length-map}
 use Rattle.table_spec.specs.Frame.{ordinate_of}
 use Rattle.text_digits.specs.Counts.{counts}
 use Rattle.text_values.proofs.FormSteps.{form_whole}
-use borrow.Author.Rules.{rules}
 use Rattle.text_values.proofs.measure.Goals as goal
 
 pub count-requires : goal.count-requires

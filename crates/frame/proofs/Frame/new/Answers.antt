@@ -3,7 +3,6 @@ use mir.Facts.{to_z-of_z}
 use mathlib.Core.Path.{sym, ◌∙◌}
 use native.Mathlib.Omega.{arith}
 use Rattle.frame.proofs.Limits.{lifted_some, first_outside, last_outside, no_point, too_many, ill_matched, legal_frame}
-use borrow.Author.Rules.{rules}
 use Rattle.frame.proofs.Frame.new.Goals as goal
 
 pub returns-then-first-eq0 : goal.returns-then-first-eq0

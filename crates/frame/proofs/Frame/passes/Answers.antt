@@ -2,7 +2,6 @@
 -- the four products are small
 use native.Mathlib.Omega.{arith}
 use Rattle.frame.proofs.Limits.{Products, products, unit_product, alone, near, coarse}
-use borrow.Author.Rules.{rules}
 use Rattle.frame.proofs.Frame.passes.Goals as goal
 
 pub returns-then-n-eq1 : goal.returns-then-n-eq1

@@ -2,7 +2,6 @@
 use Prim.Native.Nat.{◌-◌}
 use native.Mathlib.Omega.{arith}
 use Rattle.table_text.specs.DigitLaws.{count_more, count_four, count_end}
-use borrow.Author.Rules.{rules}
 use Rattle.table_text.proofs.digits.further_digits.Goals as goal
 
 pub returns-then-v-lt10000 : goal.returns-then-v-lt10000

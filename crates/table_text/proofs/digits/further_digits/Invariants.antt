@@ -1,7 +1,6 @@
 -- `table_text::digits::further_digits` meets its contract: how many digits follow the first one of a number.
 use Prim.Native.Nat.{◌-◌}
 use Rattle.table_text.specs.Digits.{Counting}
-use borrow.Author.Rules.{rules}
 use Rattle.table_text.proofs.digits.further_digits.Given as goal
 
 abbrev pub invariant-loop-limit : goal.invariant-loop-limit

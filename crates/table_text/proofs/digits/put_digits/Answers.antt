@@ -1,7 +1,6 @@
 -- `table_text::digits::put_digits` meets its contract: the n further digits of v from the right; its first digit, which is what is left.
 use native.Mathlib.Omega.{arith}
 use mathlib.Core.Path.{refl}
-use borrow.Author.Rules.{rules}
 use lib.ListN.{length-set}
 use Rattle.table_text.specs.DigitLaws.{digits_start, digits_more, digits_end}
 use Rattle.table_text.specs.DigitLaws.{further_le}

@@ -1,5 +1,4 @@
 -- `table_text::digits::put_digits` meets its contract: the n further digits of v from the right; its first digit, which is what is left.
-use borrow.Author.Rules.{rules}
 use Rattle.table_text.specs.Digits.{Digits}
 use Rattle.table_text.proofs.digits.put_digits.Given as goal
 

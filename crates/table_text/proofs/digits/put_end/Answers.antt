@@ -1,6 +1,5 @@
 -- `table_text::digits::put_end` meets its contract: CR LF.
 use Rattle.table_text.proofs.ByteSteps.{put_two}
-use borrow.Author.Rules.{rules}
 use Rattle.table_text.proofs.digits.put_end.Goals as goal
 
 pub returns : goal.returns

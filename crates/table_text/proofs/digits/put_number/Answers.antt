@@ -3,7 +3,6 @@ use native.Mathlib.Omega.{arith}
 use Rattle.table_text.specs.DigitLaws.{further_le}
 use Rattle.table_text.proofs.NumberSteps.{number_put}
 use mathlib.Core.Path.{refl}
-use borrow.Author.Rules.{rules}
 use Rattle.table_text.proofs.digits.put_number.Goals as goal
 
 pub overflow_add-result : goal.overflow_add-result

@@ -1,6 +1,5 @@
 -- `table_text::digits::small_further` meets its contract: three comparisons count the digits of a number of at most four.
 use Rattle.table_text.proofs.SmallSteps.{further_sum}
-use borrow.Author.Rules.{rules}
 use Rattle.table_text.proofs.digits.small_further.Goals as goal
 
 pub returns : goal.returns
