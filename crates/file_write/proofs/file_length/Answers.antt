@@ -1,0 +1,29 @@
+-- `file_write::file_length` meets its contract: the refusal of the tests before it, or the length of what is planned.
+-- where the file is planned, and the start from there
+use mathlib.Core.Path.{sym, ap, ◌∙◌}
+use mir.Syntax.{w64}
+use mir.Facts.{to_z-of_z}
+use borrow.Author.Rules.{sfits_of}
+use Rattle.file_write_spec.specs.File.{file_exact, write_file}
+use Rattle.file_plan.specs.Stages.{Planning}
+use Rattle.file_lay.specs.Answers.{told_file_lem}
+use Rattle.file_write.proofs.PlanSteps.{measured_laid}
+use Rattle.file_write.proofs.file_length.Goals as goal
+
+pub measure-requires : goal.measure-requires
+measure-requires c =
+    let plan_at : let a = c.args in Planning (write_file a.title.now a.points a.scales a.ordinates.now) (file_exact a.scales a.points a.ordinates.now) a.title.now a.ordinates.now c.in-Taken.p = rw c.in-Taken.is at c.plan_file.ensures in
+    let p = c.in-Taken.p in let g = plan_at in
+    (g.titled, g.writable, rw (to_z-of_z {z = p.first} (sfits_of {w = w64} c.struct_told-1.given.1.0.1), to_z-of_z {z = p.last} (sfits_of {w = w64} c.struct_told-in-Taken-1.given.1.1.0.1)) g.framed)
+
+pub returns-in-Refused : goal.returns-in-Refused
+returns-in-Refused c =
+    let a = c.args in
+    c.refused.ensures ∙ sym (ap (told_file_lem (file_exact a.scales a.points a.ordinates.now)) ((rw c.in-Refused.is at c.plan_file.ensures) _))
+
+pub returns-in-Taken : goal.returns-in-Taken
+returns-in-Taken c =
+    let plan_at : let a = c.args in Planning (write_file a.title.now a.points a.scales a.ordinates.now) (file_exact a.scales a.points a.ordinates.now) a.title.now a.ordinates.now c.in-Taken.p = rw c.in-Taken.is at c.plan_file.ensures in
+    let a = c.args in let p = c.in-Taken.p in
+    measured_laid a.title.now a.points a.scales a.ordinates.now plan_at
+    (rw (to_z-of_z {z = p.first} (sfits_of {w = w64} c.struct_told-1.given.1.0.1), to_z-of_z {z = p.last} (sfits_of {w = w64} c.struct_told-in-Taken-1.given.1.1.0.1)) at c.measure.ensures)
