@@ -40,7 +40,7 @@ def same_words():
     """The meanings of crates/refusal_words are those of refusals.c."""
     report = open(ROOT + "/crates/refusal_words/src/lib.rt", encoding="utf-8").read()
     ours = dict(re.findall(r'\[(\d+)\] = "(.*)"', open(ROOT + "/programs/refusals.c", encoding="utf-8").read().split("write_words")[0]))
-    theirs = re.findall(r'(\d+|_) => say\(b"(.*)"\)', report)
+    theirs = re.findall(r'(\d+|_) => say\(\s*errors,\s*b"(.*)",?\s*\)', report)
     others = iter(["16", "29"])
     for number, words in theirs:
         number = next(others) if number == "_" else number

@@ -1,0 +1,41 @@
+-- `plain_read::rows` meets its contract: line after line, what is left of the body gives the answer.
+use Prim.Native.Nat.{◌-◌}
+use native.Mathlib.Omega.{arith}
+use Rattle.table_pass.proofs.PassLaws.{reached_start, reached_next, reached_fault, reached_refused, reached_end}
+use Rattle.plain_read.proofs.rows.Goals as goal
+
+pub loop-j-init : goal.loop-j-init
+loop-j-init c = reached_start _ _ _ _
+
+pub row_start-requires : goal.row_start-requires
+row_start-requires c = c.loop-j.invariant.rests.high
+
+pub returns-in-End : goal.returns-in-End
+returns-in-End c =
+    reached_end c.loop-j.invariant (rw c.in-End.is at c.row_start.ensures) c.finish.ensures
+
+pub returns-in-Bad : goal.returns-in-Bad
+returns-in-Bad c =
+    reached_fault c.loop-j.invariant (rw c.in-Bad.is at c.row_start.ensures)
+
+pub plain_line-requires : goal.plain_line-requires
+plain_line-requires c =
+    let p = c.requires in
+    let x = rw c.in-Head.is at c.row_start.ensures in
+    (p, c.loop-j.invariant.rests, x.1)
+
+pub returns-in-Refused : goal.returns-in-Refused
+returns-in-Refused c =
+    let x = rw c.in-Head.is at c.row_start.ensures in
+    reached_refused c.loop-j.invariant _ _ x.2 (rw c.in-Refused.is at c.plain_line.ensures)
+
+pub loop-j-smaller : goal.loop-j-smaller
+loop-j-smaller c =
+    let x = rw c.in-Head.is at c.row_start.ensures in
+    let y = rw c.in-Next.is at c.plain_line.ensures in
+    let h = y.1.high in omega (arith, x.0, y.0)
+
+pub loop-j-preserved : goal.loop-j-preserved
+loop-j-preserved c =
+    let x = rw c.in-Head.is at c.row_start.ensures in
+    reached_next c.loop-j.invariant _ x.2 (rw c.in-Next.is at c.plain_line.ensures)
