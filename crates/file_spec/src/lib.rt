@@ -11,7 +11,7 @@ pub struct Span {
 }
 
 // The texts of the seven records that a table needs.
-#[derive(Drop)]
+#[derive(Clone, Copy)]
 pub struct Needed {
     pub xfactor: Span,
     pub yfactor: Span,
@@ -77,7 +77,7 @@ pub enum FoundBody {
 }
 
 // Whether the quotients of a file are exact, nothing being rounded (02, T-08): F's, L's, and FIRSTY's, which is exact too where it is not compared.
-#[derive(Drop)]
+#[derive(Clone, Copy)]
 pub struct Exactness {
     pub first: bool,
     pub last: bool,
@@ -85,7 +85,7 @@ pub struct Exactness {
 }
 
 // What a file's table has: how many points, its first and last abscissa in whole thousandths, and what of it is exact.
-#[derive(Drop)]
+#[derive(Clone, Copy)]
 pub struct FileTable {
     pub points: usize,
     pub first: i64,

@@ -12,14 +12,14 @@ pub enum Spooled {
 }
 
 // A number of a report, or `none`.
-#[derive(Drop)]
+#[derive(Clone, Copy)]
 pub enum Level {
     Nothing,
     Is(i64),
 }
 
 // What the report says of a file that was read: N, how many points are missing, the lowest and the highest ordinate, their sum, which is at most 2^47 in magnitude, and the faintest.
-#[derive(Drop)]
+#[derive(Clone, Copy)]
 pub struct Account {
     pub points: u64,
     pub missing: u64,
@@ -30,14 +30,14 @@ pub struct Account {
 }
 
 // What the report says of a file; a refusal has its line and column in the file.
-#[derive(Drop)]
+#[derive(Clone, Copy)]
 pub enum FileReport {
     Read(Account),
     Refused(Refusal),
 }
 
 // The totals over accepted files. The sum is below 2^57 in magnitude.
-#[derive(Drop)]
+#[derive(Clone, Copy)]
 pub struct Totals {
     pub files: u64,
     pub points: u64,
@@ -60,7 +60,7 @@ pub struct Night {
 }
 
 // How far a walk has come: the place, how many files stood before it, refused ones too, and the totals over the accepted ones among them.
-#[derive(Drop)]
+#[derive(Clone, Copy)]
 pub struct Progress {
     pub at: usize,
     pub seen: usize,
