@@ -30,7 +30,7 @@ pub struct Account {
 }
 
 // What the report says of a file; a refusal has its line and column in the file.
-#[derive(Clone, Copy)]
+#[derive(Drop)]
 pub enum FileReport {
     Read(Account),
     Refused(Refusal),

@@ -12,7 +12,7 @@ pub struct Fault {
 }
 
 // A refusal of a reader: a fault, with the line and the column of its place in the text that was read, both from 1. All readers share it; `text::refusal_in` makes it.
-#[derive(Clone, Copy)]
+#[derive(Drop)]
 pub struct Refusal {
     pub number: u64,
     pub place: usize,
