@@ -7,7 +7,6 @@ use mir.Facts.{to_z-of_z}
 use Rattle.label_spec.specs.Names.{END}
 use Rattle.file_plan.specs.Stages.{body_of}
 use Rattle.file_lay.proofs.LaySteps.{body_bound, table_refused, table_wrote, too_short, not_fitting, fitting}
-use borrow.Author.Rules.{rules}
 use Rattle.file_lay.proofs.lay.Goals as goal
 
 pub returns-then-len-head : goal.returns-then-len-head

@@ -5,7 +5,6 @@ use Prim.Native.Nat.{◌-◌, ◌≤◌}
 use native.Mathlib.Omega.{arith}
 use lib.ListN.{length}
 use borrow.Author.Rules.{rules}
-use borrow.Author.Tests.{ltb-false}
 use Rattle.table_value.proofs.Walks.{went_none}
 use Rattle.table_ordinates.proofs.Moves.{own_small}
 use Rattle.table_owns.proofs.Walks.{been_went, been_end, been_own}
