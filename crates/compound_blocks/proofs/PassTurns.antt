@@ -1,4 +1,5 @@
 -- The turns of the pass over a file's data blocks: no place of the code is named here.
+use Rattle.label_spec.specs.declared.Label.{Label}
 use mathlib.Core.Path.{◌≡◌, refl, sym, ◌∙◌}
 use mathlib.Core.Bool.{Bool, true, false}
 use mathlib.Core.List.{List, [], ◌∷◌}
@@ -12,7 +13,6 @@ use Rattle.terms.specs.Logic.{pick}
 use Rattle.label_spec.specs.Names.{name_in, sames, TITLE, END}
 use Rattle.label_spec.specs.Labels.{from}
 use Rattle.label_spec.specs.LabelLaws.{resume}
-use Rattle.label_spec.specs.declared.Label.TheVariants.{At, Bad, None}
 use Rattle.label_lines.specs.Post.{Marked, Met}
 use Rattle.label_judged.proofs.JudgeTurns.{mark_is}
 use Rattle.compound_spec.specs.Blocks.{says}
@@ -43,15 +43,15 @@ module _ (s : List ℕ) (at i : ℕ) (c : Line s at i) where
 
 -- `next_seen`
 module _ (s : List ℕ) (at : ℕ) where
-  pub seen_none : Met s at false None → Sees s at Seen.Over
+  pub seen_none : Met s at false Label.None → Sees s at Seen.Over
   unfolding resume flat
   seen_none x = record { says = λ n t. rw x.law refl }
 
-  pub seen_bad : (m : ℕ) → Met s at false (Bad m) → Sees s at Seen.Over
+  pub seen_bad : (m : ℕ) → Met s at false (Label.Bad m) → Sees s at Seen.Over
   unfolding resume flat
   seen_bad m x = record { says = λ n t. rw x.law refl }
 
-  module _ (m n e : ℕ) (x : Met s at false (At m n e)) where
+  module _ (m n e : ℕ) (x : Met s at false (Label.At m n e)) where
     pub seen_end : sames (name_in s n e) END ≡ true → Sees s at (Seen.End m e)
     unfolding resume flat passed
     seen_end g = record { says = (x.good.0, omega (arith, x.good), x.good.3, λ k t. rw (x.law, g) refl) }

@@ -12,42 +12,43 @@ use Rattle.terms.specs.Logic.{pick, zero_one}
 use Rattle.terms.specs.Refusals.{fault_at, refusal_in}
 use Rattle.terms.specs.declared.Fault.{Fault}
 use Rattle.terms.specs.declared.Refusal.{Refusal}
-use Rattle.label_spec.specs.declared.Found.{Found}
-use Rattle.label_spec.specs.declared.Opened.{Opened}
 use Rattle.label_spec.specs.Labels.{from}
 use Rattle.label_spec.specs.File.{longest_file, opened}
-use Rattle.decimal_spec.specs.declared.Count.{Count}
-use Rattle.file_spec.specs.declared.Span.{Span}
+use Rattle.label_spec.specs.declared.Span.{Span}
 use Rattle.file_spec.specs.Texts.{text_in, mark_of}
 use Rattle.file_spec.specs.Figures.{count_in}
 use Rattle.compound_spec.specs.declared.Block.{Block}
 use Rattle.compound_spec.specs.declared.Own.{Own}
-use Rattle.compound_spec.specs.declared.BlocksFound.{BlocksFound}
-use Rattle.compound_spec.specs.declared.Surveyed.{Surveyed}
 use Rattle.compound_spec.specs.Blocks.{Level, Survey, refused, ended, within_title, surveyed}
-use Rattle.compound_spec.specs.Compound.{BlocksAnswer, refuse_blocks, one_block, all_blocks, span_of, by_count, by_blocks, by_survey, find_blocks}
+use Rattle.compound_spec.specs.Compound.{BlocksAnswer, refuse_blocks, one_block, all_blocks, by_count, by_blocks, by_survey, find_blocks}
 use Rattle.compound_spec.specs.Answers.{entries, laid}
 use Rattle.compound_law.specs.Plain.{Promised}
 use Rattle.compound_law.specs.Found.{found}
 use Rattle.compound_law.specs.Flat.{plain, flat}
 use Rattle.compound_law.proofs.Flat.{flat_is}
 use Rattle.compound_survey.specs.Told.{own_of, told, Surveys}
-use Rattle.compound_find.specs.declared.Whole.{Whole}
 use Rattle.compound_find.specs.Answers.{FindsBlocks, counted_by, blocks_on, judged_by, Stores}
+use Rattle.std.specs.Prelude.{Option, Some, None, Result, Ok, Err}
+use Rattle.decimal_spec.specs.declared.Count.{Count}
+use Rattle.decimal_spec.specs.declared.Whole.{Whole}
+use Rattle.compound_spec.specs.declared.Blocks.{Blocks}
+use Rattle.label_spec.specs.Parts.{span_of, edges_with}
+use Rattle.decimal_spec.specs.Parts.{count_with}
+use Rattle.compound_spec.specs.Parts.{surveyed_with}
 
 -- ---- `judge_count`, `judge_whole`
 
 module _ (s : List ℕ) (t : Span) (n : ℕ) where
-  pub count_bad : (c : Count) → c ≡ count_in (text_in s t) → c ≡ Count.Misspelled → (p : ℕ) → p ≡ mark_of s t → (r : Whole) → r ≡ Whole.Refused (fault_at 32 p) → r ≡ counted_by s t n
+  pub count_bad : (c : Option Count) → c ≡ count_in (text_in s t) → c ≡ None → (p : ℕ) → p ≡ mark_of s t → (r : Result Blocks Fault) → r ≡ Err (fault_at 32 p) → r ≡ counted_by s t n
   unfolding counted_by
   count_bad c e f p g r h = rw (sym e ∙ f, ← g) h
 
-  module _ (c : Count) (e : c ≡ count_in (text_in s t)) (v j : ℕ) (f : c ≡ Count.Counted v j) where
+  module _ (c : Option Count) (e : c ≡ count_in (text_in s t)) (v j : ℕ) (f : c ≡ Some (count_with v j)) where
     pub count_right : v ≡ n → Whole.Compound ≡ counted_by s t n
     unfolding counted_by
     count_right g = rw (sym e ∙ f, eq-eqb v n g) refl
 
-    pub count_wrong : (v ≡ n → ⊥) → (p : ℕ) → p ≡ mark_of s t → (r : Whole) → r ≡ Whole.Refused (fault_at 32 p) → r ≡ counted_by s t n
+    pub count_wrong : (v ≡ n → ⊥) → (p : ℕ) → p ≡ mark_of s t → (r : Result Blocks Fault) → r ≡ Err (fault_at 32 p) → r ≡ counted_by s t n
     unfolding counted_by
     count_wrong g p k r h = rw (sym e ∙ f, ne_eqb v n g, ← k) h
 
@@ -56,12 +57,12 @@ module _ (s : List ℕ) (end : ℕ) (o : Own) (n : ℕ) where
   unfolding judged_by
   whole_one h = rw h refl
 
-  module _ (h : o.link ≡ true) (x : Found) (e : o.blocks ≡ x) where
-    pub whole_absent : x ≡ Found.Absent → (r : Whole) → r ≡ Whole.Refused (fault_at 25 end) → r ≡ judged_by s end o n
+  module _ (h : o.link ≡ true) (x : Option Span) (e : o.blocks ≡ x) where
+    pub whole_absent : x ≡ None → (r : Result Blocks Fault) → r ≡ Err (fault_at 25 end) → r ≡ judged_by s end o n
     unfolding judged_by
     whole_absent f r g = rw (h, e, f) g
 
-    pub whole_text : (a b : ℕ) → x ≡ Found.Text a b → (r : Whole) → r ≡ counted_by s (span_of a b) n → r ≡ judged_by s end o n
+    pub whole_text : (a b : ℕ) → x ≡ Some (span_of a b) → (r : Result Blocks Fault) → r ≡ counted_by s (span_of a b) n → r ≡ judged_by s end o n
     unfolding judged_by
     whole_text a b f r g = rw (h, e, f) g
 
@@ -94,7 +95,7 @@ record Known (s : List ℕ) (o : Block) (w : Own) (n : ℕ) : Type 0 where
   own : w ≡ own_of level
   count : n ≡ length blocks
 
-known : (s : List ℕ) (o : Block) (w : Own) (n : ℕ) (r : Survey) → surveyed s ≡ r → Surveyed.Ended o w n ≡ told r → Known s o w n
+known : (s : List ℕ) (o : Block) (w : Own) (n : ℕ) (r : Survey) → surveyed s ≡ r → Ok (surveyed_with o w n) ≡ told r → Known s o w n
 known s o w n (refused c a) e f = zero_one cc
 known s o w n (ended l b bs) e f =
     let x : o ≡ b = cc in
@@ -103,25 +104,25 @@ known s o w n (ended l b bs) e f =
     record { level = l; blocks = bs; is = rw x e; own = y; count = z }
 
 -- the answer for each case of the whole
-abbrev answer_of : Block → List Block → Whole → BlocksAnswer
-answer_of o bs (Whole.Refused f) = refuse_blocks f.number f.place
+abbrev answer_of : Block → List Block → Result Blocks Fault → BlocksAnswer
+answer_of o bs (Err f) = refuse_blocks f.number f.place
 answer_of o bs Whole.One = one_block o
 answer_of o bs Whole.Compound = all_blocks bs
 
 module _ (s : List ℕ) (l : Level) (o : Block) (bs : List Block) where
-  count_is : (a b : ℕ) (c : Count) → count_in (text_in s (span_of a b)) ≡ c → by_count s (span_of a b) bs c ≡ answer_of o bs (counted_by s (span_of a b) (length bs))
+  count_is : (a b : ℕ) (c : Option Count) → count_in (text_in s (span_of a b)) ≡ c → by_count s (span_of a b) bs c ≡ answer_of o bs (counted_by s (span_of a b) (length bs))
   unfolding by_count counted_by
-  count_is a b Count.Misspelled e = rw e refl
-  count_is a b (Count.Counted v j) e = rw e (cases (eqb v (length bs)))
+  count_is a b None e = rw e refl
+  count_is a b (Some x) e = rw e (cases (eqb x.value (length bs)))
     where
-      cases : (t : Bool) → pick t (all_blocks bs) (refuse_blocks 32 (mark_of s (span_of a b))) ≡ answer_of o bs (pick t Whole.Compound (Whole.Refused (fault_at 32 (mark_of s (span_of a b)))))
+      cases : (t : Bool) → pick t (all_blocks bs) (refuse_blocks 32 (mark_of s (span_of a b))) ≡ answer_of o bs (pick t Whole.Compound (Err (fault_at 32 (mark_of s (span_of a b)))))
       cases true = refl
       cases false = refl
 
-  blocks_is : (f : Found) → by_blocks s o bs f ≡ answer_of o bs (blocks_on s o.end (length bs) f)
+  blocks_is : (f : Option Span) → by_blocks s o bs f ≡ answer_of o bs (blocks_on s o.end (length bs) f)
   unfolding by_blocks
-  blocks_is Found.Absent = refl
-  blocks_is (Found.Text a b) = count_is a b (count_in (text_in s (span_of a b))) refl
+  blocks_is None = refl
+  blocks_is (Some x) = count_is x.from x.to (count_in (text_in s x)) refl
 
   whole_is : by_survey s (ended l o bs) ≡ answer_of o bs (judged_by s o.end (own_of l) (length bs))
   unfolding by_survey judged_by
@@ -132,19 +133,19 @@ module _ (s : List ℕ) (l : Level) (o : Block) (bs : List Block) where
       cases false = refl
 
   -- only a block that is not LINK is the one data block
-  not_counted : (a b : ℕ) (c : Count) → one_block o ≡ by_count s (span_of a b) bs c → true ≡ false
+  not_counted : (a b : ℕ) (c : Option Count) → one_block o ≡ by_count s (span_of a b) bs c → true ≡ false
   unfolding by_count
-  not_counted a b Count.Misspelled g = zero_one cc
-  not_counted a b (Count.Counted v j) g = cases (eqb v (length bs)) g
+  not_counted a b None g = zero_one cc
+  not_counted a b (Some x) g = cases (eqb x.value (length bs)) g
     where
       cases : (t : Bool) → one_block o ≡ pick t (all_blocks bs) (refuse_blocks 32 (mark_of s (span_of a b))) → true ≡ false
       cases true k = zero_one cc
       cases false k = zero_one cc
 
-  not_linked : (f : Found) → one_block o ≡ by_blocks s o bs f → true ≡ false
+  not_linked : (f : Option Span) → one_block o ≡ by_blocks s o bs f → true ≡ false
   unfolding by_blocks
-  not_linked Found.Absent g = zero_one cc
-  not_linked (Found.Text a b) g = not_counted a b (count_in (text_in s (span_of a b))) g
+  not_linked None g = zero_one cc
+  not_linked (Some x) g = not_counted x.from x.to (count_in (text_in s x)) g
 
   unlinked : one_block o ≡ by_survey s (ended l o bs) → l.link ≡ false
   unfolding by_survey
@@ -162,24 +163,24 @@ promised_one : (s : List ℕ) (l : Level) (o : Block) (bs : List Block) (r : Sur
 promised_one s l o bs r e p h = (rw e at p).2 h
 
 module _ (s out : List ℕ) where
-  pub found_refused : (f : Fault) → Surveys s (Surveyed.Refused f) → (q : Refusal) → q ≡ refusal_in s f.number f.place → FindsBlocks s out out (BlocksFound.Refused q)
+  pub found_refused : (f : Fault) → Surveys s (Err f) → (q : Refusal) → q ≡ refusal_in s f.number f.place → FindsBlocks s out out (Err q)
   found_refused f x q h = cases (surveyed s) refl x.answers
     where
-      cases : (r : Survey) → surveyed s ≡ r → Surveyed.Refused f ≡ told r → FindsBlocks s out out (BlocksFound.Refused q)
+      cases : (r : Survey) → surveyed s ≡ r → Err f ≡ told r → FindsBlocks s out out (Err q)
       cases (ended l o bs) e g = zero_one cc
       cases (refused c a) e g =
           let y : f ≡ fault_at c a = cc in
           let z : find_blocks s ≡ refuse_blocks c a = (unfold find_blocks by_survey in rw e refl) in
           record { answers = rw (z, h, y) refl; leaves = rw z refl }
 
-  module _ (o : Block) (w : Own) (n : ℕ) (x : Surveys s (Surveyed.Ended o w n)) where
+  module _ (o : Block) (w : Own) (n : ℕ) (x : Surveys s (Ok (surveyed_with o w n))) where
     is : Known s o w n
     is = known s o w n (surveyed s) refl x.answers
 
-    judged : (r : Whole) → r ≡ judged_by s o.end w n → find_blocks s ≡ answer_of o is.blocks r
+    judged : (r : Result Blocks Fault) → r ≡ judged_by s o.end w n → find_blocks s ≡ answer_of o is.blocks r
     judged r e = rw e (found_known s o w n is)
 
-    within : within_title s (Opened.Title o.title o.eq) ≡ ended is.level o is.blocks
+    within : within_title s (Ok (edges_with o.title o.eq)) ≡ ended is.level o is.blocks
     within = rw x.places.5 (short ∙ is.is)
       where
         short : within_title s (opened s) ≡ surveyed s
@@ -188,13 +189,13 @@ module _ (s out : List ℕ) where
     stored : (out' : List ℕ) → Stores s out o.title o.eq n out' → out' ≡ laid s out is.blocks
     stored out' g = g.law is.blocks is.count (flat_is s o.title o.eq is.level o is.blocks within)
 
-    pub found_fault : (f : Fault) → Whole.Refused f ≡ judged_by s o.end w n → (q : Refusal) → q ≡ refusal_in s f.number f.place → FindsBlocks s out out (BlocksFound.Refused q)
-    found_fault f e q h = let z = judged (Whole.Refused f) e in record { answers = rw (z, h) refl; leaves = rw z refl }
+    pub found_fault : (f : Fault) → Err f ≡ judged_by s o.end w n → (q : Refusal) → q ≡ refusal_in s f.number f.place → FindsBlocks s out out (Err q)
+    found_fault f e q h = let z = judged (Err f) e in record { answers = rw (z, h) refl; leaves = rw z refl }
 
-    pub found_all : Whole.Compound ≡ judged_by s o.end w n → (out' : List ℕ) → Stores s out o.title o.eq n out' → FindsBlocks s out out' (BlocksFound.Compound n)
-    found_all e out' g = let z = judged Whole.Compound e in record { answers = ap BlocksFound.Compound is.count ∙ rw z refl; leaves = rw z (stored out' g) }
+    pub found_all : Whole.Compound ≡ judged_by s o.end w n → (out' : List ℕ) → Stores s out o.title o.eq n out' → FindsBlocks s out out' (Ok (Blocks.Compound n))
+    found_all e out' g = let z = judged Whole.Compound e in record { answers = ap Ok (Blocks.Compound is.count) ∙ rw z refl; leaves = rw z (stored out' g) }
 
-    pub found_one : Whole.One ≡ judged_by s o.end w n → (out' : List ℕ) → Stores s out o.title o.eq n out' → FindsBlocks s out out' BlocksFound.One
+    pub found_one : Whole.One ≡ judged_by s o.end w n → (out' : List ℕ) → Stores s out o.title o.eq n out' → FindsBlocks s out out' (Ok Blocks.One)
     unfolding find_blocks
     found_one e out' g =
         let z = judged Whole.One e in

@@ -6,42 +6,32 @@ ghost use Rattle.label.specs.Answers.{found_in};
 ghost use Rattle.file_marks.specs.Spans.{Within};
 ghost use Rattle.compound_find.specs.Answers.{counted_by, judged_by, Stores, FindsBlocks};
 ghost use Rattle.terms.specs.Refusals.{fault_at};
-ghost use Rattle.compound_find.specs.declared.Whole.{Whole};
 
 use compound_blocks::store_blocks;
-use compound_spec::{BlocksFound, Own, Surveyed};
+use compound_spec::{Blocks, Own, Surveyed};
 use compound_survey::survey;
 use decimal_spec::Count;
 use file_marks::mark_in;
 use file_spec::Span;
 use file_texts::count_in;
-use label_spec::Found;
-use terms::Fault;
+use terms::{Fault, Refusal};
 use text::refusal_in;
 
-// What the outermost block makes of a file: a fault of the whole; or it is one data block; or compound.
-#[derive(Drop)]
-enum Whole {
-    Refused(Fault),
-    One,
-    Compound,
-}
-
 // A fault of the whole file.
-fn fault(number: u64, place: usize) -> Whole
-    ensures { result ≡ Whole.Refused (fault_at number place) }
+fn fault(number: u64, place: usize) -> Result<Blocks, Fault>
+    ensures { result ≡ Err (fault_at number place) }
 {
-    Whole::Refused(Fault::new(number, place))
+    Err(Fault::new(number, place))
 }
 
 // BLOCKS, whose text this is, against the number of data blocks (32).
-fn judge_count(file: &[u8], x: Span, count: usize) -> Whole
+fn judge_count(file: &[u8], x: Span, count: usize) -> Result<Blocks, Fault>
     requires { Within (length file.now) x }
     ensures { result ≡ counted_by file.now x count }
 {
     match count_in(file, x) {
-        Count::Misspelled => fault(32, mark_in(file, x)),
-        Count::Counted { value, end: _ } => {
+        None => fault(32, mark_in(file, x)),
+        Some(Count { value, end: _ }) => {
             if value == count as u64 {
                 return Whole::Compound;
             }
@@ -51,7 +41,7 @@ fn judge_count(file: &[u8], x: Span, count: usize) -> Whole
 }
 
 // The outermost block, by what its own labels say: LINK or not; then BLOCKS (25, 32).
-fn judge_whole(file: &[u8], end: usize, own: Own, count: usize) -> Whole
+fn judge_whole(file: &[u8], end: usize, own: Own, count: usize) -> Result<Blocks, Fault>
     requires { found_in 0 (length file.now) own.blocks }
     ensures { result ≡ judged_by file.now end own count }
 {
@@ -60,8 +50,8 @@ fn judge_whole(file: &[u8], end: usize, own: Own, count: usize) -> Whole
     }
     let blocks = own.blocks;
     match blocks {
-        Found::Absent => fault(25, end),
-        Found::Text { from, to } => judge_count(file, Span { from, to }, count),
+        None => fault(25, end),
+        Some(Span { from, to }) => judge_count(file, Span { from, to }, count),
     }
 }
 
@@ -80,27 +70,27 @@ fn store_fitting(file: &[u8], blocks: &mut [u64], title: usize, eq: usize, count
 
 // Finds the data blocks of a file: any bytes, any slice. Refused: number, place, line and column in the file, and every lent number is what it was. Otherwise whether the file is one data block
 // or how many a compound one has, and as many of them as there is room for are stored, four numbers each: from, to, start, end. The numbers past them are what they were.
-pub fn find_blocks(file: &[u8], blocks: &mut [u64]) -> BlocksFound
+pub fn find_blocks(file: &[u8], blocks: &mut [u64]) -> Result<Blocks, Refusal>
     ensures { FindsBlocks file.now blocks.old blocks.new result }
 {
     match survey(file) {
-        Surveyed::Refused(f) => BlocksFound::Refused(refusal_in(file, f.number, f.place)),
-        Surveyed::Ended {
+        Err(f) => Err(refusal_in(file, f.number, f.place)),
+        Ok(Surveyed {
             outermost,
             own,
             count,
-        } => {
+        }) => {
             let title = outermost.title;
             let eq = outermost.eq;
             match judge_whole(file, outermost.end, own, count) {
-                Whole::Refused(f) => BlocksFound::Refused(refusal_in(file, f.number, f.place)),
+                Err(f) => Err(refusal_in(file, f.number, f.place)),
                 Whole::One => {
                     store_fitting(file, blocks, title, eq, count);
-                    BlocksFound::One
+                    Ok(Blocks::One)
                 }
                 Whole::Compound => {
                     store_fitting(file, blocks, title, eq, count);
-                    BlocksFound::Compound(count)
+                    Ok(Blocks::Compound(count))
                 }
             }
         }

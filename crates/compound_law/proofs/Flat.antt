@@ -1,11 +1,10 @@
 -- The data blocks of a file that is not refused, found in one pass with no stack: a block that holds blocks has said LINK, so at END only the block that the last TITLE opened can be a data block.
-use Rattle.std.specs.Prelude.{◌≡◌, Bool, ℕ, zero, suc, ◌+◌, ◌≤◌, ltb, length, take}
+use Rattle.std.specs.Prelude.{◌≡◌, Bool, ℕ, zero, suc, ◌+◌, ◌≤◌, ltb, length, take, Ok}
 use Rattle.std.proofs.Math.Path.{refl}
 use Rattle.std.proofs.Common.{ap, subst, arith}
 use Rattle.std.proofs.Math.Bool.{true, false}
 use mathlib.Core.List.{List, [], ◌∷◌}
 use Rattle.terms.specs.Logic.{pick, both}
-use Rattle.label_spec.specs.declared.Opened.{Opened}
 use Rattle.label_spec.specs.Names.{sames, TITLE, END}
 use Rattle.label_spec.specs.Labels.{Walk, over, bad, label, from}
 use Rattle.label_spec.specs.File.{twice}
@@ -14,6 +13,7 @@ use Rattle.compound_spec.specs.declared.Block.{Block}
 use Rattle.compound_spec.specs.Blocks.{says, Level, fresh, noted, deepest, Survey, refused, ended, push, block_of, closed, tested, turn, nested, within_title}
 use Rattle.compound_law.specs.Plain.{AllLink}
 use Rattle.compound_law.specs.Flat.{Last, plain, none, passed, flat}
+use Rattle.label_spec.specs.Parts.{edges_with}
 
 -- The state of the pass, where the innermost open block is l.
 abbrev last_of : Level → Last
@@ -124,7 +124,7 @@ nested_alike s (bad x rest) l up a = tt
 nested_alike s (label x y q v rest) l up a = turn_alike s x y q v rest l up a (λ o ups b. nested_alike s rest o ups b)
 
 -- The theorem: m and e are the places of the outermost TITLE's `##` and `=`.
-pub flat_is : (s : List ℕ) (m e : ℕ) (l : Level) (o : Block) (bs : List Block) → within_title s (Opened.Title m e) ≡ ended l o bs
+pub flat_is : (s : List ℕ) (m e : ℕ) (l : Level) (o : Block) (bs : List Block) → within_title s (Ok (edges_with m e)) ≡ ended l o bs
     → (n : ℕ) → n ≤ length bs → flat s (from s (e + 1) false) n (plain m e) ≡ take n bs
 unfolding within_title
 flat_is s m e l o bs h = rw h at (nested_alike s (from s (e + 1) false) (fresh m e) [] tt)

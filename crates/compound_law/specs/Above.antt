@@ -1,9 +1,7 @@
 -- The labels of a text that stands from a place on stand from there on.
-use Rattle.std.specs.Prelude.{Bool, true, false, List, [], ◌∷◌, ℕ, ◌+◌, ◌-◌, ◌≤◌, leb, eqb, length, get_or, take, drop}
+use Rattle.std.specs.Prelude.{Bool, true, false, List, [], ◌∷◌, ℕ, ◌+◌, ◌-◌, ◌≤◌, leb, eqb, length, get_or, take, drop, Option, Some, None}
 use Rattle.std.proofs.Common.{arith}
 use Rattle.terms.specs.Logic.{pick}
-use Rattle.label_spec.specs.declared.Spot.{Spot}
-use Rattle.label_spec.specs.declared.Spot.TheVariants.{Place, Nowhere}
 use Rattle.label_spec.specs.Names.{norm, blank}
 use Rattle.label_spec.specs.Labels.{Walk, over, bad, label, longest_name, eq_in, headed, step, walk, from}
 
@@ -21,10 +19,10 @@ pick_above : (t : Bool) (i : ℕ) (a b : Walk) → Above i a → Above i b → A
 pick_above true i a b x y = x
 pick_above false i a b x y = y
 
-headed_above : (s : List ℕ) (m n : ℕ) (k : Walk) (p : Spot) → Above m k → Above m (headed s m n k p)
+headed_above : (s : List ℕ) (m n : ℕ) (k : Walk) (p : Option ℕ) → Above m k → Above m (headed s m n k p)
 unfolding headed
-headed_above s m n k Nowhere r = (omega arith, r)
-headed_above s m n k (Place e) r = pick_above (leb (length (norm (take (e - n) s))) longest_name) m _ _ (omega arith, r) (omega arith, r)
+headed_above s m n k None r = (omega arith, r)
+headed_above s m n k (Some e) r = pick_above (leb (length (norm (take (e - n) s))) longest_name) m _ _ (omega arith, r) (omega arith, r)
 
 step_above : (K : Bool → Walk) (s : List ℕ) (i : ℕ) (t : Bool) (b : ℕ) → ((u : Bool) → Above i (K u)) → Above i (step K s i t b)
 unfolding step

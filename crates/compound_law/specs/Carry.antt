@@ -1,11 +1,10 @@
 -- The labels and records of a data block, in place and in the cut: the same, each place further on.
-use Rattle.std.specs.Prelude.{◌≡◌, Bool, true, false, List, [], ◌∷◌, ◌++◌, ℕ, ◌+◌, ◌-◌, ◌<◌, ◌≤◌, ltb, length, take, drop}
+use Rattle.std.specs.Prelude.{◌≡◌, Bool, true, false, List, [], ◌∷◌, ◌++◌, ℕ, ◌+◌, ◌-◌, ◌<◌, ◌≤◌, ltb, length, take, drop, Option, Some, None}
 use Rattle.std.proofs.Math.Path.{refl}
 use Rattle.std.proofs.Common.{inl, inr, arith}
 use Rattle.std.proofs.Math.Nat.{add_assoc}
 use borrow.Author.Tests.{ltb-true, ltb-false, lt-ltb, le-ltb}
 use Rattle.terms.specs.Logic.{pick}
-use Rattle.label_spec.specs.declared.Found.{Found}
 use Rattle.label_spec.specs.Names.{sames}
 use Rattle.label_spec.specs.Labels.{Walk, over, bad, label}
 use Rattle.label_spec.specs.Records.{mark_of, record_of}
@@ -14,22 +13,24 @@ use Rattle.compound_law.specs.Graft.{graft}
 use Rattle.compound_law.specs.Standing.{Standing, Sound}
 use Rattle.compound_law.specs.Above.{Above, from_above}
 use Rattle.compound_law.specs.Plain.{Own, Plain}
+use Rattle.label_spec.specs.declared.Span.{Span}
+use Rattle.label_spec.specs.Parts.{span_of}
 
 -- A text of a record, further on by d.
-abbrev pub shift_found : ℕ → Found → Found
-shift_found d (Found.Text a b) = Found.Text (d + a) (d + b)
-shift_found d Found.Absent = Found.Absent
+abbrev pub shift_found : ℕ → Option Span → Option Span
+shift_found d (Some x) = Some (span_of (d + x.from) (d + x.to))
+shift_found d None = None
 
 -- It lies in a text of this length.
-abbrev pub found_in : ℕ → Found → Type 0
-found_in len (Found.Text a b) = (a ≤ b) × (b ≤ len)
-found_in len Found.Absent = Unit
+abbrev pub found_in : ℕ → Option Span → Type 0
+found_in len (Some x) = (x.from ≤ x.to) × (x.to ≤ len)
+found_in len None = Unit
 
-pub pick_found : (d : ℕ) (t : Bool) (p q : Found) → pick t (shift_found d p) (shift_found d q) ≡ shift_found d (pick t p q)
+pub pick_found : (d : ℕ) (t : Bool) (p q : Option Span) → pick t (shift_found d p) (shift_found d q) ≡ shift_found d (pick t p q)
 pick_found d true p q = refl
 pick_found d false p q = refl
 
-in_pick : (len : ℕ) (t : Bool) (p q : Found) → found_in len p → found_in len q → found_in len (pick t p q)
+in_pick : (len : ℕ) (t : Bool) (p q : Option Span) → found_in len p → found_in len q → found_in len (pick t p q)
 in_pick len true p q a b = a
 in_pick len false p q a b = b
 
@@ -90,8 +91,8 @@ module _ (s u : List ℕ) (m : ℕ) (k : Walk) (x q : ℕ)
           (next_mark (done ++ v ∷ []) rest d.1 p.1).0,
           record_cut (done ++ v ∷ []) rest d.1 p.1,
           add_assoc m e 1,
-          pick_found m (sames v w) (Found.Text (e + 1) (mark_of (length u) rest)) (record_of (length u) x w rest),
-          pick_found m (ltb y x) (pick (sames v w) (Found.Text (e + 1) (mark_of (length u) rest)) (record_of (length u) x w rest)) Found.Absent,
+          pick_found m (sames v w) (Some (span_of (e + 1) (mark_of (length u) rest))) (record_of (length u) x w rest),
+          pick_found m (ltb y x) (pick (sames v w) (Some (span_of (e + 1) (mark_of (length u) rest))) (record_of (length u) x w rest)) None,
         ) refl
 
 mark_above : (len lo : ℕ) (k : Walk) → Above lo k → lo ≤ len → lo ≤ mark_of len k

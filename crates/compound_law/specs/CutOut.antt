@@ -1,15 +1,11 @@
 -- 02, T-07: "If the whole file is not refused, a data block cut out as a file must read exactly as it does in place, places shifted (1 and 2 at 0)".
-use Rattle.std.specs.Prelude.{◌≡◌, Bool, true, false, List, [], ◌∷◌, ◌++◌, ℕ, ◌+◌, ◌-◌, ◌<◌, ◌≤◌, eqb, length, get_or, take, drop}
+use Rattle.std.specs.Prelude.{◌≡◌, Bool, true, false, List, [], ◌∷◌, ◌++◌, ℕ, ◌+◌, ◌-◌, ◌<◌, ◌≤◌, eqb, length, get_or, take, drop, Option, Some, None, Result, Ok, Err}
 use Rattle.std.proofs.Math.Path.{refl}
 use Rattle.std.proofs.Common.{sym, ◌∙◌, inl, inr, arith, add-zero, length-take, length-drop, drop-drop}
 use Rattle.std.proofs.Math.Nat.{add_assoc}
 use Rattle.std.proofs.Math.Numerals.{add-one}
 use borrow.Author.Tests.{le-leb, lt-ltb, eqb-true}
 use Rattle.terms.specs.Logic.{pick, no_way}
-use Rattle.label_spec.specs.declared.Opened.{Opened}
-use Rattle.label_spec.specs.declared.Found.{Found}
-use Rattle.label_spec.specs.declared.Labelled.{Labelled}
-use Rattle.label_spec.specs.declared.Record.{Record}
 use Rattle.label_spec.specs.Names.{blank, sames, TITLE}
 use Rattle.label_spec.specs.Labels.{Walk, over, bad, label, walk, from, hashed}
 use Rattle.label_spec.specs.LabelLaws.{hash_in}
@@ -32,17 +28,20 @@ use Rattle.compound_law.specs.Plain.{Plain, plain_judged, DataBlock}
 use Rattle.compound_law.specs.Old.{link_after, is_compound, old_answers, plain_silent}
 use Rattle.compound_law.specs.Carry.{shift_found, found_in, pick_found, next_mark, plain_cut, record_cut, record_in_lem}
 use Rattle.compound_law.specs.Gather.{shift_gathered, GatheredIn, with_text_lem, with_in, records_cut}
+use Rattle.label_spec.specs.declared.Span.{Span}
+use Rattle.terms.specs.declared.Refusal.{Refusal}
+use Rattle.label_spec.specs.Parts.{span_of, edges_with, places_with}
 
 -- A record of a file, further on by d.
-abbrev pub shift_record : ℕ → Record → Record
-shift_record d (Record.Text a b) = Record.Text (d + a) (d + b)
-shift_record d Record.Absent = Record.Absent
-shift_record d (Record.Refused r) = Record.Refused r
+abbrev pub shift_record : ℕ → Result (Option Span) Refusal → Result (Option Span) Refusal
+shift_record d (Ok (Some x)) = Ok (Some (span_of (d + x.from) (d + x.to)))
+shift_record d (Ok None) = Ok None
+shift_record d (Err r) = Err r
 
-as_shifted : (d : ℕ) (f : Found) → as_record (shift_found d f) ≡ shift_record d (as_record f)
+as_shifted : (d : ℕ) (f : Option Span) → as_record (shift_found d f) ≡ shift_record d (as_record f)
 unfolding as_record
-as_shifted d (Found.Text a b) = refl
-as_shifted d Found.Absent = refl
+as_shifted d (Some x) = refl
+as_shifted d None = refl
 
 -- The cut begins with its TITLE.
 record TitleOf (u : List ℕ) (k : Walk) (m e : ℕ) (v : List ℕ) : Type 0 where
@@ -80,7 +79,7 @@ nothing_before u h =
     let e : get_or u 0 0 ≡ 35 = eqb-true (get_or u 0 0) 35 (left (eqb (get_or u 0 0) 35) (eqb (get_or u 1 0) 35) h) in
     past_stop u 0 (omega (arith, hash_in u 0 h)) (rw e (unfold space blank in refl)) (rw e (unfold opens in refl))
 
-opened_cut : (u : List ℕ) (k : Walk) (m e : ℕ) (v : List ℕ) → from u 0 true ≡ k → sames v TITLE ≡ true → (t : TitleOf u k m e v) → opened u ≡ Opened.Title 0 t.eq
+opened_cut : (u : List ℕ) (k : Walk) (m e : ℕ) (v : List ℕ) → from u 0 true ≡ k → sames v TITLE ≡ true → (t : TitleOf u k m e v) → opened u ≡ Ok (edges_with 0 t.eq)
 unfolding opened opened_at titled
 opened_cut u k m e v f g t = rw (nothing_before u t.hash, t.hash, f, t.at, g) refl
 
@@ -145,26 +144,26 @@ module _ (s : List ℕ) (m : ℕ) (u w : List ℕ) (c : Cut (drop m s) u w) (fit
   unfolding record_of
   first_cut h a b v k =
       rw (lt-ltb m (m + x) (omega arith), lt-ltb 0 x h, mark_there, text_cut k, add_assoc m e 1)
-      (pick_found m (sames v k) (Found.Text (e + 1) (mark_of (length u) (from u (e + 1) false))) (record_of (length u) x k (from u (e + 1) false)))
+      (pick_found m (sames v k) (Some (span_of (e + 1) (mark_of (length u) (from u (e + 1) false)))) (record_of (length u) x k (from u (e + 1) false)))
 
 -- What the labels of the cut say.
-labelled_cut : (u : List ℕ) (e x q : ℕ) → length u ≤ longest_file → opened u ≡ Opened.Title 0 e → Plain u [] (from u (e + 1) false) x q → labelled u ≡ Labelled.Places 0 e x
+labelled_cut : (u : List ℕ) (e x q : ℕ) → length u ≤ longest_file → opened u ≡ Ok (edges_with 0 e) → Plain u [] (from u (e + 1) false) x q → labelled u ≡ Ok (places_with 0 e x)
 unfolding labelled after_title placed
 labelled_cut u e x q h o p = rw (le-leb (length u) longest_file h, o, plain_judged u (length u) [] (from u (e + 1) false) x q p) refl
 
 -- What the simple reader makes of the cut.
-read_cut : (u : List ℕ) (space e x q : ℕ) → length u ≤ longest_file → opened u ≡ Opened.Title 0 e → Plain u [] (from u (e + 1) false) x q
+read_cut : (u : List ℕ) (space e x q : ℕ) → length u ≤ longest_file → opened u ≡ Ok (edges_with 0 e) → Plain u [] (from u (e + 1) false) x q
     → read_file u space ≡ by_records u space x (gathered_from u (e + 1) x)
 unfolding read_file_by labelled after_title placed labels_by
 read_cut u space e x q h o p =
     rw (le-leb (length u) longest_file h, o, plain_judged u (length u) [] (from u (e + 1) false) x q p, add-one e) refl
 
 -- The cut is one data block: the reader of compound files answers it as the simple one does.
-silent_cut : (u : List ℕ) (e x q : ℕ) → opened u ≡ Opened.Title 0 e → Plain u [] (from u (e + 1) false) x q → is_compound u ≡ false
+silent_cut : (u : List ℕ) (e x q : ℕ) → opened u ≡ Ok (edges_with 0 e) → Plain u [] (from u (e + 1) false) x q → is_compound u ≡ false
 unfolding is_compound link_after
 silent_cut u e x q o p = rw o (plain_silent u [] (from u (e + 1) false) x q p)
 
-alone_cut : (u : List ℕ) (space e x q : ℕ) → opened u ≡ Opened.Title 0 e → Plain u [] (from u (e + 1) false) x q → read_compound u space ≡ CompoundAnswer.whole (read_file u space)
+alone_cut : (u : List ℕ) (space e x q : ℕ) → opened u ≡ Ok (edges_with 0 e) → Plain u [] (from u (e + 1) false) x q → read_compound u space ≡ CompoundAnswer.whole (read_file u space)
 alone_cut u space e x q o p = old_answers u space (silent_cut u e x q o p)
 
 -- The bounds of a data block in its file.

@@ -1,11 +1,10 @@
 -- Each block that the survey finds is a data block of the file.
-use Rattle.std.specs.Prelude.{◌≡◌, Bool, true, false, ℕ, suc, ◌+◌, leb, ltb, length}
+use Rattle.std.specs.Prelude.{◌≡◌, Bool, true, false, ℕ, suc, ◌+◌, leb, ltb, length, Result, Ok, Err}
 use Rattle.std.proofs.Math.Path.{refl}
 use Rattle.std.proofs.Common.{ap, sym, ◌∙◌, inl, inr, arith}
 use mathlib.Core.List.{List, [], ◌∷◌}
 use Rattle.terms.specs.Logic.{pick, both, no_way}
 use Rattle.terms.specs.Refusals.{fault_at}
-use Rattle.label_spec.specs.declared.Opened.{Opened}
 use Rattle.label_spec.specs.Space.{past_space}
 use Rattle.label_spec.specs.Names.{sames, TITLE, END}
 use Rattle.label_spec.specs.Labels.{Walk, over, bad, label, from, hashed}
@@ -15,6 +14,9 @@ use Rattle.compound_spec.specs.declared.Block.{Block}
 use Rattle.compound_spec.specs.Blocks.{says, Level, fresh, noted, deepest, Survey, refused, ended, push, block_of, closed, tested, turn, nested, within_title, surveyed}
 use Rattle.compound_law.specs.Standing.{Standing, Sound, sound}
 use Rattle.compound_law.specs.Plain.{DataBlock, Since, AllLink, outer, Promised}
+use Rattle.label_spec.specs.declared.Edges.{Edges}
+use Rattle.terms.specs.declared.Fault.{Fault}
+use Rattle.label_spec.specs.Parts.{edges_with}
 
 pub by_pick : (P : Survey → Type 0) (t : Bool) (a b : Survey) → (t ≡ true → P a) → (t ≡ false → P b) → P (pick t a b)
 by_pick P true a b f g = f refl
@@ -140,32 +142,32 @@ promised s (bad x rest) l up d c a = tt
 promised s (label x n e v rest) l up d c a = turn_promised s x n e v rest l up d.0 c a (λ o ups f b. promised s rest o ups d.1 f b)
 
 -- The title, and the whole file.
-titled_since : (s : List ℕ) (p m e : ℕ) (k : Walk) → Sound s k → titled p k ≡ Opened.Title m e → Since s (fresh m e) (from s (e + 1) false)
+titled_since : (s : List ℕ) (p m e : ℕ) (k : Walk) → Sound s k → titled p k ≡ Ok (edges_with m e) → Since s (fresh m e) (from s (e + 1) false)
 unfolding titled
 titled_since s p m e over d h = absurd (let z : ◌≡◌ {A = ℕ} 0 1 = cc in omega arith)
 titled_since s p m e (bad x rest) d h = absurd (let z : ◌≡◌ {A = ℕ} 0 1 = cc in omega arith)
 titled_since s p m e (label x n q v rest) d h = cases (sames v TITLE) refl h
   where
-    cases : (t : Bool) → sames v TITLE ≡ t → pick t (Opened.Title x q) (Opened.Refused (fault_at 21 p)) ≡ Opened.Title m e → Since s (fresh m e) (from s (e + 1) false)
+    cases : (t : Bool) → sames v TITLE ≡ t → pick t (Ok (edges_with x q)) (Err (fault_at 21 p)) ≡ Ok (edges_with m e) → Since s (fresh m e) (from s (e + 1) false)
     cases true g f =
         let y : x ≡ m = cc in
         let z : q ≡ e = cc in
         rw (← y, ← z) (rw d.0.on at (fresh_since s x n q v rest g d.0))
     cases false g f = absurd (let z : ◌≡◌ {A = ℕ} 0 1 = cc in omega arith)
 
-pub opened_since : (s : List ℕ) (m e : ℕ) → opened s ≡ Opened.Title m e → Since s (fresh m e) (from s (e + 1) false)
+pub opened_since : (s : List ℕ) (m e : ℕ) → opened s ≡ Ok (edges_with m e) → Since s (fresh m e) (from s (e + 1) false)
 unfolding opened opened_at
 opened_since s m e h = cases (hashed s (past_space s 0)) refl h
   where
     cases : (t : Bool) → hashed s (past_space s 0) ≡ t
-        → pick t (titled (past_space s 0) (from s (past_space s 0) true)) (Opened.Refused (fault_at 21 (past_space s 0))) ≡ Opened.Title m e → Since s (fresh m e) (from s (e + 1) false)
+        → pick t (titled (past_space s 0) (from s (past_space s 0) true)) (Err (fault_at 21 (past_space s 0))) ≡ Ok (edges_with m e) → Since s (fresh m e) (from s (e + 1) false)
     cases true g f = titled_since s (past_space s 0) m e (from s (past_space s 0) true) (sound s (past_space s 0) true) f
     cases false g f = absurd (let z : ◌≡◌ {A = ℕ} 0 1 = cc in omega arith)
 
-within_promised : (s : List ℕ) (o : Opened) → opened s ≡ o → Promised s false (within_title s o)
+within_promised : (s : List ℕ) (o : Result Edges Fault) → opened s ≡ o → Promised s false (within_title s o)
 unfolding within_title
-within_promised s (Opened.Title m e) h = promised s (from s (e + 1) false) (fresh m e) [] (sound s (e + 1) false) (λ f. opened_since s m e h) tt
-within_promised s (Opened.Refused r) h = tt
+within_promised s (Ok x) h = promised s (from s (x.eq + 1) false) (fresh x.mark x.eq) [] (sound s (x.eq + 1) false) (λ f. opened_since s x.mark x.eq h) tt
+within_promised s (Err r) h = tt
 
 -- The theorem.
 pub found : (s : List ℕ) → Promised s false (surveyed s)

@@ -1,31 +1,22 @@
 -- The records of a data block and what they say, in place and in the cut: the same, each place further on.
-use Rattle.std.specs.Prelude.{◌≡◌, Bool, true, false, List, ℕ, ◌+◌, ◌-◌, ◌≤◌, leb, ℤ, length, get_or, take, drop}
+use Rattle.std.specs.Prelude.{◌≡◌, Bool, true, false, List, ℕ, ◌+◌, ◌-◌, ◌≤◌, leb, ℤ, length, get_or, take, drop, Option, Some, None, Result, Ok, Err}
 use Rattle.std.proofs.Math.Path.{refl}
 use Rattle.std.proofs.Common.{arith}
 use Rattle.std.proofs.Math.Nat.{add_assoc}
 use Rattle.terms.specs.Logic.{pick}
-use Rattle.label_spec.specs.declared.Found.{Found}
-use Rattle.decimal_spec.specs.declared.Count.{Count}
-use Rattle.decimal_spec.specs.declared.Rounded.{Rounded}
 use Rattle.table_spec.specs.Reading.{Answer, refuse, accept, read_table}
-use Rattle.file_spec.specs.declared.Span.{Span}
+use Rattle.label_spec.specs.declared.Span.{Span}
 use Rattle.file_spec.specs.declared.Needed.{Needed}
-use Rattle.file_spec.specs.declared.Gathered.{Gathered}
-use Rattle.file_spec.specs.declared.Gathered.TheVariants as gathered
 use Rattle.file_spec.specs.declared.Decimal.{Decimal}
-use Rattle.file_spec.specs.declared.Given.{Given}
-use Rattle.file_spec.specs.declared.Given.TheVariants as given
 use Rattle.file_spec.specs.declared.Numbers.{Numbers}
-use Rattle.file_spec.specs.declared.Figures.{Figures}
-use Rattle.file_spec.specs.declared.Figures.TheVariants as figures
-use Rattle.file_spec.specs.declared.Listed.{Listed}
-use Rattle.file_spec.specs.declared.Listed.TheVariants as listed
 use Rattle.file_spec.specs.Texts.{text_in, with_text, mark_in, mark_of, listed_in}
 use Rattle.file_spec.specs.Figures.{decimal_in, count_in, exceeding, with_decimal, with_count, figures_of, ratio, abscissa_of, whole, agrees, exactness_of}
 use Rattle.file_spec.specs.File.{FileAnswer, refuse_file, accept_file, in_file, by_first, by_table, by_last, by_abscissas, by_list, by_figures, by_records}
 use Rattle.file_spec.specs.File.{table_by, last_by, abscissas_by, list_by, figures_by, records_by}
 use Rattle.compound_spec.specs.Cut.{shifted}
 use Rattle.compound_law.specs.Carry.{shift_found, found_in}
+use Rattle.decimal_spec.specs.declared.Count.{Count}
+use Rattle.decimal_spec.specs.declared.Whole.{Whole}
 
 abbrev pub shift_span : ℕ → Span → Span
 shift_span d t = record { from = d + t.from; to = d + t.to }
@@ -42,13 +33,13 @@ shift_needed d t =
       xydata = shift_span d t.xydata;
     }
 
-abbrev pub shift_gathered : ℕ → Gathered → Gathered
-shift_gathered d gathered.Lacking = gathered.Lacking
-shift_gathered d (gathered.All t) = gathered.All (shift_needed d t)
+abbrev pub shift_gathered : ℕ → Option Needed → Option Needed
+shift_gathered d None = None
+shift_gathered d (Some t) = Some (shift_needed d t)
 
-abbrev pub shift_figures : ℕ → Figures → Figures
-shift_figures d (figures.Wrong a) = figures.Wrong (d + a)
-shift_figures d (figures.All n) = figures.All n
+abbrev pub shift_figures : ℕ → Result Numbers ℕ → Result Numbers ℕ
+shift_figures d (Err a) = Err (d + a)
+shift_figures d (Ok n) = Ok n
 
 -- A span, and seven of them, within a text of this length.
 pub record Inside (len : ℕ) (t : Span) : Type 0 where
@@ -64,30 +55,30 @@ pub record AllInside (len : ℕ) (t : Needed) : Type 0 where
   pub firsty : Inside len t.firsty
   pub xydata : Inside len t.xydata
 
-abbrev pub GatheredIn : ℕ → Gathered → Type 0
-GatheredIn len gathered.Lacking = Unit
-GatheredIn len (gathered.All t) = AllInside len t
+abbrev pub GatheredIn : ℕ → Option Needed → Type 0
+GatheredIn len None = Unit
+GatheredIn len (Some t) = AllInside len t
 
 -- One more record, in place, in the cut, and within it.
-pub with_text_lem : (d : ℕ) (f : Found) (g h : Span → Gathered) → ((t : Span) → g (shift_span d t) ≡ shift_gathered d (h t)) → with_text (shift_found d f) g ≡ shift_gathered d (with_text f h)
-with_text_lem d (Found.Text a b) g h e = e (record { from = a; to = b })
-with_text_lem d Found.Absent g h e = refl
+pub with_text_lem : (d : ℕ) (f : Option Span) (g h : Span → Option Needed) → ((t : Span) → g (shift_span d t) ≡ shift_gathered d (h t)) → with_text (shift_found d f) g ≡ shift_gathered d (with_text f h)
+with_text_lem d (Some x) g h e = e (record { from = x.from; to = x.to })
+with_text_lem d None g h e = refl
 
-pub with_in : (len : ℕ) (f : Found) (g : Span → Gathered) → found_in len f → ((t : Span) → Inside len t → GatheredIn len (g t)) → GatheredIn len (with_text f g)
-with_in len (Found.Text a b) g h e = e (record { from = a; to = b }) (record { low = h.0; high = h.1 })
-with_in len Found.Absent g h e = tt
+pub with_in : (len : ℕ) (f : Option Span) (g : Span → Option Needed) → found_in len f → ((t : Span) → Inside len t → GatheredIn len (g t)) → GatheredIn len (with_text f g)
+with_in len (Some x) g h e = e (record { from = x.from; to = x.to }) (record { low = h.0; high = h.1 })
+with_in len None g h e = tt
 
 pick_file : (d : ℕ) (t : Bool) (a b : FileAnswer) → pick t (shifted d a) (shifted d b) ≡ shifted d (pick t a b)
 pick_file d true a b = refl
 pick_file d false a b = refl
 
-with_decimal_lem : (d a : ℕ) (x : Given) (g h : Decimal → Figures) → ((v : Decimal) → g v ≡ shift_figures d (h v)) → with_decimal (d + a) x g ≡ shift_figures d (with_decimal a x h)
-with_decimal_lem d a given.Misspelled g h e = refl
-with_decimal_lem d a (given.Is v) g h e = e v
+with_decimal_lem : (d a : ℕ) (x : Option Decimal) (g h : Decimal → Result Numbers ℕ) → ((v : Decimal) → g v ≡ shift_figures d (h v)) → with_decimal (d + a) x g ≡ shift_figures d (with_decimal a x h)
+with_decimal_lem d a None g h e = refl
+with_decimal_lem d a (Some v) g h e = e v
 
-with_count_lem : (d a : ℕ) (x : Count) (g h : ℕ → Figures) → ((v : ℕ) → g v ≡ shift_figures d (h v)) → with_count (d + a) x g ≡ shift_figures d (with_count a x h)
-with_count_lem d a Count.Misspelled g h e = refl
-with_count_lem d a (Count.Counted v j) g h e = e v
+with_count_lem : (d a : ℕ) (x : Option Count) (g h : ℕ → Result Numbers ℕ) → ((v : ℕ) → g v ≡ shift_figures d (h v)) → with_count (d + a) x g ≡ shift_figures d (with_count a x h)
+with_count_lem d a None g h e = refl
+with_count_lem d a (Some x) g h e = e x.value
 
 -- The file s holds the text u from m on.
 module _ (s u : List ℕ) (m : ℕ)
@@ -152,29 +143,29 @@ module _ (s u : List ℕ) (m : ℕ)
             (first_cut f l (t.xydata.from + start) (read_table f l n.npoints (drop start (text_in u t.xydata)) space))
 
         -- 28
-        last_cut : (f : ℤ) (r : Rounded) → by_last s space (shift_needed m t) n start f r ≡ shifted m (by_last u space t n start f r)
+        last_cut : (f : ℤ) (r : Option Whole) → by_last s space (shift_needed m t) n start f r ≡ shifted m (by_last u space t n start f r)
         unfolding last_by
-        last_cut f Rounded.Beyond = rw (mark_cut t.lastx i.lastx) refl
-        last_cut f (Rounded.Whole minus q) = table_cut f (whole minus q)
+        last_cut f None = rw (mark_cut t.lastx i.lastx) refl
+        last_cut f (Some x) = table_cut f (whole x.minus x.size)
 
-        abscissas_cut : (r : Rounded) → by_abscissas s space (shift_needed m t) n start r ≡ shifted m (by_abscissas u space t n start r)
+        abscissas_cut : (r : Option Whole) → by_abscissas s space (shift_needed m t) n start r ≡ shifted m (by_abscissas u space t n start r)
         unfolding abscissas_by
-        abscissas_cut Rounded.Beyond = rw (mark_cut t.firstx i.firstx) refl
-        abscissas_cut (Rounded.Whole minus q) = last_cut (whole minus q) (abscissa_of n.lastx n.xfactor).rounded
+        abscissas_cut None = rw (mark_cut t.firstx i.firstx) refl
+        abscissas_cut (Some x) = last_cut (whole x.minus x.size) (abscissa_of n.lastx n.xfactor).rounded
 
       -- 27
-      listed_cut : (r : Listed) → by_list s space (shift_needed m t) n r ≡ shifted m (by_list u space t n r)
+      listed_cut : (r : Option ℕ) → by_list s space (shift_needed m t) n r ≡ shifted m (by_list u space t n r)
       unfolding list_by
-      listed_cut listed.Unlisted = rw (mark_cut t.xydata i.xydata) refl
-      listed_cut (listed.Body start) = abscissas_cut start (abscissa_of n.firstx n.xfactor).rounded
+      listed_cut None = rw (mark_cut t.xydata i.xydata) refl
+      listed_cut (Some start) = abscissas_cut start (abscissa_of n.firstx n.xfactor).rounded
 
-    figured_cut : (space : ℕ) (r : Figures) → by_figures s space (shift_needed m t) (shift_figures m r) ≡ shifted m (by_figures u space t r)
+    figured_cut : (space : ℕ) (r : Result Numbers ℕ) → by_figures s space (shift_needed m t) (shift_figures m r) ≡ shifted m (by_figures u space t r)
     unfolding figures_by
-    figured_cut space (figures.Wrong a) = refl
-    figured_cut space (figures.All n) = rw (text_cut t.xydata i.xydata) (listed_cut space n (listed_in (text_in u t.xydata)))
+    figured_cut space (Err a) = refl
+    figured_cut space (Ok n) = rw (text_cut t.xydata i.xydata) (listed_cut space n (listed_in (text_in u t.xydata)))
 
   -- From 25 on: END's `##` stands at x in the cut.
-  pub records_cut : (space x : ℕ) (r : Gathered) → GatheredIn (length u) r → by_records s space (m + x) (shift_gathered m r) ≡ shifted m (by_records u space x r)
+  pub records_cut : (space x : ℕ) (r : Option Needed) → GatheredIn (length u) r → by_records s space (m + x) (shift_gathered m r) ≡ shifted m (by_records u space x r)
   unfolding records_by
-  records_cut space x gathered.Lacking i = refl
-  records_cut space x (gathered.All t) i = rw (figures_cut t i) (figured_cut t i space (figures_of u t))
+  records_cut space x None i = refl
+  records_cut space x (Some t) i = rw (figures_cut t i) (figured_cut t i space (figures_of u t))

@@ -1,13 +1,11 @@
 -- A text that is cut off after a line's end: its walk is that of the longer text, up to there.
-use Rattle.std.specs.Prelude.{◌≡◌, Bool, List, [], ◌∷◌, ◌++◌, ℕ, ◌+◌, ◌-◌, ◌≤◌, leb, eqb, take}
+use Rattle.std.specs.Prelude.{◌≡◌, Bool, List, [], ◌∷◌, ◌++◌, ℕ, ◌+◌, ◌-◌, ◌≤◌, leb, eqb, take, Option, Some, None}
 use Rattle.std.proofs.Math.Path.{refl}
 use Rattle.std.proofs.Common.{ap, sym, ◌∙◌, arith, eqb-true}
 use Rattle.std.proofs.Math.Bool.{true, false}
 use Rattle.std.proofs.Math.ListN.{length}
 use Rattle.std.proofs.lemmas.List.{take-append-le}
 use Rattle.terms.specs.Logic.{pick}
-use Rattle.label_spec.specs.declared.Spot.{Spot}
-use Rattle.label_spec.specs.declared.Spot.TheVariants.{Place, Nowhere}
 use Rattle.label_spec.specs.Names.{blank, norm}
 use Rattle.label_spec.specs.Labels.{Walk, over, bad, label, longest_name, eq_in, headed, step, walk}
 use Rattle.compound_law.specs.Standing.{reached}
@@ -38,15 +36,15 @@ eq_lined [] w i h = let z : ◌≡◌ {A = ℕ} 0 1 = cc in absurd (omega arith)
 eq_lined (b ∷ u) w i h = cases (eq_lined u w (i + 1)) (eqb b 10) refl
   where
     cases : (lined u ≡ true → eq_in (u ++ w) (i + 1) ≡ eq_in u (i + 1)) → (t : Bool) → eqb b 10 ≡ t
-        → pick (eqb b 61) (Place i) (pick t Nowhere (eq_in (u ++ w) (i + 1))) ≡ pick (eqb b 61) (Place i) (pick t Nowhere (eq_in u (i + 1)))
+        → pick (eqb b 61) (Some i) (pick t None (eq_in (u ++ w) (i + 1))) ≡ pick (eqb b 61) (Some i) (pick t None (eq_in u (i + 1)))
     cases k true e = refl
     cases k false e = rw (k (lined_rest b u h e)) refl
 
 module _ (u w : List ℕ) (m n : ℕ) (k c : Walk) (h : lined u ≡ true) where
-  headed_graft : (p : Spot) → eq_in u n ≡ p → headed (u ++ w) m n (graft k c) p ≡ graft (headed u m n k p) c
+  headed_graft : (p : Option ℕ) → eq_in u n ≡ p → headed (u ++ w) m n (graft k c) p ≡ graft (headed u m n k p) c
   unfolding headed
-  headed_graft Nowhere q = refl
-  headed_graft (Place e) q =
+  headed_graft None q = refl
+  headed_graft (Some e) q =
       let r = reached u n e q in
       let z : e - n ≤ length u = omega (arith, r.high) in
       rw (take-append-le (e - n) u w z, pick_graft c (leb (length (norm (take (e - n) u))) longest_name) (label m n e (norm (take (e - n) u)) k) (bad m k)) refl

@@ -1,8 +1,7 @@
 -- 02, T-07: a file that the survey finds to be one data block is answered as the simple reader answers it.
-use Rattle.std.specs.Prelude.{◌≡◌, refl, Bool, true, false, List, [], ◌∷◌, ℕ, suc, ◌+◌, ◌<◌, ◌≤◌, leb, ltb, length}
+use Rattle.std.specs.Prelude.{◌≡◌, refl, Bool, true, false, List, [], ◌∷◌, ℕ, suc, ◌+◌, ◌<◌, ◌≤◌, leb, ltb, length, Result, Ok, Err}
 use Rattle.std.proofs.Common.{arith, leb-true}
 use Rattle.terms.specs.Logic.{pick, both}
-use Rattle.label_spec.specs.declared.Opened.{Opened}
 use Rattle.label_spec.specs.Names.{sames, TITLE, END}
 use Rattle.label_spec.specs.Labels.{Walk, over, bad, label, from}
 use Rattle.label_spec.specs.File.{longest_file, twice, opened}
@@ -14,6 +13,8 @@ use Rattle.compound_spec.specs.Compound.{whole, read_compound}
 use Rattle.compound_law.specs.Plain.{DataBlock, Promised, AllData}
 use Rattle.compound_law.specs.Found.{by_pick, opened_since, found}
 use Rattle.compound_law.specs.Old.{link_said, link_after, is_compound, old_answers, plain_silent}
+use Rattle.label_spec.specs.declared.Edges.{Edges}
+use Rattle.terms.specs.declared.Fault.{Fault}
 
 -- The outermost of the blocks that are open: its TITLE's `=` stands at e.
 abbrev outermost : ℕ → Level → List Level → Type 0
@@ -65,10 +66,10 @@ silent s e r l x bs h p k f =
     let z : x.eq ≡ e = rw h at k in
     rw (← z) (plain_silent s [] (from s (x.eq + 1) false) x.end x.last d.labels)
 
-by_title : (s : List ℕ) (o : Opened) (l : Level) (x : Block) (bs : List Block) → within_title s o ≡ ended l x bs → Promised s false (within_title s o) → l.link ≡ false → link_after s o ≡ false
+by_title : (s : List ℕ) (o : Result Edges Fault) (l : Level) (x : Block) (bs : List Block) → within_title s o ≡ ended l x bs → Promised s false (within_title s o) → l.link ≡ false → link_after s o ≡ false
 unfolding within_title link_after
-by_title s (Opened.Title m e) l x bs h p f = silent s e (nested s (from s (e + 1) false) (fresh m e) []) l x bs h p (nested_kept e s (from s (e + 1) false) (fresh m e) [] refl) f
-by_title s (Opened.Refused r) l x bs h p f = refl
+by_title s (Ok y) l x bs h p f = silent s y.eq (nested s (from s (y.eq + 1) false) (fresh y.mark y.eq) []) l x bs h p (nested_kept y.eq s (from s (y.eq + 1) false) (fresh y.mark y.eq) [] refl) f
+by_title s (Err r) l x bs h p f = refl
 
 -- The outermost block is not LINK at its END: no label said so.
 pub one_silent : (s : List ℕ) (l : Level) (x : Block) (bs : List Block) → surveyed s ≡ ended l x bs → l.link ≡ false → is_compound s ≡ false
@@ -85,12 +86,12 @@ pub one_block : (s : List ℕ) (space : ℕ) (l : Level) (x : Block) (bs : List 
 one_block s space l x bs h f = old_answers s space (one_silent s l x bs h f)
 
 -- The outermost TITLE's `=` stands in the file.
-start_by : (s : List ℕ) (o : Opened) → opened s ≡ o → (l : Level) (x : Block) (bs : List Block) → within_title s o ≡ ended l x bs → x.eq < length s
+start_by : (s : List ℕ) (o : Result Edges Fault) → opened s ≡ o → (l : Level) (x : Block) (bs : List Block) → within_title s o ≡ ended l x bs → x.eq < length s
 unfolding within_title
-start_by s (Opened.Title m e) h l x bs g =
-    let k = rw g at (nested_kept e s (from s (e + 1) false) (fresh m e) [] refl) in
-    rw k (opened_since s m e h).high
-start_by s (Opened.Refused r) h l x bs g = absurd (let z : ◌≡◌ {A = ℕ} 0 1 = cc in omega arith)
+start_by s (Ok y) h l x bs g =
+    let k = rw g at (nested_kept y.eq s (from s (y.eq + 1) false) (fresh y.mark y.eq) [] refl) in
+    rw k (opened_since s y.mark y.eq h).high
+start_by s (Err r) h l x bs g = absurd (let z : ◌≡◌ {A = ℕ} 0 1 = cc in omega arith)
 
 pub start_in : (s : List ℕ) (l : Level) (x : Block) (bs : List Block) → surveyed s ≡ ended l x bs → (x.eq < length s) × (length s ≤ longest_file)
 unfolding surveyed

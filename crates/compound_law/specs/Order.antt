@@ -1,12 +1,11 @@
 -- 02, T-07: "every data block found in file order": each begins after the one before it has ended.
-use Rattle.std.specs.Prelude.{◌≡◌, Bool, ℕ, suc, ◌+◌, ◌<◌, ◌≤◌, leb, ltb, length}
+use Rattle.std.specs.Prelude.{◌≡◌, Bool, ℕ, suc, ◌+◌, ◌<◌, ◌≤◌, leb, ltb, length, Result, Ok, Err}
 use Rattle.std.proofs.Math.Path.{refl}
 use Rattle.std.proofs.Common.{sym, ◌∙◌}
 use Rattle.std.proofs.Math.Bool.{true, false}
 use mathlib.Core.List.{List, [], ◌∷◌}
 use native.Mathlib.Omega.{arith}
 use Rattle.terms.specs.Logic.{pick, both, no_way}
-use Rattle.label_spec.specs.declared.Opened.{Opened}
 use Rattle.label_spec.specs.Names.{sames, TITLE, END}
 use Rattle.label_spec.specs.Labels.{Walk, over, bad, label, from}
 use Rattle.label_spec.specs.File.{longest_file, twice, opened}
@@ -17,6 +16,8 @@ use Rattle.compound_law.specs.Standing.{Sound, sound}
 use Rattle.compound_law.specs.Above.{Above, from_above}
 use Rattle.compound_law.specs.Plain.{AllLink}
 use Rattle.compound_law.specs.Found.{by_pick, neither, opened_since}
+use Rattle.label_spec.specs.declared.Edges.{Edges}
+use Rattle.terms.specs.declared.Fault.{Fault}
 
 -- From the place lo on, one after the other.
 abbrev pub Rising : ℕ → List Block → Type 0
@@ -75,13 +76,13 @@ nested_ordered s (label x n e v rest) l up lo i d b h c a =
     turn_ordered s x n e v rest l up lo i h b.0 (omega (arith, d.0.low)) c a
     (λ lo' o ups g w z. nested_ordered s rest o ups lo' (e + 1) d.1 (rw d.0.on (from_above s (e + 1) false)) g w z) (mark_of (length s) rest)
 
-within_ordered : (s : List ℕ) (o : Opened) → opened s ≡ o → Ordered 0 (within_title s o)
+within_ordered : (s : List ℕ) (o : Result Edges Fault) → opened s ≡ o → Ordered 0 (within_title s o)
 unfolding within_title
-within_ordered s (Opened.Title m e) h =
-    let c = opened_since s m e h in
-    let d = rw c.at at (sound s m true) in
-    nested_ordered s (from s (e + 1) false) (fresh m e) [] 0 (e + 1) (sound s (e + 1) false) (from_above s (e + 1) false) (omega arith) (λ k. (omega arith, omega (arith, d.0.low))) tt
-within_ordered s (Opened.Refused r) h = tt
+within_ordered s (Ok x) h =
+    let c = opened_since s x.mark x.eq h in
+    let d = rw c.at at (sound s x.mark true) in
+    nested_ordered s (from s (x.eq + 1) false) (fresh x.mark x.eq) [] 0 (x.eq + 1) (sound s (x.eq + 1) false) (from_above s (x.eq + 1) false) (omega arith) (λ k. (omega arith, omega (arith, d.0.low))) tt
+within_ordered s (Err r) h = tt
 
 survey_ordered : (s : List ℕ) → Ordered 0 (surveyed s)
 unfolding surveyed

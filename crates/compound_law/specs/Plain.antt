@@ -1,13 +1,13 @@
 -- The labels of a data block: from after its TITLE up to its END, no TITLE, none twice, and no DATA TYPE that is LINK among them.
-use Rattle.std.specs.Prelude.{◌≡◌, refl, Bool, true, false, List, [], ◌∷◌, ◌++◌, ◌⊎◌, ℕ, ◌+◌, ◌<◌, length}
+use Rattle.std.specs.Prelude.{◌≡◌, refl, Bool, true, false, List, [], ◌∷◌, ◌++◌, ◌⊎◌, ℕ, ◌+◌, ◌<◌, length, Ok}
 use Rattle.std.proofs.Common.{inl, inr}
-use Rattle.label_spec.specs.declared.Walked.{Walked}
 use Rattle.label_spec.specs.Names.{sames, TITLE, END}
 use Rattle.label_spec.specs.Labels.{Walk, over, bad, label, from, hashed}
 use Rattle.label_spec.specs.File.{twice, judged}
 use Rattle.label_spec.specs.Records.{mark_of}
 use Rattle.compound_spec.specs.declared.Block.{Block}
 use Rattle.compound_spec.specs.Blocks.{says, Level, Survey, refused, ended}
+use Rattle.label_spec.specs.Parts.{edges_with}
 
 -- One label of the block's own that is not its END.
 pub record Own (s : List ℕ) (done : List (List ℕ)) (e : ℕ) (v : List ℕ) (b : ℕ) : Type 0 where
@@ -28,7 +28,7 @@ Plain s done (bad y rest) x q = ⊥
 Plain s done (label y n e v rest) x q = Last y e v x q ⊎ (Own s done e v (mark_of (length s) rest) × Plain s (done ++ v ∷ []) rest x q)
 
 -- The simple reader finds END there.
-pub plain_judged : (s : List ℕ) (len : ℕ) (done : List (List ℕ)) (k : Walk) (x q : ℕ) → Plain s done k x q → judged len done k ≡ Walked.Ended x q
+pub plain_judged : (s : List ℕ) (len : ℕ) (done : List (List ℕ)) (k : Walk) (x q : ℕ) → Plain s done k x q → judged len done k ≡ Ok (edges_with x q)
 unfolding judged
 plain_judged s len done over x q p = absurd p
 plain_judged s len done (bad y rest) x q p = absurd p

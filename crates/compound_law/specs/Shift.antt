@@ -1,12 +1,10 @@
 -- A text that stands further on in a file: its walk is the same, each place further on.
-use Rattle.std.specs.Prelude.{◌≡◌, Bool, List, [], ◌∷◌, ℕ, ◌+◌, ◌-◌, leb, eqb, length, get_or, take, drop}
+use Rattle.std.specs.Prelude.{◌≡◌, Bool, List, [], ◌∷◌, ℕ, ◌+◌, ◌-◌, leb, eqb, length, get_or, take, drop, Option, Some, None}
 use Rattle.std.proofs.Math.Path.{refl}
 use Rattle.std.proofs.Math.Bool.{true, false}
 use Rattle.std.proofs.Math.Nat.{add_assoc}
 use Rattle.std.proofs.Common.{arith}
 use Rattle.terms.specs.Logic.{pick}
-use Rattle.label_spec.specs.declared.Spot.{Spot}
-use Rattle.label_spec.specs.declared.Spot.TheVariants.{Place, Nowhere}
 use Rattle.label_spec.specs.Names.{blank, norm}
 use Rattle.label_spec.specs.Labels.{Walk, over, bad, label, longest_name, eq_in, headed, step, walk, from}
 
@@ -16,11 +14,11 @@ shift d over = over
 shift d (bad x rest) = bad (d + x) (shift d rest)
 shift d (label x n e v rest) = label (d + x) (d + n) (d + e) v (shift d rest)
 
-abbrev spot : ℕ → Spot → Spot
-spot d Nowhere = Nowhere
-spot d (Place e) = Place (d + e)
+abbrev spot : ℕ → Option ℕ → Option ℕ
+spot d None = None
+spot d (Some e) = Some (d + e)
 
-pick_spot : (d : ℕ) (t : Bool) (p q : Spot) → pick t (spot d p) (spot d q) ≡ spot d (pick t p q)
+pick_spot : (d : ℕ) (t : Bool) (p q : Option ℕ) → pick t (spot d p) (spot d q) ≡ spot d (pick t p q)
 pick_spot d true p q = refl
 pick_spot d false p q = refl
 
@@ -32,12 +30,12 @@ eq_shift : (d : ℕ) (l : List ℕ) (i : ℕ) → eq_in l (d + i) ≡ spot d (eq
 unfolding eq_in
 eq_shift d [] i = refl
 eq_shift d (b ∷ l) i =
-    rw (add_assoc d i 1, eq_shift d l (i + 1), pick_spot d (eqb b 10) Nowhere (eq_in l (i + 1)), pick_spot d (eqb b 61) (Place i) (pick (eqb b 10) Nowhere (eq_in l (i + 1)))) refl
+    rw (add_assoc d i 1, eq_shift d l (i + 1), pick_spot d (eqb b 10) None (eq_in l (i + 1)), pick_spot d (eqb b 61) (Some i) (pick (eqb b 10) None (eq_in l (i + 1)))) refl
 
-headed_shift : (d : ℕ) (l : List ℕ) (m n : ℕ) (k : Walk) (p : Spot) → headed l (d + m) (d + n) (shift d k) (spot d p) ≡ shift d (headed l m n k p)
+headed_shift : (d : ℕ) (l : List ℕ) (m n : ℕ) (k : Walk) (p : Option ℕ) → headed l (d + m) (d + n) (shift d k) (spot d p) ≡ shift d (headed l m n k p)
 unfolding headed
-headed_shift d l m n k Nowhere = refl
-headed_shift d l m n k (Place e) =
+headed_shift d l m n k None = refl
+headed_shift d l m n k (Some e) =
     let z : d + e - (d + n) ≡ e - n = omega arith in
     rw (z, pick_shift d (leb (length (norm (take (e - n) l))) longest_name) (label m n e (norm (take (e - n) l)) k) (bad m k)) refl
 

@@ -1,5 +1,5 @@
 -- Each label of a walk stands in the file where it says, and what follows it is the walk from after its `=` on.
-use Rattle.std.specs.Prelude.{◌≡◌, Bool, List, [], ◌∷◌, ℕ, zero, suc, ◌+◌, ◌-◌, ◌<◌, ◌≤◌, ltb, eqb, length, get_or, take, drop}
+use Rattle.std.specs.Prelude.{◌≡◌, Bool, List, [], ◌∷◌, ℕ, zero, suc, ◌+◌, ◌-◌, ◌<◌, ◌≤◌, ltb, eqb, length, get_or, take, drop, Option, Some, None}
 use Rattle.std.proofs.Math.Path.{refl}
 use Rattle.std.proofs.Common.{◌∙◌, add_assoc, arith, drop-drop, ltb-true, ltb-false, eqb-true}
 use Rattle.std.proofs.Math.Bool.{true, false}
@@ -7,8 +7,6 @@ use Rattle.std.proofs.Math.Dec.{leb}
 use Rattle.std.proofs.Math.ListN.{length-drop}
 use Rattle.std.proofs.lemmas.Bool.{eqb-false}
 use Rattle.terms.specs.Logic.{pick}
-use Rattle.label_spec.specs.declared.Spot.{Spot}
-use Rattle.label_spec.specs.declared.Spot.TheVariants.{Place, Nowhere}
 use Rattle.label_spec.specs.Names.{blank, norm}
 use Rattle.label_spec.specs.Labels.{Walk, over, bad, label, longest_name, eq_in, headed, step, walk, from, hashed}
 use Rattle.label_spec.specs.LabelLaws.{eq_at, from_end, skip_on, skip_line, blank_on, no_label, label_is, hash_in}
@@ -34,16 +32,16 @@ reached_on l b j e h r =
     let z : e + 1 - j ≡ suc (e + 1 - (j + 1)) = omega (arith, r.low) in
     record { low = omega (arith, r.low); high = omega (arith, r.high); on = rw (walk_on l b j, h, z) r.on }
 
-pub reached : (l : List ℕ) (j e : ℕ) → eq_in l j ≡ Place e → Reached l j e
+pub reached : (l : List ℕ) (j e : ℕ) → eq_in l j ≡ Some e → Reached l j e
 unfolding eq_in
 reached [] j e h = absurd (let z : ◌≡◌ {A = ℕ} 0 1 = cc in omega arith)
 reached (b ∷ l) j e h = first (reached l (j + 1) e) (eqb b 61) refl h
   where
-    second : (eq_in l (j + 1) ≡ Place e → Reached l (j + 1) e) → (t : Bool) → eqb b 10 ≡ t → pick t Nowhere (eq_in l (j + 1)) ≡ Place e → Reached (b ∷ l) j e
+    second : (eq_in l (j + 1) ≡ Some e → Reached l (j + 1) e) → (t : Bool) → eqb b 10 ≡ t → pick t None (eq_in l (j + 1)) ≡ Some e → Reached (b ∷ l) j e
     second k true q g = absurd (let z : ◌≡◌ {A = ℕ} 0 1 = cc in omega arith)
     second k false q g = reached_on l b j e q (k g)
 
-    first : (eq_in l (j + 1) ≡ Place e → Reached l (j + 1) e) → (t : Bool) → eqb b 61 ≡ t → pick t (Place j) (pick (eqb b 10) Nowhere (eq_in l (j + 1))) ≡ Place e → Reached (b ∷ l) j e
+    first : (eq_in l (j + 1) ≡ Some e → Reached l (j + 1) e) → (t : Bool) → eqb b 61 ≡ t → pick t (Some j) (pick (eqb b 10) None (eq_in l (j + 1))) ≡ Some e → Reached (b ∷ l) j e
     first k true q g = let z : j ≡ e = cc in rw (← z) (reached_here l b j (eqb-true b 61 q))
     first k false q g = second k (eqb b 10) refl g
 
@@ -70,7 +68,7 @@ unfolding hashed
 second s i y e = omega (arith, eqb-true (get_or s (i + 1) 0) 35 (right (eqb (get_or s i 0) 35) (eqb (get_or s (i + 1) 0) 35) y))
 
 -- Where the list starts at i + 2, the same in terms of the file.
-reached_at : (s : List ℕ) (i e : ℕ) → eq_at s i ≡ Place e → (i ≤ e) × (e < i + length (drop i s)) × (from s i false ≡ from s (e + 1) false)
+reached_at : (s : List ℕ) (i e : ℕ) → eq_at s i ≡ Some e → (i ≤ e) × (e < i + length (drop i s)) × (from s i false ≡ from s (e + 1) false)
 unfolding eq_at from
 reached_at s i e h =
     let r = reached (drop i s) i e h in
@@ -81,10 +79,10 @@ module _ (s : List ℕ) (i : ℕ) (y : hashed s i ≡ true) (ih : (t : Bool) →
   past_hash : from s (i + 1) false ≡ from s (i + 2) false
   past_hash = rw (← add_assoc i 1 1) (skip_on s (i + 1) (hash_in s i y) (second s i y))
 
-  label_sound : (p : Spot) → eq_at s (i + 2) ≡ p → Sound s (headed (drop (i + 2) s) i (i + 2) (from s (i + 1) false) p)
+  label_sound : (p : Option ℕ) → eq_at s (i + 2) ≡ p → Sound s (headed (drop (i + 2) s) i (i + 2) (from s (i + 1) false) p)
   unfolding headed
-  label_sound Nowhere q = ih false
-  label_sound (Place e) q = by_length (leb (length (norm (take (e - (i + 2)) (drop (i + 2) s)))) longest_name) refl
+  label_sound None q = ih false
+  label_sound (Some e) q = by_length (leb (length (norm (take (e - (i + 2)) (drop (i + 2) s)))) longest_name) refl
     where
       by_length : (t : Bool) → leb (length (norm (take (e - (i + 2)) (drop (i + 2) s)))) longest_name ≡ t
           → Sound s (pick t (label i (i + 2) e (norm (take (e - (i + 2)) (drop (i + 2) s))) (from s (i + 1) false)) (bad i (from s (i + 1) false)))

@@ -1,25 +1,27 @@
 -- 02, T-07 "Compound files": what is proved of the definitions of compound_spec, in their words.
-use Rattle.std.specs.Prelude.{◌≡◌, Bool, List, [], ◌∷◌, map, ℕ, suc, ◌≤◌, leb, length}
+use Rattle.std.specs.Prelude.{◌≡◌, Bool, List, [], ◌∷◌, map, ℕ, suc, ◌≤◌, leb, length, Option, Some, None}
 use Rattle.std.proofs.Math.Path.{refl}
 use Rattle.std.proofs.Common.{ap, sym, ◌∙◌, arith}
 use Rattle.std.proofs.Math.Bool.{true, false}
 use Rattle.std.proofs.Math.Dec.{eqb}
 use borrow.Author.Tests.{leb-true, eqb-true, le-leb}
 use Rattle.terms.specs.Logic.{pick, zero_one}
-use Rattle.label_spec.specs.declared.Found.{Found}
 use Rattle.label_spec.specs.File.{longest_file, opened}
-use Rattle.decimal_spec.specs.declared.Count.{Count}
 use Rattle.file_spec.specs.Texts.{text_in, mark_of}
 use Rattle.file_spec.specs.Figures.{count_in}
 use Rattle.file_spec.specs.File.{FileAnswer, read_file}
 use Rattle.compound_spec.specs.declared.Block.{Block}
 use Rattle.compound_spec.specs.Blocks.{Level, Survey, refused, ended, within_title, surveyed}
-use Rattle.compound_spec.specs.Compound.{BlocksAnswer, refuse_blocks, one_block, all_blocks, whole, each, in_block, answers_of, span_of, by_count, by_blocks, by_survey, find_blocks, read_compound}
+use Rattle.compound_spec.specs.Compound.{BlocksAnswer, refuse_blocks, one_block, all_blocks, whole, each, in_block, answers_of, by_count, by_blocks, by_survey, find_blocks, read_compound}
 use Rattle.compound_spec.specs.Cut.{cut_out, shifted}
 use Rattle.compound_spec.specs.Answers.{answer, read_block}
 use Rattle.compound_law.specs.Plain.{DataBlock, AllData, Promised}
 use Rattle.compound_law.specs.Found.{found}
 use Rattle.compound_law.specs.CutOut.{bounds, cut_out_lem, cut_alone}
+use Rattle.label_spec.specs.declared.Span.{Span}
+use Rattle.decimal_spec.specs.declared.Count.{Count}
+use Rattle.label_spec.specs.Parts.{span_of}
+use Rattle.decimal_spec.specs.Parts.{count_with}
 
 -- "a data block cut out as a file must read exactly as it does in place, places shifted (1 and 2 at 0)": by this reader, and by the simple one
 pub record ReadsAlike (s : List ℕ) (space : ℕ) (b : Block) : Type 0 where
@@ -66,26 +68,26 @@ pub record Counted (s : List ℕ) (bs : List Block) : Type 0 where
   pub from : ℕ
   pub to : ℕ
   pub after : ℕ
-  pub text : own.blocks ≡ Found.Text from to
-  pub count : count_in (text_in s (span_of from to)) ≡ Count.Counted (length bs) after
+  pub text : own.blocks ≡ Some (span_of from to)
+  pub count : count_in (text_in s (span_of from to)) ≡ Some (count_with (length bs) after)
 
 module _ (s : List ℕ) (rs : List Block) (l : Level) (o : Block) (bs : List Block) (h : surveyed s ≡ ended l o bs) (k : l.link ≡ true) where
-  by_count_lem : (a b : ℕ) → l.blocks ≡ Found.Text a b → (c : Count) → count_in (text_in s (span_of a b)) ≡ c → by_count s (span_of a b) bs c ≡ all_blocks rs → Counted s rs
+  by_count_lem : (a b : ℕ) → l.blocks ≡ Some (span_of a b) → (c : Option Count) → count_in (text_in s (span_of a b)) ≡ c → by_count s (span_of a b) bs c ≡ all_blocks rs → Counted s rs
   unfolding by_count
-  by_count_lem a b t Count.Misspelled e g = zero_one cc
-  by_count_lem a b t (Count.Counted v j) e g = cases (eqb v (length bs)) refl g
+  by_count_lem a b t None e g = zero_one cc
+  by_count_lem a b t (Some x) e g = cases (eqb x.value (length bs)) refl g
     where
-      cases : (q : Bool) → eqb v (length bs) ≡ q → pick q (all_blocks bs) (refuse_blocks 32 (mark_of s (span_of a b))) ≡ all_blocks rs → Counted s rs
+      cases : (q : Bool) → eqb x.value (length bs) ≡ q → pick q (all_blocks bs) (refuse_blocks 32 (mark_of s (span_of a b))) ≡ all_blocks rs → Counted s rs
       cases true f w =
-          let n = eqb-true v (length bs) f in
+          let n = eqb-true x.value (length bs) f in
           let z : bs ≡ rs = cc in
-          rw (← z) (record { own = l; outermost = o; survey = h; is_link = k; from = a; to = b; after = j; text = t; count = rw (← n) e })
+          rw (← z) (record { own = l; outermost = o; survey = h; is_link = k; from = a; to = b; after = x.end; text = t; count = rw (← n) e })
       cases false f w = zero_one cc
 
-  by_blocks_lem : (f : Found) → l.blocks ≡ f → by_blocks s o bs f ≡ all_blocks rs → Counted s rs
+  by_blocks_lem : (f : Option Span) → l.blocks ≡ f → by_blocks s o bs f ≡ all_blocks rs → Counted s rs
   unfolding by_blocks
-  by_blocks_lem Found.Absent e g = zero_one cc
-  by_blocks_lem (Found.Text a b) e g = by_count_lem a b e (count_in (text_in s (span_of a b))) refl g
+  by_blocks_lem None e g = zero_one cc
+  by_blocks_lem (Some x) e g = by_count_lem x.from x.to e (count_in (text_in s x)) refl g
 
 by_survey_lem : (s : List ℕ) (rs : List Block) (r : Survey) → surveyed s ≡ r → by_survey s r ≡ all_blocks rs → Counted s rs
 unfolding by_survey

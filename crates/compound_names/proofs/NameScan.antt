@@ -1,4 +1,5 @@
 -- The turns of the scan of a block's own labels: no place of the code is named here.
+use Rattle.label_spec.specs.declared.Label.{Label}
 use mathlib.Core.Path.{◌≡◌, refl, ap, sym, ◌∙◌}
 use mathlib.Core.Bool.{Bool, true, false}
 use mathlib.Core.List.{List, [], ◌∷◌}
@@ -14,9 +15,6 @@ use Rattle.label_spec.specs.SharedLaws.{picked}
 use Rattle.label_spec.specs.Names.{blank, ignored, upper, norm, sames, TITLE, END, name_in}
 use Rattle.label_spec.specs.Labels.{Walk, over, bad, label, longest_name, headed, from, hashed}
 use Rattle.label_spec.specs.LabelLaws.{eq_at, resume, from_end, hash_in}
-use Rattle.label_spec.specs.declared.Spot.{Spot}
-use Rattle.label_spec.specs.declared.Spot.TheVariants.{Place, Nowhere}
-use Rattle.label_spec.specs.declared.Label.TheVariants.{At, Bad, None}
 use Rattle.label_names.specs.Post.{empty, first_of, unlike}
 use Rattle.label_names.proofs.NameTurns.{apart, apart_word}
 use Rattle.label_lines.specs.Post.{Marked, Met}
@@ -27,6 +25,7 @@ use Rattle.label_judged.proofs.JudgeTurns.{mark_is}
 use Rattle.compound_names.specs.declared.Meet.{Meet}
 use Rattle.compound_names.specs.OwnNames.{leave, meet, own_known, own_clash}
 use Rattle.compound_names.specs.Post.{other_by, Meets, Passes}
+use Rattle.std.specs.Prelude.{Option, Some, None}
 
 -- `met`
 module _ (w v : List ℕ) (d : ℕ) where
@@ -68,11 +67,11 @@ module _ (s : List ℕ) (m : ℕ) (y : hashed s m ≡ true) (w : List ℕ) (d : 
   at_mark : (k : Walk) (a : ℕ) → from s m true ≡ k → mark_of 0 k ≡ a → a ≡ m
   at_mark k a e f = sym f ∙ (sym (ap (mark_of 0) e) ∙ mark_hashed s 0 m y)
 
-  pub passes_none : Met s m true None → Passes s m w d (Meet.Depth d)
+  pub passes_none : Met s m true Label.None → Passes s m w d (Meet.Depth d)
   unfolding resume
   passes_none x = record { law = λ z h. ap (λ (k : Walk). own_known z w k d) (x.law ∙ (unfold rest_of in on over x.law)); deep = omega arith }
 
-  pub passes_bad : (a : ℕ) → Met s m true (Bad a) → Passes s m w d (Meet.Depth d)
+  pub passes_bad : (a : ℕ) → Met s m true (Label.Bad a) → Passes s m w d (Meet.Depth d)
   unfolding resume own_known rest_of mark_of
   passes_bad a x =
       let q = at_mark (bad a (from s (a + 1) false)) a x.law refl in
@@ -81,7 +80,7 @@ module _ (s : List ℕ) (m : ℕ) (y : hashed s m ≡ true) (w : List ℕ) (d : 
         deep = omega arith;
       }
 
-  pub passes_met : (a n e : ℕ) (r : Meet) → Met s m true (At a n e) → Meets w (name_in s n e) d r → Passes s m w d r
+  pub passes_met : (a n e : ℕ) (r : Meet) → Met s m true (Label.At a n e) → Meets w (name_in s n e) d r → Passes s m w d r
   unfolding resume own_known rest_of mark_of
   passes_met a n e r x g =
       let q = at_mark (label a n e (name_in s n e) (from s (e + 1) false)) a x.law refl in
@@ -97,10 +96,10 @@ module _ (s : List ℕ) (m : ℕ) (y : hashed s m ≡ true) (w : List ℕ) (d : 
     nothing true = refl
     nothing false = refl
 
-    other_headed : (z : ℕ) → m < z → (k : Walk) (p : Spot) → own_known z w (headed (drop (m + 2) s) m (m + 2) k p) d ≡ own_known z w k d
+    other_headed : (z : ℕ) → m < z → (k : Walk) (p : Option ℕ) → own_known z w (headed (drop (m + 2) s) m (m + 2) k p) d ≡ own_known z w k d
     unfolding headed own_known meet name_in
-    other_headed z h k Nowhere = rw (lt-ltb m z h) refl
-    other_headed z h k (Place e) =
+    other_headed z h k None = rw (lt-ltb m z h) refl
+    other_headed z h k (Some e) =
         picked (λ (a : Walk). own_known z w a d ≡ own_known z w k d) (leb (length (norm (take (e - (m + 2)) (drop (m + 2) s)))) longest_name)
         (rw (lt-ltb m z h, g e, f e, o e, nothing (eqb d 0)) refl) (rw (lt-ltb m z h) refl)
 

@@ -4,30 +4,30 @@
 ghost use Rattle.compound_read.specs.Answers.{ReadsBlock};
 
 pub use compound_record::find_in_block;
-use compound_spec::BlockRead;
 use file::read_part;
-use file_spec::FileStaged;
 use text::refusal_in;
+use terms::Refusal;
+use file_spec::FileTable;
 
 // The most bytes of a file.
 const LONGEST_FILE: usize = 1048576;
 
 // Reads a data block where it stands in a file: its records are those from the place `start`, after its TITLE's `=`, up to `end`, its END's `##`. Any bytes, any places, any slice. Accepted and
 // refused as a file is, with place, line and column in the whole file; or these are no places of a block. Unless it is accepted, every entry is what it was.
-pub fn read_block(file: &[u8], start: usize, end: usize, out: &mut [i32]) -> BlockRead
+pub fn read_block(file: &[u8], start: usize, end: usize, out: &mut [i32]) -> Option<Result<FileTable, Refusal>>
     ensures { ReadsBlock file.now start end out.old out.new result }
 {
     if file.len() > LONGEST_FILE {
-        return BlockRead::Refused(refusal_in(file, 19, 0));
+        return Some(Err(refusal_in(file, 19, 0)));
     }
     if start > end {
-        return BlockRead::NoBlock;
+        return None;
     }
     if end > file.len() {
-        return BlockRead::NoBlock;
+        return None;
     }
     match read_part(file, out, start, end) {
-        FileStaged::Accepted(t) => BlockRead::Accepted(t),
-        FileStaged::Refused(f) => BlockRead::Refused(refusal_in(file, f.number, f.place)),
+        Ok(t) => Some(Ok(t)),
+        Err(f) => Some(Err(refusal_in(file, f.number, f.place))),
     }
 }

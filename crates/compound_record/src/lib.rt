@@ -8,30 +8,31 @@ ghost use Rattle.compound_spec.specs.Answers.{record_in_block};
 
 use label_lines::is_hashed;
 use label_page::find_from_mark;
-use label_spec::{Found, Record};
 use text::refusal_in;
+use label_spec::Span;
+use terms::Refusal;
 
 // The most bytes of a file.
 const LONGEST_FILE: usize = 1048576;
 
 // Where the text of the record with a name stands in a data block, TITLE's own among its records: `from` is the place of its TITLE's `##`, `end` that of its END's.
-pub fn find_in_block(file: &[u8], from: usize, end: usize, name: &[u8]) -> Record
+pub fn find_in_block(file: &[u8], from: usize, end: usize, name: &[u8]) -> Result<Option<Span>, Refusal>
     ensures { (result ≡ record_in_block file.now from end (norm name.now)) × FindIn (length file.now) result }
 {
     if file.len() > LONGEST_FILE {
-        return Record::Refused(refusal_in(file, 19, 0));
+        return Err(refusal_in(file, 19, 0));
     }
     if end > file.len() {
-        return Record::Absent;
+        return Ok(None);
     }
     if from >= end {
-        return Record::Absent;
+        return Ok(None);
     }
     if !is_hashed(file, from) {
-        return Record::Absent;
+        return Ok(None);
     }
     match find_from_mark(file, from, end, name) {
-        Found::Text { from: a, to } => Record::Text { from: a, to },
-        Found::Absent => Record::Absent,
+        Some(Span { from: a, to }) => Ok(Some(Span { from: a, to })),
+        None => Ok(None),
     }
 }

@@ -1,8 +1,6 @@
 -- 02, T-07 "Compound files": the blocks of a file, nested "to a depth of eight, the outermost being depth one". Assumes nothing.
-use Rattle.std.specs.Prelude.{Bool, true, false, List, [], ◌∷◌, ◌++◌, ℕ, suc, ◌+◌, ◌-◌, leb, ltb, length, take, drop}
+use Rattle.std.specs.Prelude.{Bool, true, false, List, [], ◌∷◌, ◌++◌, ℕ, suc, ◌+◌, ◌-◌, leb, ltb, length, take, drop, Option, Some, None, Result, Ok, Err}
 use Rattle.terms.specs.Logic.{pick, both}
-use Rattle.label_spec.specs.declared.Opened.{Opened}
-use Rattle.label_spec.specs.declared.Found.{Found}
 use Rattle.label_spec.specs.Names.{sames, TITLE, END}
 use Rattle.label_spec.specs.Labels.{Walk, over, bad, label, from}
 use Rattle.keyword_spec.specs.Keywords.{is_word}
@@ -10,6 +8,11 @@ use Rattle.label_spec.specs.File.{longest_file, opened, twice}
 use Rattle.label_spec.specs.Records.{mark_of}
 use Rattle.file_spec.specs.Texts.{XYDATA}
 use Rattle.compound_spec.specs.declared.Block.{Block}
+use Rattle.label_spec.specs.declared.Span.{Span}
+use Rattle.label_spec.specs.declared.Edges.{Edges}
+use Rattle.terms.specs.declared.Fault.{Fault}
+use Rattle.compound_spec.specs.declared.Surveyed.{Surveyed}
+use Rattle.label_spec.specs.Parts.{span_of}
 
 -- The names that T-07 speaks of, as they compare, and its word.
 unfoldable pub DATATYPE : List ℕ
@@ -36,11 +39,11 @@ pub record Level : Type 0 where
   pub names : List (List ℕ)
   pub link : Bool
   pub table : Bool
-  pub blocks : Found
+  pub blocks : Option Span
 
 -- A block that has said nothing yet.
 abbrev pub fresh : ℕ → ℕ → Level
-fresh m e = record { title = m; eq = e; names = []; link = false; table = false; blocks = Found.Absent }
+fresh m e = record { title = m; eq = e; names = []; link = false; table = false; blocks = None }
 
 -- A label of the block's own, with the name v, whose text runs from a to b in the file s.
 unfoldable pub noted : List ℕ → List ℕ → ℕ → ℕ → Level → Level
@@ -51,7 +54,7 @@ noted s v a b l =
       names = l.names ++ v ∷ [];
       link = pick (says s v a b) true l.link;
       table = pick (sames v XYDATA) true l.table;
-      blocks = pick (sames v BLOCKS) (Found.Text a b) l.blocks;
+      blocks = pick (sames v BLOCKS) (Some (span_of a b)) l.blocks;
     }
 
 -- What the walk over a file's labels finds: the first fault, its number and place; or what the outermost block has said up to its END, that block, and the data blocks in file order.
@@ -92,9 +95,9 @@ nested s (bad x rest) l up = refused 20 x
 nested s (label x n e v rest) l up = turn s (nested s rest) x e v (mark_of (length s) rest) l up
 
 -- "Order: 19; 21; then 20, 22, 23, 24 in one walk".
-unfoldable pub within_title : List ℕ → Opened → Survey
-within_title s (Opened.Title m e) = nested s (from s (e + 1) false) (fresh m e) []
-within_title s (Opened.Refused r) = refused r.number r.place
+unfoldable pub within_title : List ℕ → Result Edges Fault → Survey
+within_title s (Ok x) = nested s (from s (x.eq + 1) false) (fresh x.mark x.eq) []
+within_title s (Err r) = refused r.number r.place
 
 unfoldable pub surveyed : List ℕ → Survey
 surveyed s = pick (leb (length s) longest_file) (within_title s (opened s)) (refused 19 0)

@@ -1,14 +1,13 @@
 -- 02, T-07 "Compound files": what a file of one block or of many says. Assumes nothing.
-use Rattle.std.specs.Prelude.{List, map, ℕ, suc, eqb, length}
+use Rattle.std.specs.Prelude.{List, map, ℕ, suc, eqb, length, Option, Some, None}
 use Rattle.terms.specs.Logic.{pick}
-use Rattle.label_spec.specs.declared.Found.{Found}
-use Rattle.decimal_spec.specs.declared.Count.{Count}
-use Rattle.file_spec.specs.declared.Span.{Span}
+use Rattle.label_spec.specs.declared.Span.{Span}
 use Rattle.file_spec.specs.Texts.{text_in, gathered_from, mark_of}
 use Rattle.file_spec.specs.Figures.{count_in}
 use Rattle.file_spec.specs.File.{FileAnswer, refuse_file, by_records}
 use Rattle.compound_spec.specs.declared.Block.{Block}
 use Rattle.compound_spec.specs.Blocks.{Survey, refused, ended, surveyed}
+use Rattle.decimal_spec.specs.declared.Count.{Count}
 
 -- The data blocks of a file: a refusal of the whole, its number and place; or the one block that the file is; or all of a compound file, in file order.
 pub data BlocksAnswer : Type 0 where
@@ -16,19 +15,16 @@ pub data BlocksAnswer : Type 0 where
   one_block : Block → BlocksAnswer
   all_blocks : List Block → BlocksAnswer
 
-abbrev pub span_of : ℕ → ℕ → Span
-span_of a b = record { from = a; to = b }
-
 module _ (s : List ℕ) where
   -- "32 (wrong count or not digits, placed as 26)"
-  unfoldable pub by_count : Span → List Block → Count → BlocksAnswer
-  by_count t bs Count.Misspelled = refuse_blocks 32 (mark_of s t)
-  by_count t bs (Count.Counted v j) = pick (eqb v (length bs)) (all_blocks bs) (refuse_blocks 32 (mark_of s t))
+  unfoldable pub by_count : Span → List Block → Option Count → BlocksAnswer
+  by_count t bs None = refuse_blocks 32 (mark_of s t)
+  by_count t bs (Some x) = pick (eqb x.value (length bs)) (all_blocks bs) (refuse_blocks 32 (mark_of s t))
 
   -- "25 (BLOCKS absent, at its END)"
-  unfoldable pub by_blocks : Block → List Block → Found → BlocksAnswer
-  by_blocks o bs Found.Absent = refuse_blocks 25 o.end
-  by_blocks o bs (Found.Text a b) = by_count (span_of a b) bs (count_in (text_in s (span_of a b)))
+  unfoldable pub by_blocks : Block → List Block → Option Span → BlocksAnswer
+  by_blocks o bs None = refuse_blocks 25 o.end
+  by_blocks o bs (Some x) = by_count x bs (count_in (text_in s x))
 
   -- a file whose outermost block is not LINK is that one data block
   unfoldable pub by_survey : Survey → BlocksAnswer

@@ -1,4 +1,5 @@
+pub mod Answers
 pub mod Blocks
 pub mod Compound
 pub mod Cut
-pub mod Answers
+pub mod Parts

@@ -2,11 +2,11 @@
 #![tactic(auto)]
 
 use file_spec::FileTable;
-use label_spec::Found;
 use terms::{Fault, Refusal};
+use label_spec::Span;
 
 // A block of a file: the places of TITLE's `##` and `=`, and of END's `##` and `=`.
-#[derive(Drop)]
+#[derive(Clone, Copy, Debug, PartialEq, Eq)]
 pub struct Block {
     pub title: usize,
     pub eq: usize,
@@ -15,36 +15,25 @@ pub struct Block {
 }
 
 // What a block's own labels have said: whether it is LINK, whether it has a table, and the text of its BLOCKS.
-#[derive(Drop)]
+#[derive(Clone, Copy, Debug, PartialEq, Eq)]
 pub struct Own {
     pub link: bool,
     pub table: bool,
-    pub blocks: Found,
+    pub blocks: Option<Span>,
 }
 
-// What the survey of a file's blocks answers: the first fault; or the outermost block, what its own labels said, and how many data blocks there are.
-#[derive(Drop)]
-pub enum Surveyed {
-    Ended {
-        outermost: Block,
-        own: Own,
-        count: usize,
-    },
-    Refused(Fault),
+// What the survey of a file's blocks tells: the outermost block, what its own labels said, and how many data blocks there are.
+#[derive(Clone, Copy, Debug, PartialEq, Eq)]
+pub struct Surveyed {
+    pub outermost: Block,
+    pub own: Own,
+    pub count: usize,
 }
 
-// What looking for the data blocks of a file answers: a refusal of the whole file; or that it is one data block; or how many data blocks the compound file has.
-#[derive(Drop)]
-pub enum BlocksFound {
-    Refused(Refusal),
+// The data blocks of a file: it is one itself; or so many stand in the compound file.
+#[derive(Clone, Copy, Debug, PartialEq, Eq)]
+pub enum Blocks {
     One,
     Compound(usize),
 }
 
-// What reading a data block in its place answers: as a file; or that the places are none of a block.
-#[derive(Drop)]
-pub enum BlockRead {
-    Accepted(FileTable),
-    Refused(Refusal),
-    NoBlock,
-}

@@ -1,5 +1,5 @@
 -- What the survey answers for each case, and that the walk over the outermost block answers it.
-use Rattle.std.specs.Prelude.{◌≡◌, Bool, true, false, ℕ, ◌+◌, ◌<◌, ◌≤◌, length}
+use Rattle.std.specs.Prelude.{◌≡◌, Bool, true, false, ℕ, ◌+◌, ◌<◌, ◌≤◌, length, Result, Ok, Err}
 use Rattle.std.proofs.Math.Path.{refl}
 use mathlib.Core.List.{List, [], ◌∷◌, ◌++◌, append-nil}
 use Rattle.std.proofs.Common.{arith, length-append, le-leb}
@@ -7,38 +7,38 @@ use Rattle.std.proofs.lemmas.Bool.{lt-leb}
 use Rattle.terms.specs.Logic.{pick}
 use Rattle.terms.specs.Refusals.{fault_at}
 use Rattle.terms.specs.declared.Fault.{Fault}
-use Rattle.label_spec.specs.declared.Opened.{Opened}
 use Rattle.label_spec.specs.File.{longest_file, opened}
 use Rattle.label.specs.Answers.{found_in}
 use Rattle.compound_spec.specs.declared.Block.{Block}
 use Rattle.compound_spec.specs.declared.Own.{Own}
-use Rattle.compound_spec.specs.declared.Surveyed.{Surveyed}
 use Rattle.compound_spec.specs.Blocks.{Level, Survey, refused, ended, push, block_of, closed, within_title, surveyed}
-use Rattle.compound_walk.specs.declared.Closed.{Closed}
 use Rattle.compound_walk.specs.Walks.{fault, closes, prepend, resume, outermost}
 use Rattle.compound_walk.specs.Turns.{level_of, counted, Closes}
+use Rattle.label_spec.specs.Parts.{edges_with}
+use Rattle.compound_walk.specs.Parts.{closing_with}
+use Rattle.compound_spec.specs.Parts.{surveyed_with}
 
 -- The outermost block's own words.
 abbrev pub own_of : Level → Own
 own_of l = record { link = l.link; table = l.table; blocks = l.blocks }
 
 -- The answer for each case.
-abbrev pub told : Survey → Surveyed
-told (refused c a) = Surveyed.Refused (fault_at c a)
-told (ended l o bs) = Surveyed.Ended o (own_of l) (length bs)
+abbrev pub told : Survey → Result Surveyed Fault
+told (refused c a) = Err (fault_at c a)
+told (ended l o bs) = Ok (surveyed_with o (own_of l) (length bs))
 
 -- Where the answer's places lie: the outermost block and the text of its BLOCKS stand in a file that is not too long, and TITLE is what opens it.
-abbrev pub SurveyedIn : List ℕ → Surveyed → Type 0
-SurveyedIn s (Surveyed.Ended o w n) =
-    (o.eq < o.end) × (o.end < o.last) × (o.last < length s) × found_in 0 (length s) w.blocks × (length s ≤ longest_file) × (Opened.Title o.title o.eq ≡ opened s)
-SurveyedIn s (Surveyed.Refused r) = Unit
+abbrev pub SurveyedIn : List ℕ → Result Surveyed Fault → Type 0
+SurveyedIn s (Ok x) =
+    (x.outermost.eq < x.outermost.end) × (x.outermost.end < x.outermost.last) × (x.outermost.last < length s) × found_in 0 (length s) x.own.blocks × (length s ≤ longest_file) × (Ok (edges_with x.outermost.title x.outermost.eq) ≡ opened s)
+SurveyedIn s (Err r) = Unit
 
 -- What the survey ensures.
-pub record Surveys (s : List ℕ) (r : Surveyed) : Type 0 where
+pub record Surveys (s : List ℕ) (r : Result Surveyed Fault) : Type 0 where
   pub answers : r ≡ told (surveyed s)
   pub places : SurveyedIn s r
 
-pub told_long : (s : List ℕ) → longest_file < length s → Surveys s (Surveyed.Refused (fault_at 19 0))
+pub told_long : (s : List ℕ) → longest_file < length s → Surveys s (Err (fault_at 19 0))
 unfolding surveyed
 told_long s h = record { answers = rw (lt-leb (length s) longest_file h) refl; places = tt }
 
@@ -47,12 +47,12 @@ module _ (s : List ℕ) (h : length s ≤ longest_file) where
   unfolding surveyed
   short = rw (le-leb (length s) longest_file h) refl
 
-  pub told_title : (r : Fault) → Opened.Refused r ≡ opened s → Surveys s (Surveyed.Refused r)
+  pub told_title : (r : Fault) → Err r ≡ opened s → Surveys s (Err r)
   unfolding within_title
   told_title r e = record { answers = rw (short, ← e) refl; places = tt }
 
-  module _ (m e : ℕ) (o : Opened.Title m e ≡ opened s) where
-    pub told_fault : (r : Fault) → Closes s m e 7 (Closed.Refused r) → Surveys s (Surveyed.Refused r)
+  module _ (m e : ℕ) (o : Ok (edges_with m e) ≡ opened s) where
+    pub told_fault : (r : Fault) → Closes s m e 7 (Err r) → Surveys s (Err r)
     unfolding resume
     told_fault r w = record { answers = rw (short, ← o, outermost s m e (fault r.number r.place) w) refl; places = tt }
 
@@ -65,8 +65,8 @@ module _ (s : List ℕ) (h : length s ≤ longest_file) where
     count_end n bs b true f = rw (append-nil bs) (omega arith)
     count_end n bs b false f = rw (length-append bs (b ∷ [])) (omega arith)
 
-    pub told_end : (x q : ℕ) (w : Own) (n k : ℕ) → k ≡ counted w.link 0 n → Closes s m e 7 (Closed.Ended x q w n)
-        → Surveys s (Surveyed.Ended (record { title = m; eq = e; end = x; last = q }) w k)
+    pub told_end : (x q : ℕ) (w : Own) (n k : ℕ) → k ≡ counted w.link 0 n → Closes s m e 7 (Ok (closing_with x q w n))
+        → Surveys s (Ok (surveyed_with (record { title = m; eq = e; end = x; last = q }) w k))
     unfolding resume closed
     told_end x q w n k g c =
         let b : Block = record { title = m; eq = e; end = x; last = q } in

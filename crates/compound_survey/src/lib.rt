@@ -4,31 +4,31 @@
 ghost use Rattle.compound_survey.specs.Told.{Surveys};
 
 use compound_spec::{Block, Surveyed};
-use compound_walk::{Closed, count_more, walk_block};
-use label_spec::Opened;
+use compound_walk::{Closing, count_more, walk_block};
 use label_title::open_title;
-use terms::Fault;
+use terms::{Fault, Reason};
+use label_spec::Edges;
 
 // The most bytes of a file.
 const LONGEST_FILE: usize = 1048576;
 
 // The survey of a file's blocks: 19, 21, then 20, 22, 23, 24, 33 in one walk; or the outermost block, what its own labels say, and how many data blocks there are.
-pub fn survey(file: &[u8]) -> Surveyed
+pub fn survey(file: &[u8]) -> Result<Surveyed, Fault>
     ensures { Surveys file.now result }
 {
     if file.len() > LONGEST_FILE {
-        return Surveyed::Refused(Fault::new(19, 0));
+        return Err(Fault::new(Reason::LongFile, 0));
     }
     match open_title(file) {
-        Opened::Refused(r) => Surveyed::Refused(r),
-        Opened::Title { mark, eq } => match walk_block(file, mark, eq, 7) {
-            Closed::Refused(r) => Surveyed::Refused(r),
-            Closed::Ended {
+        Err(r) => Err(r),
+        Ok(Edges { mark, eq }) => match walk_block(file, mark, eq, 7) {
+            Err(r) => Err(r),
+            Ok(Closing {
                 end,
                 last,
                 own,
                 count: within,
-            } => {
+            }) => {
                 let count = count_more(own.link, 0, within);
                 let outermost = Block {
                     title: mark,
@@ -36,11 +36,11 @@ pub fn survey(file: &[u8]) -> Surveyed
                     end,
                     last,
                 };
-                Surveyed::Ended {
+                Ok(Surveyed {
                     outermost,
                     own,
                     count,
-                }
+                })
             }
         },
     }

@@ -1,2 +1,3 @@
-pub mod Walks
+pub mod Parts
 pub mod Turns
+pub mod Walks

@@ -1,8 +1,7 @@
 -- What the walk over a block ensures and keeps, in the code's own words: what the block has said, and how many data blocks; and the turns of its loop.
-use Rattle.std.specs.Prelude.{◌≡◌, refl, Bool, true, false, List, [], ◌∷◌, ◌++◌, ℕ, suc, ◌+◌, ◌-◌, ◌<◌, ◌≤◌, ltb, length}
+use Rattle.std.specs.Prelude.{◌≡◌, refl, Bool, true, false, List, [], ◌∷◌, ◌++◌, ℕ, suc, ◌+◌, ◌-◌, ◌<◌, ◌≤◌, ltb, length, Some, None, Result, Ok, Err}
 use Rattle.std.proofs.Common.{sym, ◌∙◌, append-nil, arith, length-append, le-ltb}
 use Rattle.terms.specs.Logic.{pick, both}
-use Rattle.label_spec.specs.declared.Found.{Found}
 use Rattle.label_spec.specs.Names.{sames, TITLE, END}
 use Rattle.label_spec.specs.Labels.{Walk, over, bad, label, from}
 use Rattle.label_spec.specs.File.{twice}
@@ -13,16 +12,18 @@ use Rattle.compound_spec.specs.declared.Own.{Own}
 use Rattle.compound_spec.specs.Blocks.{BLOCKS, Level, noted, block_of}
 use Rattle.compound_words.specs.Post.{note_of}
 use Rattle.compound_names.specs.OwnNames.{own_clash, Skips, Scanned, scan_begin, clash_is, scan_end, scan_inner, scan_own}
-use Rattle.compound_walk.specs.declared.Closed.{Closed}
 use Rattle.compound_walk.specs.Walks as walks
 use Rattle.compound_walk.specs.Walks.{fault, closes, gained, Walks, Sofar}
+use Rattle.terms.specs.declared.Fault.{Fault}
+use Rattle.compound_walk.specs.declared.Closing.{Closing}
+use Rattle.label_spec.specs.Parts.{span_of}
 
 -- The level that the code's places, names and words stand for.
 abbrev pub level_of : ℕ → ℕ → List (List ℕ) → Own → Level
 level_of m e names o = record { title = m; eq = e; names = names; link = o.link; table = o.table; blocks = o.blocks }
 
 abbrev pub nothing : Own
-nothing = record { link = false; table = false; blocks = Found.Absent }
+nothing = record { link = false; table = false; blocks = None }
 
 level_noted : (s v : List ℕ) (a b m e : ℕ) (names : List (List ℕ)) (o : Own) → noted s v a b (level_of m e names o) ≡ level_of m e (names ++ v ∷ []) (note_of s v a b o)
 unfolding noted note_of
@@ -42,9 +43,9 @@ pub record Ends (s : List ℕ) (m e left x q : ℕ) (o : Own) (n : ℕ) : Type 0
   pub few : n + e ≤ x
 
 -- What the walk over a block ensures.
-abbrev pub Closes : List ℕ → ℕ → ℕ → ℕ → Closed → Type 0
-Closes s m e left (Closed.Ended x q o n) = Ends s m e left x q o n
-Closes s m e left (Closed.Refused r) = Walks s m e left (fault r.number r.place)
+abbrev pub Closes : List ℕ → ℕ → ℕ → ℕ → Result Closing Fault → Type 0
+Closes s m e left (Ok y) = Ends s m e left y.end y.last y.own y.count
+Closes s m e left (Err r) = Walks s m e left (fault r.number r.place)
 
 -- Its loop's invariant: the labels before i.
 pub record Gone (s : List ℕ) (m e left i : ℕ) (o : Own) (n : ℕ) : Type 0 where
@@ -89,7 +90,7 @@ text_noted : (s v : List ℕ) (a b : ℕ) (o : Own) → a ≤ b → b ≤ length
 unfolding note_of
 text_noted s v a b o h g f = cases (sames v BLOCKS)
   where
-    cases : (t : Bool) → found_in 0 (length s) (pick t (Found.Text a b) o.blocks)
+    cases : (t : Bool) → found_in 0 (length s) (pick t (Some (span_of a b)) o.blocks)
     cases true = (omega arith, h, g)
     cases false = f
 

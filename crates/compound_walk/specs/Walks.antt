@@ -1,6 +1,6 @@
 -- "Each inner block may hold blocks of its own" (01, "Code places and their forms"): what the walk over one block promises, in whatever blocks it stands, and its turns.
 -- The code is a function that loops over the labels of a block, and calls itself at an inner TITLE with one depth less left.
-use Rattle.std.specs.Prelude.{◌≡◌, Bool, length}
+use Rattle.std.specs.Prelude.{◌≡◌, Bool, length, Ok}
 use Rattle.std.proofs.Math.Path.{refl, ap, sym}
 use Rattle.std.proofs.Common.{◌∙◌}
 use Rattle.std.proofs.Math.Bool.{true, false}
@@ -10,13 +10,14 @@ use native.Mathlib.Omega.{arith}
 use Rattle.std.proofs.Math.Dec.{ltb}
 use borrow.Author.Tests.{lt-ltb, le-ltb}
 use Rattle.terms.specs.Logic.{pick, both}
-use Rattle.label_spec.specs.declared.Opened.{Opened}
 use Rattle.label_spec.specs.Names.{sames, TITLE, END}
 use Rattle.label_spec.specs.Labels.{Walk, over, bad, label, from}
 use Rattle.label_spec.specs.File.{twice}
 use Rattle.label_spec.specs.Records.{mark_of}
 use Rattle.compound_spec.specs.declared.Block.{Block}
 use Rattle.compound_spec.specs.Blocks.{Level, fresh, noted, deepest, Survey, refused, push, block_of, closed, tested, turn, nested, within_title}
+use Rattle.compound_walk.specs.declared.Closing.{Closing}
+use Rattle.label_spec.specs.Parts.{edges_with}
 
 -- What the walk over a block answers: the first fault; or the block as it is at its END, END's `##` and `=`, and the data blocks within it.
 pub data Closing : Type 0 where
@@ -134,6 +135,6 @@ module _ (s : List ℕ) (m e left i : ℕ) (l : Level) (bs : List Block) (inv : 
           at_own z = record { law = λ up h. here up h ∙ rw (g, t, o, z) refl }
 
 -- The outermost block.
-pub outermost : (s : List ℕ) (m e : ℕ) (r : Closing) → Walks s m e 7 r → within_title s (Opened.Title m e) ≡ resume s r []
+pub outermost : (s : List ℕ) (m e : ℕ) (r : Closing) → Walks s m e 7 r → within_title s (Ok (edges_with m e)) ≡ resume s r []
 unfolding within_title
 outermost s m e r w = w.law [] refl

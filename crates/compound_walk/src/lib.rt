@@ -4,7 +4,6 @@
 ghost use Rattle.std.specs.Prelude.{◌≡◌, ◌+◌, ◌<◌, length};
 ghost use Rattle.terms.specs.Logic.{both};
 ghost use Rattle.terms.specs.Refusals.{fault_at};
-ghost use Rattle.compound_walk.specs.declared.Closed.{Closed};
 ghost use Rattle.compound_walk.specs.Turns.{counted, Closes};
 
 use compound_names::own_clash;
@@ -12,26 +11,23 @@ use compound_spec::Own;
 use compound_words::note;
 use label_lines::{next_label, next_mark};
 use label_names::{is_end, is_title};
-use label_spec::{Found, Label};
+use label_spec::Label;
 use terms::Fault;
 
-// Where the walk over a block ends: at its END, whose `##` and `=` stand at these places, with what its own labels said and how many data blocks stand in it; or at the first fault.
-#[derive(Drop)]
-pub enum Closed {
-    Ended {
-        end: usize,
-        last: usize,
-        own: Own,
-        count: usize,
-    },
-    Refused(Fault),
+// Where the walk over a block ends, at its END: the places of its `##` and `=`, what the block's own labels said, and how many data blocks stand in it.
+#[derive(Clone, Copy, Debug, PartialEq, Eq)]
+pub struct Closing {
+    pub end: usize,
+    pub last: usize,
+    pub own: Own,
+    pub count: usize,
 }
 
 // A fault of the walk.
-fn fault(number: u64, place: usize) -> Closed
-    ensures { result ≡ Closed.Refused (fault_at number place) }
+fn fault(number: u64, place: usize) -> Result<Closing, Fault>
+    ensures { result ≡ Err (fault_at number place) }
 {
-    Closed::Refused(Fault::new(number, place))
+    Err(Fault::new(number, place))
 }
 
 // Both of two.
@@ -55,7 +51,7 @@ pub fn count_more(link: bool, before: usize, within: usize) -> usize
 
 // The walk over the labels of a block from after its TITLE's `=`, up to its END or to the first of 20, 22, 23, 24, 33.
 // "Each inner block may hold blocks of its own": the walk calls itself at an inner TITLE, and the depth left falls at each call.
-pub fn walk_block(s: &[u8], title: usize, eq: usize, left: usize) -> Closed
+pub fn walk_block(s: &[u8], title: usize, eq: usize, left: usize) -> Result<Closing, Fault>
     requires { (eq < length s.now) × (left < 8) }
     ensures { Closes s.now title eq left result }
 {
@@ -64,7 +60,7 @@ pub fn walk_block(s: &[u8], title: usize, eq: usize, left: usize) -> Closed
     let mut own = Own {
         link: false,
         table: false,
-        blocks: Found::Absent,
+        blocks: None,
     };
     let mut count: usize = 0;
     loop {
@@ -82,12 +78,12 @@ pub fn walk_block(s: &[u8], title: usize, eq: usize, left: usize) -> Closed
             } => {
                 let next = e + 1;
                 if is_end(s, name, e) {
-                    return Closed::Ended {
+                    return Ok(Closing {
                         end: mark,
                         last: e,
                         own,
                         count,
-                    };
+                    });
                 }
                 if is_title(s, name, e) {
                     if !own.link {
@@ -97,15 +93,15 @@ pub fn walk_block(s: &[u8], title: usize, eq: usize, left: usize) -> Closed
                         return fault(24, mark);
                     }
                     match walk_block(s, mark, e, left - 1) {
-                        Closed::Refused(r) => {
-                            return Closed::Refused(r);
+                        Err(r) => {
+                            return Err(r);
                         }
-                        Closed::Ended {
+                        Ok(Closing {
                             end: _,
                             last,
                             own: inner,
                             count: within,
-                        } => {
+                        }) => {
                             count = count_more(inner.link, count, within);
                             at = last + 1;
                         }

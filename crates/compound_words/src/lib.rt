@@ -5,15 +5,15 @@ ghost use Rattle.std.specs.Prelude.{◌≡◌, true, ◌-◌, ◌≤◌, length,
 ghost use Rattle.terms.specs.Logic.{pick};
 ghost use Rattle.label_spec.specs.Names.{name_in, sames};
 ghost use Rattle.file_spec.specs.Texts.{XYDATA};
-ghost use Rattle.label_spec.specs.declared.Found.{Found};
 ghost use Rattle.compound_spec.specs.Blocks.{DATATYPE, BLOCKS, LINK, says};
 ghost use Rattle.keyword_spec.specs.Keywords.{is_word};
 ghost use Rattle.compound_words.specs.Post.{note_of};
+ghost use Rattle.label_spec.specs.Parts.{span_of};
 
 use compound_spec::Own;
 use keyword::is_keyword;
 use label_names::is_word;
-use label_spec::Found;
+use label_spec::Span;
 
 // Is the text of a record LINK?
 fn is_link(s: &[u8], from: usize, to: usize) -> bool
@@ -66,12 +66,12 @@ fn either(a: bool, b: bool) -> bool
 }
 
 // The text of BLOCKS, if this label is it.
-fn blocks_of(s: &[u8], n: usize, e: usize, from: usize, to: usize, old: Found) -> Found
+fn blocks_of(s: &[u8], n: usize, e: usize, from: usize, to: usize, old: Option<Span>) -> Option<Span>
     requires { (n ≤ e) × (e ≤ length s.now) }
-    ensures { result ≡ pick (sames (name_in s.now n e) BLOCKS) (Found.Text from to) old }
+    ensures { result ≡ pick (sames (name_in s.now n e) BLOCKS) (Some (span_of from to)) old }
 {
     if is_blocks(s, n, e) {
-        return Found::Text { from, to };
+        return Some(Span { from, to });
     }
     old
 }

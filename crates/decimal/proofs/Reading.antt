@@ -6,30 +6,30 @@ use Prim.Native.Nat.{ℕ, ◌+◌, ◌-◌}
 use native.Mathlib.Omega.{arith}
 use lib.ListN.{get_or}
 use borrow.Author.Tests.{eq-eqb, ne_eqb}
-use Rattle.decimal_spec.specs.declared.Mantissa.{Mantissa}
-use Rattle.decimal_spec.specs.declared.Exponent.{Exponent}
-use Rattle.decimal_spec.specs.declared.Number.{Number}
 use Rattle.decimal_spec.specs.Number.{raised, unsigned, number_at}
 use Rattle.decimal_digits.specs.Found.{MantissaFound}
 use Rattle.decimal_power.specs.Found.{ExponentFound}
 use Rattle.decimal.specs.Found.{UnsignedFound, NumberFound}
+use Rattle.std.specs.Prelude.{Option, Some, None}
+use Rattle.decimal_spec.specs.declared.Number.{Number}
+use Rattle.decimal_spec.specs.Parts.{mantissa_with, exponent_with, number_with}
 
 -- ---- a number
 module _ (s : List ℕ) (i : ℕ) (minus : Bool) where
-  pub no_mantissa : MantissaFound s i Mantissa.Misspelled → UnsignedFound s i minus Number.Misspelled
+  pub no_mantissa : MantissaFound s i None → UnsignedFound s i minus None
   unfolding unsigned
   no_mantissa x = record { says = rw (← x.says) refl; good = tt }
 
-  module _ (v f j : ℕ) (x : MantissaFound s i (Mantissa.Digits v f j)) where
-    pub bad_exponent : ExponentFound s j Exponent.Misspelled → UnsignedFound s i minus Number.Misspelled
+  module _ (v f j : ℕ) (x : MantissaFound s i (Some (mantissa_with v f j))) where
+    pub bad_exponent : ExponentFound s j None → UnsignedFound s i minus None
     unfolding unsigned raised
     bad_exponent y = record { says = rw (← x.says, ← y.says) refl; good = tt }
 
-    pub decimal_is : (p k : ℕ) → ExponentFound s j (Exponent.Power p k) → UnsignedFound s i minus (Number.Decimal minus v (p - f) k)
+    pub decimal_is : (p k : ℕ) → ExponentFound s j (Some (exponent_with p k)) → UnsignedFound s i minus (Some (number_with minus v (p - f) k))
     unfolding unsigned raised
     decimal_is p k y = record { says = rw (← x.says, ← y.says) refl; good = (x.good.0, omega (arith, y.good.1), y.good.2) }
 
-module _ (s : List ℕ) (i : ℕ) (r : Number) where
+module _ (s : List ℕ) (i : ℕ) (r : Option Number) where
   pub number_plus : get_or s i 0 ≡ 43 → UnsignedFound s (i + 1) false r → NumberFound s i r
   unfolding number_at
   number_plus e x = record { says = x.says ∙ rw (eq-eqb (get_or s i 0) 43 e) refl; good = x.good }

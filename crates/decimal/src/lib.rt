@@ -10,22 +10,22 @@ use decimal_spec::{Exponent, Mantissa, Number};
 use text::byte_at;
 
 // A number after its sign.
-fn unsigned(s: &[u8], at: usize, minus: bool) -> Number
+fn unsigned(s: &[u8], at: usize, minus: bool) -> Option<Number>
     requires { at ≤ length s.now }
     ensures { UnsignedFound s.now at minus result }
 {
     match mantissa(s, at) {
-        Mantissa::Misspelled => Number::Misspelled,
-        Mantissa::Digits { value, behind, end } => match exponent(s, end) {
-            Exponent::Misspelled => Number::Misspelled,
-            Exponent::Power { power, end: past } => {
+        None => None,
+        Some(Mantissa { value, behind, end }) => match exponent(s, end) {
+            None => None,
+            Some(Exponent { power, end: past }) => {
                 let lowered = power - behind;
-                Number::Decimal {
+                Some(Number {
                     minus,
                     mantissa: value,
                     power: lowered,
                     end: past,
-                }
+                })
             }
         },
     }
@@ -33,7 +33,7 @@ fn unsigned(s: &[u8], at: usize, minus: bool) -> Number
 
 // The number at a place of a text. An inner function: the place is one of the text or its end.
 // What stands after the number is the caller's to judge.
-pub fn number(s: &[u8], at: usize) -> Number
+pub fn number(s: &[u8], at: usize) -> Option<Number>
     requires { at ≤ length s.now }
     ensures { NumberFound s.now at result }
 {

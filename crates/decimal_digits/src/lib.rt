@@ -15,24 +15,24 @@ const MOST_DIGITS: usize = 12;
 const BOUND: u64 = 1000000000;
 
 // What the digits of a number make: n of them, f behind the point, and the place after them.
-fn mantissa_of(v: u64, n: usize, f: usize, end: usize) -> Mantissa
+fn mantissa_of(v: u64, n: usize, f: usize, end: usize) -> Option<Mantissa>
     ensures { result ≡ mantissa_of v n f end }
 {
     if n == 0 {
-        return Mantissa::Misspelled;
+        return None;
     }
     if v >= BOUND {
-        return Mantissa::Misspelled;
+        return None;
     }
-    Mantissa::Digits {
+    Some(Mantissa {
         value: v,
         behind: f as u64,
         end,
-    }
+    })
 }
 
 // The digits at a place, with at most one point.
-pub fn mantissa(s: &[u8], at: usize) -> Mantissa
+pub fn mantissa(s: &[u8], at: usize) -> Option<Mantissa>
     requires { at ≤ length s.now }
     ensures { MantissaFound s.now at result }
 {
@@ -41,7 +41,7 @@ pub fn mantissa(s: &[u8], at: usize) -> Mantissa
     let point = whole.at;
     let after = whole.b;
     if alphabet::is_digit(after) {
-        return Mantissa::Misspelled;
+        return None;
     }
     let n = point - at;
     if byte_at(s, point) != b'.' {
@@ -54,7 +54,7 @@ pub fn mantissa(s: &[u8], at: usize) -> Mantissa
     let end = all.at;
     let beyond = all.b;
     if alphabet::is_digit(beyond) {
-        return Mantissa::Misspelled;
+        return None;
     }
     let f = end - first;
     let count = n + f;
@@ -62,7 +62,7 @@ pub fn mantissa(s: &[u8], at: usize) -> Mantissa
 }
 
 // The number of digits only at a place of a text, as NPOINTS has it. An inner function, as `number` is.
-pub fn count(s: &[u8], at: usize) -> Count
+pub fn count(s: &[u8], at: usize) -> Option<Count>
     requires { at ≤ length s.now }
     ensures { CountFound s.now at result }
 {
@@ -71,13 +71,13 @@ pub fn count(s: &[u8], at: usize) -> Count
     let end = all.at;
     let after = all.b;
     if alphabet::is_digit(after) {
-        return Count::Misspelled;
+        return None;
     }
     if end == at {
-        return Count::Misspelled;
+        return None;
     }
     if v >= BOUND {
-        return Count::Misspelled;
+        return None;
     }
-    Count::Counted { value: v, end }
+    Some(Count { value: v, end })
 }

@@ -11,7 +11,7 @@ use text::byte_at;
 const ORIGIN: u64 = 200;
 
 // The digits of an exponent, after its sign.
-fn power_digits(s: &[u8], at: usize, minus: bool) -> Exponent
+fn power_digits(s: &[u8], at: usize, minus: bool) -> Option<Exponent>
     requires { at ≤ length s.now }
     ensures { PowerFound s.now at minus result }
 {
@@ -20,33 +20,33 @@ fn power_digits(s: &[u8], at: usize, minus: bool) -> Exponent
     let end = all.at;
     let after = all.b;
     if alphabet::is_digit(after) {
-        return Exponent::Misspelled;
+        return None;
     }
     if end - at < 2 {
-        return Exponent::Misspelled;
+        return None;
     }
     if x > 99 {
-        return Exponent::Misspelled;
+        return None;
     }
     let less = ORIGIN - x;
     let more = ORIGIN + x;
     if minus {
-        Exponent::Power { power: less, end }
+        Some(Exponent { power: less, end })
     } else {
-        Exponent::Power { power: more, end }
+        Some(Exponent { power: more, end })
     }
 }
 
 // The exponent at a place, or that there is none.
-pub fn exponent(s: &[u8], at: usize) -> Exponent
+pub fn exponent(s: &[u8], at: usize) -> Option<Exponent>
     requires { at ≤ length s.now }
     ensures { ExponentFound s.now at result }
 {
     if byte_at(s, at) != b'E' {
-        return Exponent::Power {
+        return Some(Exponent {
             power: ORIGIN,
             end: at,
-        };
+        });
     }
     let next = at + 1;
     let sign = byte_at(s, next);
@@ -58,5 +58,5 @@ pub fn exponent(s: &[u8], at: usize) -> Exponent
         let first = at + 2;
         return power_digits(s, first, true);
     }
-    Exponent::Misspelled
+    None
 }

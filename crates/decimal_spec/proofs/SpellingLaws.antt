@@ -1,5 +1,5 @@
 -- What is spelled is read, and what is read is spelled: `number_at` and `count_at` say of a text what Spelling says of it. Assumes nothing.
-use Rattle.std.specs.Prelude.{◌≡◌, Bool, List, ◌∷◌, ℕ, ◌+◌, ◌-◌, ◌≤◌, ◌<◌, ltb, drop}
+use Rattle.std.specs.Prelude.{◌≡◌, Bool, List, ◌∷◌, ℕ, ◌+◌, ◌-◌, ◌≤◌, ◌<◌, ltb, drop, Option, Some, None}
 use Rattle.std.proofs.Math.Path.{refl}
 use Rattle.std.proofs.Common.{sym, ap, ◌∙◌, subst, arith, add-one, add-zero, drop-cons, get_or-drop, drop-drop, lt-ltb, eq-eqb, ne_eqb, ltb-true, eqb-true}
 use Rattle.std.proofs.Math.Bool.{true, false}
@@ -10,12 +10,13 @@ use Rattle.terms.specs.Places.{inside}
 use Rattle.alphabet_spec.specs.Digits.{Run, long, run, digits}
 use Rattle.alphabet_spec.specs.SpelledDigits.{SpelledDigits, none, more}
 use Rattle.alphabet_spec.proofs.SpelledDigitLaws.{NoDigit, spelled_drop, digits_run, run_spelled}
+use Rattle.decimal_spec.specs.Number.{bound, origin, mantissa_of, behind_point, before_point, mantissa_at, power_of, exponent_at, raised, unsigned, number_at, count_of, count_at}
+use Rattle.decimal_spec.specs.Spelling.{SpelledMantissa, whole, pointed, SpelledExponent, absent, up, down, SpelledNumber, plain, plus, minus, SpelledCount, only}
 use Rattle.decimal_spec.specs.declared.Mantissa.{Mantissa}
 use Rattle.decimal_spec.specs.declared.Exponent.{Exponent}
 use Rattle.decimal_spec.specs.declared.Number.{Number}
 use Rattle.decimal_spec.specs.declared.Count.{Count}
-use Rattle.decimal_spec.specs.Number.{bound, origin, mantissa_of, behind_point, before_point, mantissa_at, power_of, exponent_at, raised, unsigned, number_at, count_of, count_at}
-use Rattle.decimal_spec.specs.Spelling.{SpelledMantissa, whole, pointed, SpelledExponent, absent, up, down, SpelledNumber, plain, plus, minus, SpelledCount, only}
+use Rattle.decimal_spec.specs.Parts.{mantissa_with, exponent_with, number_with, count_with}
 
 -- ---- places: t stands at the place i of s
 
@@ -43,12 +44,12 @@ pub record Ends (s : List ℕ) : Type 0 where
 digits_read : {n v w : ℕ} {t u : List ℕ} (s : List ℕ) (i m : ℕ) → SpelledDigits n v w t u → drop i s ≡ t → NoDigit u → n ≤ m → digits (drop i s) m v 0 ≡ run w n
 digits_read {v = v} s i m x e h l = ap (λ (l : List ℕ). digits l m v 0) e ∙ digits_run m x h l
 
-mantissa_is : (v n f j : ℕ) → 0 < n → v < bound → mantissa_of v n f j ≡ Mantissa.Digits v f j
+mantissa_is : (v n f j : ℕ) → 0 < n → v < bound → mantissa_of v n f j ≡ Some (mantissa_with v f j)
 unfolding mantissa_of
 mantissa_is v n f j a b = rw (lt-ltb 0 n a, lt-ltb v bound b) refl
 
 mantissa_read : {v f : ℕ} {t u : List ℕ} (s : List ℕ) (i : ℕ)
-    → SpelledMantissa v f t u → drop i s ≡ t → NoDigit u → (get_or u 0 0 ≡ 46 → ⊥) → (j : ℕ) × (mantissa_at s i ≡ Mantissa.Digits v f j) × (drop j s ≡ u)
+    → SpelledMantissa v f t u → drop i s ≡ t → NoDigit u → (get_or u 0 0 ≡ 46 → ⊥) → (j : ℕ) × (mantissa_at s i ≡ Some (mantissa_with v f j)) × (drop j s ≡ u)
 unfolding mantissa_at before_point behind_point
 mantissa_read {u = u} s i (whole {n = n} {v = v} {t = t} a b c x) e h p =
     let g = at_more s i n t u e (spelled_drop x) in
@@ -63,7 +64,7 @@ mantissa_read {u = u} s i (pointed {n = n} {f = f} {w = w} {v = v} {t = t} {u = 
     let j = i + n + 1 + f in
     (j, rw (digits_read s i 12 x e refl l, q, digits_read s (i + n + 1) (12 - n) y r h o) (mantissa_is v (n + f) f j a c), at_more s (i + n + 1) f k u r (spelled_drop y))
 
-exponent_read : {p : ℕ} {t u : List ℕ} (s : List ℕ) (i : ℕ) → SpelledExponent p t u → drop i s ≡ t → Ends u → (j : ℕ) × (exponent_at s i ≡ Exponent.Power p j) × (drop j s ≡ u)
+exponent_read : {p : ℕ} {t u : List ℕ} (s : List ℕ) (i : ℕ) → SpelledExponent p t u → drop i s ≡ t → Ends u → (j : ℕ) × (exponent_at s i ≡ Some (exponent_with p j)) × (drop j s ≡ u)
 unfolding exponent_at power_of
 exponent_read {u = u} s i absent e h = (i, rw (ne_eqb (get_or s i 0) 69 (λ z. h.no_exponent (sym (at_first s i u e) ∙ z))) refl, e)
 exponent_read {u = u} s i (up {n = n} {x = x} {t = t} a b c d) e h =
@@ -98,7 +99,7 @@ mantissa_begins (pointed a b c none y) = omega arith
 mantissa_begins (pointed a b c (more d x) y) = omega arith
 
 unsigned_read : {v f p : ℕ} {t k u : List ℕ} (s : List ℕ) (i : ℕ) (m : Bool)
-    → SpelledMantissa v f t k → SpelledExponent p k u → drop i s ≡ t → Ends u → (j : ℕ) × (unsigned s m (mantissa_at s i) ≡ Number.Decimal m v (p - f) j) × (drop j s ≡ u)
+    → SpelledMantissa v f t k → SpelledExponent p k u → drop i s ≡ t → Ends u → (j : ℕ) × (unsigned s m (mantissa_at s i) ≡ Some (number_with m v (p - f) j)) × (drop j s ≡ u)
 unfolding unsigned raised
 unsigned_read s i m x y e h =
     let o = opens y h in
@@ -108,7 +109,7 @@ unsigned_read s i m x y e h =
 
 -- a number that is spelled at the place i, and then u, is read there
 pub number_read : {m : Bool} {v p : ℕ} {t u : List ℕ} (s : List ℕ) (i : ℕ)
-    → SpelledNumber m v p t u → drop i s ≡ t → Ends u → (j : ℕ) × (number_at s i ≡ Number.Decimal m v p j) × (drop j s ≡ u)
+    → SpelledNumber m v p t u → drop i s ≡ t → Ends u → (j : ℕ) × (number_at s i ≡ Some (number_with m v p j)) × (drop j s ≡ u)
 unfolding number_at
 number_read s i (plain {t = t} x y) e h =
     let b = mantissa_begins x in
@@ -124,7 +125,7 @@ number_read s i (minus {t = t} x y) e h =
     (a.0, rw (ne_eqb (get_or s i 0) 43 (omega arith), eq-eqb (get_or s i 0) 45 f) a.1, a.2)
 
 -- and so are digits only
-pub count_read : {v : ℕ} {t u : List ℕ} (s : List ℕ) (i : ℕ) → SpelledCount v t u → drop i s ≡ t → NoDigit u → (j : ℕ) × (count_at s i ≡ Count.Counted v j) × (drop j s ≡ u)
+pub count_read : {v : ℕ} {t u : List ℕ} (s : List ℕ) (i : ℕ) → SpelledCount v t u → drop i s ≡ t → NoDigit u → (j : ℕ) × (count_at s i ≡ Some (count_with v j)) × (drop j s ≡ u)
 unfolding count_at count_of
 count_read {u = u} s i (only {n = n} {v = v} {t = t} a b c x) e h = (i + n, rw (digits_read s i 12 x e h b, lt-ltb 0 n a, lt-ltb v bound c) refl, at_more s i n t u e (spelled_drop x))
 
@@ -144,21 +145,21 @@ digits_spelled s i m v w n e =
     (x.0, subst (λ (l : List ℕ). SpelledDigits n v w (drop i s) l) (drop-drop n i s) x.1)
 
 -- what is read at the place i, if it is not misspelled, is spelled there
-abbrev MantissaSpelled : List ℕ → ℕ → Mantissa → Type 0
-MantissaSpelled s i (Mantissa.Digits v f j) = SpelledMantissa v f (drop i s) (drop j s)
-MantissaSpelled s i Mantissa.Misspelled = Unit
+abbrev MantissaSpelled : List ℕ → ℕ → Option Mantissa → Type 0
+MantissaSpelled s i (Some x) = SpelledMantissa x.value x.behind (drop i s) (drop x.end s)
+MantissaSpelled s i None = Unit
 
-abbrev ExponentSpelled : List ℕ → ℕ → Exponent → Type 0
-ExponentSpelled s i (Exponent.Power p j) = SpelledExponent p (drop i s) (drop j s)
-ExponentSpelled s i Exponent.Misspelled = Unit
+abbrev ExponentSpelled : List ℕ → ℕ → Option Exponent → Type 0
+ExponentSpelled s i (Some x) = SpelledExponent x.power (drop i s) (drop x.end s)
+ExponentSpelled s i None = Unit
 
-abbrev pub NumberSpelled : List ℕ → ℕ → Number → Type 0
-NumberSpelled s i (Number.Decimal m v p j) = SpelledNumber m v p (drop i s) (drop j s)
-NumberSpelled s i Number.Misspelled = Unit
+abbrev pub NumberSpelled : List ℕ → ℕ → Option Number → Type 0
+NumberSpelled s i (Some x) = SpelledNumber x.minus x.mantissa x.power (drop i s) (drop x.end s)
+NumberSpelled s i None = Unit
 
-abbrev pub CountSpelled : List ℕ → ℕ → Count → Type 0
-CountSpelled s i (Count.Counted v j) = SpelledCount v (drop i s) (drop j s)
-CountSpelled s i Count.Misspelled = Unit
+abbrev pub CountSpelled : List ℕ → ℕ → Option Count → Type 0
+CountSpelled s i (Some x) = SpelledCount x.value (drop i s) (drop x.end s)
+CountSpelled s i None = Unit
 
 -- a choice by two tests, where the other side asks nothing
 chosen : {A : Type 0} (P : A → Type 0) (a b : Bool) (x y : A) → P y → (a ≡ true → b ≡ true → P x) → P (pick (both a b) x y)
@@ -174,7 +175,7 @@ module _ (s : List ℕ) (i : ℕ) where
   behind_spelled n w x l (run v f) e =
       let d = digits_spelled s (i + n + 1) (12 - n) w v f e in
       let o : n + f ≤ 12 = omega (arith, d.0) in
-      chosen (MantissaSpelled s i) (ltb 0 (n + f)) (ltb v bound) (Mantissa.Digits v f (i + n + 1 + f)) Mantissa.Misspelled tt
+      chosen (MantissaSpelled s i) (ltb 0 (n + f)) (ltb v bound) (Some (mantissa_with v f (i + n + 1 + f))) None tt
       (λ a b. pointed (ltb-true 0 (n + f) a) o (ltb-true v bound b) x d.1)
 
   before_spelled : (r : Run) → digits (drop i s) 12 0 0 ≡ r → MantissaSpelled s i (before_point s i r)
@@ -186,7 +187,7 @@ module _ (s : List ℕ) (i : ℕ) where
       (eqb (get_or s (i + n) 0) 46)
       (λ _ h. let b = at_byte s (i + n) 46 (eqb-true (get_or s (i + n) 0) 46 h) (omega arith) in
       behind_spelled n v (rw b at d.1) d.0 (digits (drop (i + n + 1) s) (12 - n) v 0) refl)
-      (λ _ h. chosen (MantissaSpelled s i) (ltb 0 n) (ltb v bound) (Mantissa.Digits v 0 (i + n)) Mantissa.Misspelled tt
+      (λ _ h. chosen (MantissaSpelled s i) (ltb 0 n) (ltb v bound) (Some (mantissa_with v 0 (i + n))) None tt
       (λ a b. whole (ltb-true 0 n a) d.0 (ltb-true v bound b) d.1))
       refl
 
@@ -199,7 +200,7 @@ module _ (s : List ℕ) (i : ℕ) where
   count_of_spelled long e = tt
   count_of_spelled (run v n) e =
       let d = digits_spelled s i 12 0 v n e in
-      chosen (CountSpelled s i) (ltb 0 n) (ltb v bound) (Count.Counted v (i + n)) Count.Misspelled tt
+      chosen (CountSpelled s i) (ltb 0 n) (ltb v bound) (Some (count_with v (i + n))) None tt
       (λ a b. only (ltb-true 0 n a) d.0 (ltb-true v bound b) d.1)
 
   power_spelled : (m : Bool) → drop i s ≡ 69 ∷ pick m 45 43 ∷ drop (i + 2) s
@@ -208,11 +209,11 @@ module _ (s : List ℕ) (i : ℕ) where
   power_spelled m h long e = tt
   power_spelled true h (run x n) e =
       let d = digits_spelled s (i + 2) 3 0 x n e in
-      chosen (ExponentSpelled s i) (ltb 1 n) (ltb x 100) (Exponent.Power (origin - x) (i + 2 + n)) Exponent.Misspelled tt
+      chosen (ExponentSpelled s i) (ltb 1 n) (ltb x 100) (Some (exponent_with (origin - x) (i + 2 + n))) None tt
       (λ a b. rw h (down (ltb-true 1 n a) d.0 (ltb-true x 100 b) d.1))
   power_spelled false h (run x n) e =
       let d = digits_spelled s (i + 2) 3 0 x n e in
-      chosen (ExponentSpelled s i) (ltb 1 n) (ltb x 100) (Exponent.Power (origin + x) (i + 2 + n)) Exponent.Misspelled tt
+      chosen (ExponentSpelled s i) (ltb 1 n) (ltb x 100) (Some (exponent_with (origin + x) (i + 2 + n))) None tt
       (λ a b. rw h (up (ltb-true 1 n a) d.0 (ltb-true x 100 b) d.1))
 
   exponent_spelled : ExponentSpelled s i (exponent_at s i)
@@ -221,13 +222,13 @@ module _ (s : List ℕ) (i : ℕ) where
       let r = digits (drop (i + 2) s) 3 0 0 in
       let b = get_or s (i + 1) 0 in
       by_case (λ t. eqb (get_or s i 0) 69 ≡ t
-      → ExponentSpelled s i (pick t (pick (eqb b 43) (power_of false (i + 2) r) (pick (eqb b 45) (power_of true (i + 2) r) Exponent.Misspelled)) (Exponent.Power origin i)))
+      → ExponentSpelled s i (pick t (pick (eqb b 43) (power_of false (i + 2) r) (pick (eqb b 45) (power_of true (i + 2) r) None)) (Some (exponent_with origin i))))
       (eqb (get_or s i 0) 69)
       (λ _ e. by_case (λ t. eqb b 43 ≡ t
-      → ExponentSpelled s i (pick t (power_of false (i + 2) r) (pick (eqb b 45) (power_of true (i + 2) r) Exponent.Misspelled)))
+      → ExponentSpelled s i (pick t (power_of false (i + 2) r) (pick (eqb b 45) (power_of true (i + 2) r) None)))
       (eqb b 43)
       (λ _ f. power_spelled false (at_two s i 69 43 (eqb-true (get_or s i 0) 69 e) (eqb-true b 43 f) (omega arith) (omega arith)) r refl)
-      (λ _ f. by_case (λ t. eqb b 45 ≡ t → ExponentSpelled s i (pick t (power_of true (i + 2) r) Exponent.Misspelled)) (eqb b 45)
+      (λ _ f. by_case (λ t. eqb b 45 ≡ t → ExponentSpelled s i (pick t (power_of true (i + 2) r) None)) (eqb b 45)
       (λ _ g. power_spelled true (at_two s i 69 45 (eqb-true (get_or s i 0) 69 e) (eqb-true b 45 g) (omega arith) (omega arith)) r refl)
       (λ _ g. tt) refl)
       refl)
@@ -236,15 +237,15 @@ module _ (s : List ℕ) (i : ℕ) where
 -- a number at i with its digits at k, where they make it so
 module _ (s : List ℕ) (i k : ℕ) (m : Bool)
     (make : (v f p : ℕ) (u w : List ℕ) → SpelledMantissa v f (drop k s) u → SpelledExponent p u w → SpelledNumber m v (p - f) (drop i s) w) where
-  raised_spelled : (v f j : ℕ) → SpelledMantissa v f (drop k s) (drop j s) → (r : Exponent) → ExponentSpelled s j r → NumberSpelled s i (raised m v f r)
+  raised_spelled : (v f j : ℕ) → SpelledMantissa v f (drop k s) (drop j s) → (r : Option Exponent) → ExponentSpelled s j r → NumberSpelled s i (raised m v f r)
   unfolding raised
-  raised_spelled v f j x Exponent.Misspelled y = tt
-  raised_spelled v f j x (Exponent.Power p l) y = make v f p (drop j s) (drop l s) x y
+  raised_spelled v f j x None y = tt
+  raised_spelled v f j x (Some z) y = make v f z.power (drop j s) (drop z.end s) x y
 
-  unsigned_spelled : (r : Mantissa) → MantissaSpelled s k r → NumberSpelled s i (unsigned s m r)
+  unsigned_spelled : (r : Option Mantissa) → MantissaSpelled s k r → NumberSpelled s i (unsigned s m r)
   unfolding unsigned
-  unsigned_spelled Mantissa.Misspelled x = tt
-  unsigned_spelled (Mantissa.Digits v f j) x = raised_spelled v f j x (exponent_at s j) (exponent_spelled s j)
+  unsigned_spelled None x = tt
+  unsigned_spelled (Some y) x = raised_spelled y.value y.behind y.end x (exponent_at s y.end) (exponent_spelled s y.end)
 
 -- a number that is read at the place i is spelled there
 pub number_spelled : (s : List ℕ) (i : ℕ) → NumberSpelled s i (number_at s i)

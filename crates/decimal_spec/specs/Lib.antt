@@ -1,5 +1,6 @@
 pub mod Number
-pub mod Spelling
-pub mod Quotient
+pub mod Parts
 pub mod Powers
+pub mod Quotient
 pub mod Samples
+pub mod Spelling

@@ -1,15 +1,16 @@
 -- T-13 in the terms of the public functions: what the reader answers to a converted file is what it answered to the file before, line and column too. Assumes nothing.
-use Rattle.std.specs.Prelude.{◌≡◌, Bool, List, ℕ, ℤ, length}
+use Rattle.std.specs.Prelude.{◌≡◌, Bool, List, ℕ, ℤ, length, Result}
 use Rattle.std.proofs.Common.{ap, ◌∙◌}
-use Rattle.file_spec.specs.declared.FileRead.{FileRead}
 use Rattle.file_spec.specs.File.{read_file, told_file, stored_file}
 use Rattle.file_spec.specs.Tabs.{read_file_before}
 use Rattle.file_tabs.specs.Files.{converted_file, told_as_before, length_detabbed}
 use Rattle.file.specs.Answers.{FileSays}
 use Rattle.file_detab.specs.Answers.{FileDetabs}
+use Rattle.terms.specs.declared.Refusal.{Refusal}
+use Rattle.file_spec.specs.declared.FileTable.{FileTable}
 
 -- "its output reads as the old reader read the input, numbers and places equal": the file as `detab_file` leaves it, given to the reader of this release
-pub reads_as_before : (file file' : List ℕ) (found : Bool) → FileDetabs file file' found → (out out' : List ℤ) (r : FileRead) → FileSays file' out out' r
+pub reads_as_before : (file file' : List ℕ) (found : Bool) → FileDetabs file file' found → (out out' : List ℤ) (r : Result FileTable Refusal) → FileSays file' out out' r
     → (r ≡ told_file file (read_file_before file (length out))) × (out' ≡ stored_file out (read_file_before file (length out)))
 reads_as_before file file' found made out out' r says =
     let e = ap (λ (l : List ℕ). read_file l (length out)) made.leaves ∙ converted_file file (length out) in (

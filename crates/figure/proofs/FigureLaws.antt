@@ -12,23 +12,23 @@ use borrow.Author.Tests.{lt-ltb, leb-true}
 use Rattle.terms.specs.Logic.{pick, by_case}
 use Rattle.table_spec.specs.Frame.{largest_abscissa}
 use Rattle.decimal_spec.specs.Quotient.{rounded_of, nearest}
-use Rattle.decimal_spec.specs.declared.Rounded.{Rounded}
 use Rattle.file_spec.specs.Figures.{exceeding, whole}
 use Rattle.file_spec.specs.declared.Decimal.{Decimal}
-use Rattle.file_spec.specs.declared.Given.TheVariants as goal
 use Rattle.figure.specs.Bounds.{RoundedIn}
+use Rattle.std.specs.Prelude.{Some, None}
+use Rattle.decimal_spec.specs.Parts.{whole_with}
 
 -- ---- factors
 
-pub exceeds_not : (d : Decimal) → d.minus ≡ true → goal.Misspelled ≡ exceeding (goal.Is d)
+pub exceeds_not : (d : Decimal) → d.minus ≡ true → None ≡ exceeding (Some d)
 unfolding exceeding
 exceeds_not d e = rw e refl
 
-pub exceeds_zero : (d : Decimal) → d.minus ≡ false → d.mantissa ≡ 0 → goal.Misspelled ≡ exceeding (goal.Is d)
+pub exceeds_zero : (d : Decimal) → d.minus ≡ false → d.mantissa ≡ 0 → None ≡ exceeding (Some d)
 unfolding exceeding
 exceeds_zero d e f = rw (e, f) refl
 
-pub exceeds : (d : Decimal) → d.minus ≡ false → (d.mantissa ≡ 0 → ⊥) → goal.Is d ≡ exceeding (goal.Is d)
+pub exceeds : (d : Decimal) → d.minus ≡ false → (d.mantissa ≡ 0 → ⊥) → Some d ≡ exceeding (Some d)
 unfolding exceeding
 exceeds d e n = rw (e, lt-ltb 0 d.mantissa (omega (arith, n))) refl
 
@@ -38,7 +38,7 @@ pub rounded_in : (limit : ℕ) (minus : Bool) (a b : ℕ) → limit ≤ largest_
 unfolding rounded_of
 rounded_in limit minus a b l =
     let q = nearest minus a b in
-    by_case (λ t. leb q limit ≡ t → RoundedIn (pick t (Rounded.Whole (pick minus (ltb 0 q) false) q) Rounded.Beyond)) (leb q limit)
+    by_case (λ t. leb q limit ≡ t → RoundedIn (pick t (Some (whole_with (pick minus (ltb 0 q) false) q)) None)) (leb q limit)
     (λ _ e. let x = leb-true q limit e in omega arith) (λ _ e. tt) refl
 
 -- a size with its sign, in 64 bits

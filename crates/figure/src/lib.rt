@@ -7,25 +7,25 @@ ghost use Rattle.table_spec.specs.Values.{signed};
 ghost use Rattle.file_spec.specs.Figures.{exceeding, ratio, whole, agrees, exact_with};
 ghost use Rattle.figure.specs.Bounds.{Small, GivenIn, Factor, FactorIn, RoundedIn};
 
-use decimal_spec::{Quotient, Rounded};
-use file_spec::{Decimal, Exactness, Given};
+use decimal_spec::{Quotient, Whole};
+use file_spec::{Decimal, Exactness};
 use frame::Frame;
 
 // A factor exceeds zero (26).
-pub fn exceed(g: Given) -> Given
+pub fn exceed(g: Option<Decimal>) -> Option<Decimal>
     requires { GivenIn g }
     ensures { (result ≡ exceeding g) × FactorIn result }
 {
     match g {
-        Given::Misspelled => Given::Misspelled,
-        Given::Is(d) => {
+        None => None,
+        Some(d) => {
             if d.minus {
-                return Given::Misspelled;
+                return None;
             }
             if d.mantissa == 0 {
-                return Given::Misspelled;
+                return None;
             }
-            Given::Is(d)
+            Some(d)
         }
     }
 }
@@ -58,7 +58,7 @@ pub fn whole_of(minus: bool, size: u64) -> i64
 }
 
 // Is the first ordinate missing, or equal to the quotient? (29)
-pub fn agree(y: i32, r: Rounded) -> bool
+pub fn agree(y: i32, r: Option<Whole>) -> bool
     requires { RoundedIn r }
     ensures { result ≡ agrees (ordinate_of y) r }
 {
@@ -67,8 +67,8 @@ pub fn agree(y: i32, r: Rounded) -> bool
         return true;
     }
     match r {
-        Rounded::Beyond => false,
-        Rounded::Whole { minus, size } => equal_to(u, minus, size),
+        None => false,
+        Some(Whole { minus, size }) => equal_to(u, minus, size),
     }
 }
 

@@ -7,14 +7,14 @@ ghost use Rattle.label_spec.specs.File.{longest_file};
 ghost use Rattle.table_spec.specs.Reading.{stored};
 ghost use Rattle.file_spec.specs.Texts.{gathered_from};
 ghost use Rattle.file_spec.specs.File.{by_records};
-ghost use Rattle.file_tabled.specs.declared.Tabled.{Tabled};
 ghost use Rattle.file.specs.Answers.{staged_by, left_by, StageSays, FileSays};
 ghost use Rattle.file_body.specs.Checks.{table_at, Laid, LaidIn};
 
 use file_check::{check_file, check_part};
-use file_spec::{FileRead, FileStaged};
-use file_tabled::{TablePlace, Tabled};
+use file_tabled::TablePlace;
 use text::refusal_in;
+use terms::{Fault, Refusal};
+use file_spec::FileTable;
 
 // Stores the ordinates of a table that was checked and found right.
 pub fn store_file(file: &[u8], out: &mut [i32], k: TablePlace)
@@ -29,22 +29,22 @@ pub fn store_file(file: &[u8], out: &mut [i32], k: TablePlace)
 }
 
 // What was checked, its ordinates stored if it has no fault.
-fn settle(file: &[u8], out: &mut [i32], c: Tabled) -> FileStaged
+fn settle(file: &[u8], out: &mut [i32], c: Result<TablePlace, Fault>) -> Result<FileTable, Fault>
     requires { LaidIn file.now (length out.old) c }
     ensures { (result ≡ staged_by c) × (out.new ≡ left_by file.now out.old c) }
 {
     match c {
-        Tabled::Refused(r) => FileStaged::Refused(r),
-        Tabled::At(k) => {
+        Err(r) => Err(r),
+        Ok(k) => {
             let table = k.table;
             store_file(file, out, k);
-            FileStaged::Accepted(table)
+            Ok(table)
         }
     }
 }
 
 // Reads the records from the place `start`, after TITLE's `=`, up to END's `##`. The reader of the blocks of a file calls it.
-pub fn read_part(file: &[u8], out: &mut [i32], start: usize, end: usize) -> FileStaged
+pub fn read_part(file: &[u8], out: &mut [i32], start: usize, end: usize) -> Result<FileTable, Fault>
     requires { (start ≤ length file.now) × (length file.now ≤ longest_file) }
     ensures { StageSays (by_records file.now (length out.old) end (gathered_from file.now start end)) out.old out.new result }
 {
@@ -54,12 +54,12 @@ pub fn read_part(file: &[u8], out: &mut [i32], start: usize, end: usize) -> File
 
 // Reads a file: any bytes, any slice. Accepted: N, F, L and what is exact, and the first N entries are the ordinates.
 // Refused: number, place, line and column in the file, and every entry is what it was.
-pub fn read_file(file: &[u8], out: &mut [i32]) -> FileRead
+pub fn read_file(file: &[u8], out: &mut [i32]) -> Result<FileTable, Refusal>
     ensures { FileSays file.now out.old out.new result }
 {
     let c = check_file(file, out.len());
     match settle(file, out, c) {
-        FileStaged::Accepted(t) => FileRead::Accepted(t),
-        FileStaged::Refused(f) => FileRead::Refused(refusal_in(file, f.number, f.place)),
+        Ok(t) => Ok(t),
+        Err(f) => Err(refusal_in(file, f.number, f.place)),
     }
 }

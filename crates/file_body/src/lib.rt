@@ -13,8 +13,8 @@ ghost use Rattle.file_body.specs.Checks.{StageChecks};
 use figure::{agree, exact_with, ratio_of};
 use file_marks::mark_in;
 use file_spec::{Needed, Numbers};
-use file_tabled::{Tabled, accepted, refused, refused_in};
-use table_read::Checked;
+use file_tabled::{TablePlace, accepted, refused, refused_in};
+use terms::Fault;
 
 // The table, in the frame that was found: 1 to 13 and 16, then 29.
 pub fn check_body(
@@ -27,7 +27,7 @@ pub fn check_body(
     last: i64,
     first_exact: bool,
     last_exact: bool,
-) -> Tabled
+) -> Result<TablePlace, Fault>
     requires { AllWithin (length file.now) x × AllSmall n × (start ≤ x.xydata.to - x.xydata.from) × (length file.now ≤ longest_file) × Carried n first_exact last_exact }
     ensures { StageChecks file.now room (body_from x start) (by_table file.now room x n start first last) result }
 {
@@ -38,8 +38,8 @@ pub fn check_body(
     let body = &file[place..to];
     let points = n.npoints as usize;
     match table_read::check_table(first, last, points, body, room) {
-        Checked::Refused(r) => refused_in(r, place),
-        Checked::First(y) => {
+        Err(r) => refused_in(r, place),
+        Ok(y) => {
             let firsty = n.firsty;
             let yfactor = n.yfactor;
             let q = ratio_of(0, firsty, yfactor);

@@ -11,18 +11,19 @@ ghost use Rattle.file_records.specs.Bounds.{AllSmall};
 ghost use Rattle.file_spec.specs.Places.{body_from, body_at, body_in, body_of};
 ghost use Rattle.file_body.specs.Checks.{StageChecks};
 
-use decimal_spec::Rounded;
 use figure::{ratio_of, whole_of};
 use file_body::check_body;
 use file_gather::gather;
 use file_marks::{list_in, mark_in};
 use file_records::figures;
-use file_spec::{Figures, Gathered, Listed, Needed, Numbers};
-use file_tabled::{Tabled, refused};
-use label_spec::Labelled;
+use file_spec::{Needed, Numbers};
+use file_tabled::{TablePlace, refused};
+use label_spec::Places;
+use decimal_spec::Whole;
+use terms::Fault;
 
 // F and L (28), then the table.
-fn check_abscissas(file: &[u8], room: usize, x: Needed, n: Numbers, start: usize) -> Tabled
+fn check_abscissas(file: &[u8], room: usize, x: Needed, n: Numbers, start: usize) -> Result<TablePlace, Fault>
     requires { AllWithin (length file.now) x × AllSmall n × (start ≤ x.xydata.to - x.xydata.from) × (length file.now ≤ longest_file) }
     ensures { StageChecks file.now room (body_from x start) (by_abscissas file.now room x n start (ratio 3 n.firstx n.xfactor).rounded) result }
 {
@@ -32,19 +33,19 @@ fn check_abscissas(file: &[u8], room: usize, x: Needed, n: Numbers, start: usize
     let f = ratio_of(3, firstx, xfactor);
     let first_rounded = f.rounded;
     match first_rounded {
-        Rounded::Beyond => {
+        None => {
             let t = x.firstx;
             refused(28, mark_in(file, t))
         }
-        Rounded::Whole { minus: m, size: p } => {
+        Some(Whole { minus: m, size: p }) => {
             let l = ratio_of(3, lastx, xfactor);
             let last_rounded = l.rounded;
             match last_rounded {
-                Rounded::Beyond => {
+                None => {
                     let t = x.lastx;
                     refused(28, mark_in(file, t))
                 }
-                Rounded::Whole { minus: k, size: q } => {
+                Some(Whole { minus: k, size: q }) => {
                     let first = whole_of(m, p);
                     let last = whole_of(k, q);
                     check_body(file, room, x, n, start, first, last, f.exact, l.exact)
@@ -55,41 +56,41 @@ fn check_abscissas(file: &[u8], room: usize, x: Needed, n: Numbers, start: usize
 }
 
 // The numbers (26), the list (27), then the rest.
-fn check_records(file: &[u8], room: usize, x: Needed) -> Tabled
+fn check_records(file: &[u8], room: usize, x: Needed) -> Result<TablePlace, Fault>
     requires { AllWithin (length file.now) x × (length file.now ≤ longest_file) }
     ensures { StageChecks file.now room (body_at x (listed_in (text_in file.now x.xydata))) (by_figures file.now room x (figures_of file.now x)) result }
 {
     match figures(file, x) {
-        Figures::Wrong(a) => refused(26, a),
-        Figures::All(n) => {
+        Err(a) => refused(26, a),
+        Ok(n) => {
             let s = x.xydata;
             match list_in(file, s) {
-                Listed::Unlisted => refused(27, mark_in(file, s)),
-                Listed::Body(start) => check_abscissas(file, room, x, n, start),
+                None => refused(27, mark_in(file, s)),
+                Some(start) => check_abscissas(file, room, x, n, start),
             }
         }
     }
 }
 
 // The records from the place `start`, after TITLE's `=`, up to END's `##` (25), then the rest.
-pub fn check_part(file: &[u8], room: usize, start: usize, end: usize) -> Tabled
+pub fn check_part(file: &[u8], room: usize, start: usize, end: usize) -> Result<TablePlace, Fault>
     requires { (start ≤ length file.now) × (length file.now ≤ longest_file) }
     ensures { StageChecks file.now room (body_in file.now (gathered_from file.now start end))
         (by_records file.now room end (gathered_from file.now start end)) result }
 {
     match gather(file, start, end) {
-        Gathered::Lacking => refused(25, end),
-        Gathered::All(x) => check_records(file, room, x),
+        None => refused(25, end),
+        Some(x) => check_records(file, room, x),
     }
 }
 
 // What a file says, with room for so many ordinates: its table and where its body stands, or a fault. Nothing lent is written to.
-pub fn check_file(file: &[u8], room: usize) -> Tabled
+pub fn check_file(file: &[u8], room: usize) -> Result<TablePlace, Fault>
     ensures { StageChecks file.now room (body_of file.now) (read_file file.now room) result }
 {
     match label_walk::labels(file) {
-        Labelled::Refused(r) => Tabled::Refused(r),
-        Labelled::Places { title: _, eq, end } => {
+        Err(r) => Err(r),
+        Ok(Places { title: _, eq, end }) => {
             let start = eq + 1;
             check_part(file, room, start, end)
         }

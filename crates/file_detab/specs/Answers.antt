@@ -1,16 +1,15 @@
 -- The public contract of the converter of files, and that the outcome is unique. Assumes nothing.
-use Rattle.std.specs.Prelude.{◌≡◌, Bool, List, ℕ}
+use Rattle.std.specs.Prelude.{◌≡◌, Bool, List, ℕ, Option, Some, None}
 use Rattle.std.proofs.Common.{sym, ◌∙◌}
 use Rattle.file_marks.specs.Spans.{Within}
-use Rattle.file_spec.specs.declared.FoundBody.{FoundBody}
-use Rattle.file_spec.specs.declared.FoundBody.TheVariants as body
 use Rattle.file_spec.specs.Places.{found_body}
 use Rattle.file_spec.specs.Tabs.{detabbed, is_found}
+use Rattle.label_spec.specs.declared.Span.{Span}
 
 -- a body that is found lies within a file of that length
-abbrev pub FoundWithin : ℕ → FoundBody → Type 0
-FoundWithin len body.Absent = Unit {0}
-FoundWithin len (body.At b) = Within len b
+abbrev pub FoundWithin : ℕ → Option Span → Type 0
+FoundWithin len None = Unit {0}
+FoundWithin len (Some b) = Within len b
 
 -- the file before and after, and the answer: is there a body?
 pub record FileDetabs (file file' : List ℕ) (r : Bool) : Type 0 where

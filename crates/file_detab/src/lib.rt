@@ -9,36 +9,36 @@ ghost use Rattle.file_detab.specs.Answers.{FoundWithin, FileDetabs};
 
 use file_gather::gather;
 use file_marks::list_in;
-use file_spec::{FoundBody, Gathered, Listed, Needed, Span};
-use label_spec::Labelled;
+use file_spec::{Needed, Span};
+use label_spec::Places;
 
 // The body, from the line after XYDATA's list on, if that is the one asked for.
-fn body_at(file: &[u8], x: Needed) -> FoundBody
+fn body_at(file: &[u8], x: Needed) -> Option<Span>
     requires { AllWithin (length file.now) x }
     ensures { (result ≡ found_at x (listed_in (text_in file.now x.xydata))) × FoundWithin (length file.now) result }
 {
     let s = x.xydata;
     match list_in(file, s) {
-        Listed::Unlisted => FoundBody::Absent,
-        Listed::Body(start) => {
+        None => None,
+        Some(start) => {
             let to = s.to;
             let from = s.from + start;
-            FoundBody::At(Span { from, to })
+            Some(Span { from, to })
         }
     }
 }
 
 // Where the body of a file's table stands, as `file_check::check_file` finds it; the numbers of the file are not looked at.
-pub fn find_body(file: &[u8]) -> FoundBody
+pub fn find_body(file: &[u8]) -> Option<Span>
     ensures { (result ≡ found_body file.now) × FoundWithin (length file.now) result }
 {
     match label_walk::labels(file) {
-        Labelled::Refused(_) => FoundBody::Absent,
-        Labelled::Places { title: _, eq, end } => {
+        Err(_) => None,
+        Ok(Places { title: _, eq, end }) => {
             let start = eq + 1;
             match gather(file, start, end) {
-                Gathered::Lacking => FoundBody::Absent,
-                Gathered::All(x) => body_at(file, x),
+                None => None,
+                Some(x) => body_at(file, x),
             }
         }
     }
@@ -49,8 +49,8 @@ pub fn detab_file(file: &mut [u8]) -> bool
     ensures { FileDetabs file.old file.new result }
 {
     match find_body(file) {
-        FoundBody::Absent => false,
-        FoundBody::At(b) => {
+        None => false,
+        Some(b) => {
             let from = b.from;
             let to = b.to;
             detab::detab(&mut file[from..to]);

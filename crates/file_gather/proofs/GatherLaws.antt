@@ -6,14 +6,14 @@ use native.Mathlib.Omega.{arith}
 use native.Mathlib.Numerals.{add-one}
 use lib.ListN.{length, get_or, drop, set, replicate, drop_of_length-le}
 use lib.Seq.{drop-cons}
-use Rattle.label_spec.specs.declared.Found.{Found}
-use Rattle.file_spec.specs.declared.Span.{Span}
-use Rattle.file_spec.specs.declared.Gathered.{Gathered}
-use Rattle.file_spec.specs.declared.Gathered.TheVariants as gathered
+use Rattle.label_spec.specs.declared.Span.{Span}
 use Rattle.file_spec.specs.Texts.{with_text, text_of, gathered_from}
 use Rattle.file_marks.specs.Spans.{Within}
 use Rattle.file_gather.specs.Order.{NAMES, name_at, none, needed_of}
 use Rattle.file_gather.specs.Bounds.{AllWithin}
+use Rattle.std.specs.Prelude.{Option, Some, None}
+use Rattle.file_spec.specs.declared.Needed.{Needed}
+use Rattle.label_spec.specs.Parts.{span_of}
 
 -- not the n-th, so past it
 pub past : {n k : ℕ} → (k ≡ n → ⊥) → n ≤ k → n + 1 ≤ k
@@ -45,8 +45,8 @@ inside_set (x ∷ l) (suc k) h w (suc j) = inside_set l k (λ i. h (suc i)) w j
 
 module _ (s : List ℕ) (start stop : ℕ) where
   -- the answer, where the records with these names are still to be found, the first of them the k-th
-  unfoldable pub gathering : List (List ℕ) → ℕ → List Span → Gathered
-  gathering [] k l = gathered.All (needed_of l)
+  unfoldable pub gathering : List (List ℕ) → ℕ → List Span → Option Needed
+  gathering [] k l = Some (needed_of l)
   gathering (w ∷ ws) k l = with_text (text_of s start stop w) (λ t. gathering ws (k + 1) (set l k t))
 
   -- so far: k records are found, and what is left gives the answer
@@ -65,14 +65,14 @@ module _ (s : List ℕ) (start stop : ℕ) where
     unfolding gathering
     next h = g.law ∙ rw (drop-cons NAMES k [] h, add-one k) refl
 
-    pub gathers_lacking : k < 7 → text_of s start stop (name_at k) ≡ Found.Absent → gathered.Lacking ≡ gathered_from s start stop
+    pub gathers_lacking : k < 7 → text_of s start stop (name_at k) ≡ None → None ≡ gathered_from s start stop
     gathers_lacking h e = sym (next h ∙ rw e refl)
 
-    pub gathers_on : {a b : ℕ} → k < 7 → text_of s start stop (name_at k) ≡ Found.Text a b → (start ≤ a) × (a ≤ b) × (b ≤ length s)
+    pub gathers_on : {a b : ℕ} → k < 7 → text_of s start stop (name_at k) ≡ Some (span_of a b) → (start ≤ a) × (a ≤ b) × (b ≤ length s)
         → Gathers (k + 1) (set l k (record { from = a; to = b }))
     gathers_on h e f = record { few = omega arith; inside = inside_set l k g.inside (record { low = f.1; high = f.2 }); law = next h ∙ rw e refl }
 
-    pub gathers_all : 7 ≤ k → gathered.All (needed_of l) ≡ gathered_from s start stop
+    pub gathers_all : 7 ≤ k → Some (needed_of l) ≡ gathered_from s start stop
     unfolding gathering
     gathers_all h = sym (g.law ∙ rw (drop_of_length-le NAMES h) refl)
 

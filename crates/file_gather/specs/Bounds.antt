@@ -1,9 +1,7 @@
 -- Bounds of the seven records, which callers need. Assumes nothing.
-use Rattle.std.specs.Prelude.{ℕ}
+use Rattle.std.specs.Prelude.{ℕ, Option, Some, None}
 use Rattle.file_marks.specs.Spans.{Within}
 use Rattle.file_spec.specs.declared.Needed.{Needed}
-use Rattle.file_spec.specs.declared.Gathered.{Gathered}
-use Rattle.file_spec.specs.declared.Gathered.TheVariants as gathered
 
 -- each of the seven texts lies in the file
 pub record AllWithin (len : ℕ) (t : Needed) : Type 0 where
@@ -16,6 +14,6 @@ pub record AllWithin (len : ℕ) (t : Needed) : Type 0 where
   pub xydata : Within len t.xydata
 
 -- where none is lacking
-abbrev pub GatheredIn : ℕ → Gathered → Type 0
-GatheredIn len (gathered.All t) = AllWithin len t
-GatheredIn len gathered.Lacking = Unit
+abbrev pub GatheredIn : ℕ → Option Needed → Type 0
+GatheredIn len (Some t) = AllWithin len t
+GatheredIn len None = Unit

@@ -7,12 +7,11 @@ ghost use Rattle.label.specs.Answers.{found_in};
 ghost use Rattle.file_gather.specs.Order.{name_at, needed_of};
 ghost use Rattle.file_gather.specs.Bounds.{GatheredIn};
 
-use file_spec::{Gathered, Needed, Span};
+use file_spec::{Needed, Span};
 use label::find_record;
-use label_spec::Found;
 
 // The text of one of the seven records that a table needs, counted in the order that 25 lists.
-fn record_at(file: &[u8], start: usize, stop: usize, k: usize) -> Found
+fn record_at(file: &[u8], start: usize, stop: usize, k: usize) -> Option<Span>
     requires { (start ≤ length file.now) × (k < 7) }
     ensures { (result ≡ text_of file.now start stop (name_at k)) × found_in start (length file.now) result }
 {
@@ -43,16 +42,16 @@ fn needed(texts: [Span; 7]) -> Needed
 }
 
 // The seven records, among the labels from a place on and before END's (25).
-pub fn gather(file: &[u8], start: usize, stop: usize) -> Gathered
+pub fn gather(file: &[u8], start: usize, stop: usize) -> Option<Needed>
     requires { start ≤ length file.now }
     ensures { (result ≡ gathered_from file.now start stop) × GatheredIn (length file.now) result }
 {
     let mut texts = [Span { from: 0, to: 0 }; 7];
     for k in 0..7 {
-        let Found::Text { from, to } = record_at(file, start, stop, k) else {
-            return Gathered::Lacking;
+        let Some(Span { from, to }) = record_at(file, start, stop, k) else {
+            return None;
         };
         texts[k] = Span { from, to };
     }
-    Gathered::All(needed(texts))
+    Some(needed(texts))
 }

@@ -10,13 +10,12 @@ use Rattle.terms.specs.Logic.{pick, both, by_case}
 use Rattle.table_spec.specs.Frame.{lift}
 use Rattle.frame.specs.Legal.{lifted}
 use Rattle.file_spec.specs.declared.Decimal.{Decimal}
-use Rattle.file_spec.specs.declared.Given.TheVariants as goal
 use Rattle.file_write_spec.specs.declared.GivenDecimal.{GivenDecimal}
 use Rattle.file_write_spec.specs.Decimals.{negative, decimal_of, decimal_taken}
-use Rattle.file_spec.specs.declared.Figures.TheVariants as figures
 use Rattle.file_spec.specs.Figures.{exceeding}
 use Rattle.file_write_spec.specs.declared.Scales.{Scales}
 use Rattle.file_given.specs.Taking.{given_of, from_firstx, figures_for}
+use Rattle.std.specs.Prelude.{Some, None, Ok, Err}
 
 -- a number below k in size, and one that is not
 pub small_not : (k : ℕ) (z : ℤ) → k ≤ 9999999999 → lifted z ≤ 10000000000 - k → k ≤ nat_abs z
@@ -66,18 +65,18 @@ power_at (negsuc n) = by_case (λ q. 9999999900 < pick q (10000000000 - suc n) 0
     (λ _ a b. (omega arith, omega arith)) (λ _ a b. absurd (omega arith))
 
 module _ (d : GivenDecimal) where
-  pub no_mantissa : 1000000000 ≤ nat_abs d.mantissa → goal.Misspelled ≡ given_of d
+  pub no_mantissa : 1000000000 ≤ nat_abs d.mantissa → None ≡ given_of d
   unfolding given_of decimal_taken
   no_mantissa h = rw (le-ltb (nat_abs d.mantissa) 1000000000 h) refl
 
-  pub no_exponent : 100 ≤ nat_abs d.exponent → goal.Misspelled ≡ given_of d
+  pub no_exponent : 100 ≤ nat_abs d.exponent → None ≡ given_of d
   unfolding given_of decimal_taken
   no_exponent h =
       rw (le-ltb (nat_abs d.exponent) 100 h)
-      (by_case (λ q. goal.Misspelled ≡ pick (both q false) (goal.Is (decimal_of d)) goal.Misspelled) (ltb (nat_abs d.mantissa) 1000000000) (λ _. refl) (λ _. refl))
+      (by_case (λ q. None ≡ pick (both q false) (Some (decimal_of d)) None) (ltb (nat_abs d.mantissa) 1000000000) (λ _. refl) (λ _. refl))
 
   pub is_given : {minus : Bool} {size p : ℕ} → Lifted 1000000000 d.mantissa minus size → nat_abs d.exponent < 100 → p ≡ lift 200 d.exponent
-      → goal.Is (record { minus = minus; mantissa = size; power = p }) ≡ given_of d
+      → Some (record { minus = minus; mantissa = size; power = p }) ≡ given_of d
   unfolding given_of decimal_taken
   is_given x h e = rw (lt-ltb (nat_abs d.mantissa) 1000000000 x.small, lt-ltb (nat_abs d.exponent) 100 h, e, ← x.sign, ← x.is) refl
 
@@ -87,13 +86,13 @@ module _ (d : GivenDecimal) where
     power_of = rw b (power_at d.exponent (rw b at l) (rw b at h))
 
     pub given_below : 9000000000 < u → u < 10000000000
-        → (goal.Is (record { minus = true; mantissa = 10000000000 - u; power = v - 9999999800 }) ≡ given_of d) × (10000000000 - u < 1000000000) × (v - 9999999800 < 300)
+        → (Some (record { minus = true; mantissa = 10000000000 - u; power = v - 9999999800 }) ≡ given_of d) × (10000000000 - u < 1000000000) × (v - 9999999800 < 300)
     given_below x y =
         let m : Lifted 1000000000 d.mantissa true (10000000000 - u) = rw a (below 1000000000 d.mantissa (omega arith) (rw a at x) (rw a at y)) in
         (is_given m power_of.0 power_of.1, omega arith, omega arith)
 
     pub given_above : 10000000000 ≤ u → u < 11000000000
-        → (goal.Is (record { minus = false; mantissa = u - 10000000000; power = v - 9999999800 }) ≡ given_of d) × (u - 10000000000 < 1000000000) × (v - 9999999800 < 300)
+        → (Some (record { minus = false; mantissa = u - 10000000000; power = v - 9999999800 }) ≡ given_of d) × (u - 10000000000 < 1000000000) × (v - 9999999800 < 300)
     given_above x y =
         let m : Lifted 1000000000 d.mantissa false (u - 10000000000) = rw a (above 1000000000 d.mantissa (rw a at x) (rw a at y)) in
         (is_given m power_of.0 power_of.1, omega arith, omega arith)
@@ -101,35 +100,35 @@ module _ (d : GivenDecimal) where
 -- ---- the five, one after the other
 
 module _ (c : Scales) (n : ℕ) where
-  pub xfactor_wrong : exceeding (given_of c.xfactor) ≡ goal.Misspelled → figures.Wrong 0 ≡ figures_for c n
+  pub xfactor_wrong : exceeding (given_of c.xfactor) ≡ None → Err 0 ≡ figures_for c n
   unfolding figures_for
   xfactor_wrong e = rw e refl
 
-  module _ {xf : Decimal} (e : exceeding (given_of c.xfactor) ≡ goal.Is xf) where
-    pub yfactor_wrong : exceeding (given_of c.yfactor) ≡ goal.Misspelled → figures.Wrong 0 ≡ figures_for c n
+  module _ {xf : Decimal} (e : exceeding (given_of c.xfactor) ≡ Some xf) where
+    pub yfactor_wrong : exceeding (given_of c.yfactor) ≡ None → Err 0 ≡ figures_for c n
     unfolding figures_for
     yfactor_wrong f = rw (e, f) refl
 
-    pub factors_right : {yf : Decimal} → exceeding (given_of c.yfactor) ≡ goal.Is yf → from_firstx c n xf yf ≡ figures_for c n
+    pub factors_right : {yf : Decimal} → exceeding (given_of c.yfactor) ≡ Some yf → from_firstx c n xf yf ≡ figures_for c n
     unfolding figures_for
     factors_right f = rw (e, f) refl
 
   module _ (xf yf : Decimal) where
-    pub firstx_wrong : given_of c.firstx ≡ goal.Misspelled → figures.Wrong 0 ≡ from_firstx c n xf yf
+    pub firstx_wrong : given_of c.firstx ≡ None → Err 0 ≡ from_firstx c n xf yf
     unfolding from_firstx
     firstx_wrong e = rw e refl
 
-    module _ {fx : Decimal} (e : given_of c.firstx ≡ goal.Is fx) where
-      pub lastx_wrong : given_of c.lastx ≡ goal.Misspelled → figures.Wrong 0 ≡ from_firstx c n xf yf
+    module _ {fx : Decimal} (e : given_of c.firstx ≡ Some fx) where
+      pub lastx_wrong : given_of c.lastx ≡ None → Err 0 ≡ from_firstx c n xf yf
       unfolding from_firstx
       lastx_wrong f = rw (e, f) refl
 
-      module _ {lx : Decimal} (f : given_of c.lastx ≡ goal.Is lx) where
-        pub firsty_wrong : given_of c.firsty ≡ goal.Misspelled → figures.Wrong 0 ≡ from_firstx c n xf yf
+      module _ {lx : Decimal} (f : given_of c.lastx ≡ Some lx) where
+        pub firsty_wrong : given_of c.firsty ≡ None → Err 0 ≡ from_firstx c n xf yf
         unfolding from_firstx
         firsty_wrong g = rw (e, f, g) refl
 
-        pub all_right : {fy : Decimal} → given_of c.firsty ≡ goal.Is fy
-            → figures.All (record { xfactor = xf; yfactor = yf; firstx = fx; lastx = lx; npoints = n; firsty = fy }) ≡ from_firstx c n xf yf
+        pub all_right : {fy : Decimal} → given_of c.firsty ≡ Some fy
+            → Ok (record { xfactor = xf; yfactor = yf; firstx = fx; lastx = lx; npoints = n; firsty = fy }) ≡ from_firstx c n xf yf
         unfolding from_firstx
         all_right g = rw (e, f, g) refl

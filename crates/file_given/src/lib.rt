@@ -9,7 +9,7 @@ ghost use Rattle.file_given.specs.Titles.{fair_byte};
 ghost use Rattle.file_given.specs.Taking.{given_of, from_firstx, figures_for};
 
 use figure::exceed;
-use file_spec::{Decimal, Figures, Given, Numbers};
+use file_spec::{Decimal, Numbers};
 use file_write_spec::{GivenDecimal, Scales};
 use text::byte_at;
 
@@ -69,7 +69,7 @@ pub fn title_fair(title: &[u8]) -> bool
 }
 
 // The decimal that a mantissa and an exponent are, or that one of them is outside its rule (26).
-fn decimal_of(d: GivenDecimal) -> Given
+fn decimal_of(d: GivenDecimal) -> Option<Decimal>
     ensures { (result ≡ given_of d) × GivenIn result }
 {
     let m = d.mantissa;
@@ -77,28 +77,28 @@ fn decimal_of(d: GivenDecimal) -> Given
     let u = frame::lift(m);
     let v = frame::lift(e);
     if u <= BELOW_MANTISSAS {
-        return Given::Misspelled;
+        return None;
     }
     if u >= ABOVE_MANTISSAS {
-        return Given::Misspelled;
+        return None;
     }
     if v <= BELOW_EXPONENTS {
-        return Given::Misspelled;
+        return None;
     }
     if v >= ABOVE_EXPONENTS {
-        return Given::Misspelled;
+        return None;
     }
     let power = v - ORIGIN;
     if u < ZERO {
         let below = ZERO - u;
-        return Given::Is(Decimal {
+        return Some(Decimal {
             minus: true,
             mantissa: below,
             power,
         });
     }
     let above = u - ZERO;
-    Given::Is(Decimal {
+    Some(Decimal {
         minus: false,
         mantissa: above,
         power,
@@ -106,29 +106,29 @@ fn decimal_of(d: GivenDecimal) -> Given
 }
 
 // A factor: it exceeds zero too (26).
-fn factor_of(d: GivenDecimal) -> Given
+fn factor_of(d: GivenDecimal) -> Option<Decimal>
     ensures { (result ≡ exceeding (given_of d)) × FactorIn result }
 {
     exceed(decimal_of(d))
 }
 
 // FIRSTX, LASTX and FIRSTY, after the factors.
-fn figures_from_firstx(c: Scales, points: u64, xfactor: Decimal, yfactor: Decimal) -> Figures
+fn figures_from_firstx(c: Scales, points: u64, xfactor: Decimal, yfactor: Decimal) -> Result<Numbers, usize>
     ensures { result ≡ from_firstx c points xfactor yfactor }
 {
     let one = c.firstx;
-    let Given::Is(firstx) = decimal_of(one) else {
-        return Figures::Wrong(0);
+    let Some(firstx) = decimal_of(one) else {
+        return Err(0);
     };
     let two = c.lastx;
-    let Given::Is(lastx) = decimal_of(two) else {
-        return Figures::Wrong(0);
+    let Some(lastx) = decimal_of(two) else {
+        return Err(0);
     };
     let three = c.firsty;
-    let Given::Is(firsty) = decimal_of(three) else {
-        return Figures::Wrong(0);
+    let Some(firsty) = decimal_of(three) else {
+        return Err(0);
     };
-    Figures::All(Numbers {
+    Ok(Numbers {
         xfactor,
         yfactor,
         firstx,
@@ -139,16 +139,16 @@ fn figures_from_firstx(c: Scales, points: u64, xfactor: Decimal, yfactor: Decima
 }
 
 // The numbers that a file says, or that one of them is outside its rule (26).
-pub fn figures_of(c: Scales, points: u64) -> Figures
+pub fn figures_of(c: Scales, points: u64) -> Result<Numbers, usize>
     ensures { result ≡ figures_for c points }
 {
     let one = c.xfactor;
-    let Given::Is(xfactor) = factor_of(one) else {
-        return Figures::Wrong(0);
+    let Some(xfactor) = factor_of(one) else {
+        return Err(0);
     };
     let two = c.yfactor;
-    let Given::Is(yfactor) = factor_of(two) else {
-        return Figures::Wrong(0);
+    let Some(yfactor) = factor_of(two) else {
+        return Err(0);
     };
     figures_from_firstx(c, points, xfactor, yfactor)
 }

@@ -1,5 +1,5 @@
 -- A file that is accepted has a table that is accepted: N ordinates, at most 65,536, and room for them. Assumes nothing.
-use Rattle.std.specs.Prelude.{◌≡◌, true, false, List, ℕ, suc, ◌+◌, ◌≤◌, leb, eqb, ℤ, length, get_or}
+use Rattle.std.specs.Prelude.{◌≡◌, true, false, List, ℕ, suc, ◌+◌, ◌≤◌, leb, eqb, ℤ, length, get_or, Option, Some, None, Result, Ok, Err}
 use Rattle.std.proofs.Math.Path.{refl}
 use Rattle.std.proofs.Math.ListN.{drop}
 use Rattle.std.proofs.Common.{leb-true}
@@ -9,20 +9,15 @@ use Rattle.table_spec.specs.Reading.{Answer, refuse, accept, read_table}
 use Rattle.table_law.proofs.Outcome.{accepted_allowed, accepted_count, accepted_small}
 use Rattle.table_law.specs.Small.{Small}
 use Rattle.label_spec.specs.File.{labelled}
-use Rattle.label_spec.specs.declared.Labelled.{Labelled}
-use Rattle.decimal_spec.specs.declared.Rounded.{Rounded}
 use Rattle.file_spec.specs.declared.Needed.{Needed}
-use Rattle.file_spec.specs.declared.Gathered.{Gathered}
-use Rattle.file_spec.specs.declared.Gathered.TheVariants as gathered
 use Rattle.file_spec.specs.declared.Numbers.{Numbers}
-use Rattle.file_spec.specs.declared.Figures.{Figures}
-use Rattle.file_spec.specs.declared.Figures.TheVariants as figures
-use Rattle.file_spec.specs.declared.Listed.{Listed}
-use Rattle.file_spec.specs.declared.Listed.TheVariants as listed
 use Rattle.file_spec.specs.declared.FileTable.{FileTable}
 use Rattle.file_spec.specs.Texts.{gathered_from, text_in, mark_of, listed_in}
 use Rattle.file_spec.specs.Figures.{figures_of, ratio, abscissa_of, whole, agrees, exactness_of}
 use Rattle.file_spec.specs.File.{FileAnswer, refuse_file, accept_file, by_first, table_by, last_by, abscissas_by, list_by, figures_by, records_by, labels_by, read_file_by, read_file}
+use Rattle.label_spec.specs.declared.Places.{Places}
+use Rattle.decimal_spec.specs.declared.Whole.{Whole}
+use Rattle.terms.specs.declared.Fault.{Fault}
 
 -- a table of n points with these ordinates, each below 2^32 as y + 2^31, and room for them
 pub record Holds (space n : ℕ) (ys : List ℕ) : Type 0 where
@@ -65,35 +60,35 @@ module _ (s : List ℕ) (space : ℕ) where
   good_table t n start f l =
       let body = drop start (text_in s t.xydata) in good_first t n f l (t.xydata.from + start) body (read_table f l n.npoints body space) refl
 
-  good_last : (t : Needed) (n : Numbers) (start : ℕ) (f : ℤ) (r : Rounded) → Good space (last_by read_table s space t n start f r)
+  good_last : (t : Needed) (n : Numbers) (start : ℕ) (f : ℤ) (r : Option Whole) → Good space (last_by read_table s space t n start f r)
   unfolding last_by
-  good_last t n start f Rounded.Beyond = tt
-  good_last t n start f (Rounded.Whole minus q) = good_table t n start f (whole minus q)
+  good_last t n start f None = tt
+  good_last t n start f (Some x) = good_table t n start f (whole x.minus x.size)
 
-  good_abscissas : (t : Needed) (n : Numbers) (start : ℕ) (r : Rounded) → Good space (abscissas_by read_table s space t n start r)
+  good_abscissas : (t : Needed) (n : Numbers) (start : ℕ) (r : Option Whole) → Good space (abscissas_by read_table s space t n start r)
   unfolding abscissas_by
-  good_abscissas t n start Rounded.Beyond = tt
-  good_abscissas t n start (Rounded.Whole minus q) = good_last t n start (whole minus q) (abscissa_of n.lastx n.xfactor).rounded
+  good_abscissas t n start None = tt
+  good_abscissas t n start (Some x) = good_last t n start (whole x.minus x.size) (abscissa_of n.lastx n.xfactor).rounded
 
-  good_list : (t : Needed) (n : Numbers) (x : Listed) → Good space (list_by read_table s space t n x)
+  good_list : (t : Needed) (n : Numbers) (x : Option ℕ) → Good space (list_by read_table s space t n x)
   unfolding list_by
-  good_list t n listed.Unlisted = tt
-  good_list t n (listed.Body start) = good_abscissas t n start (abscissa_of n.firstx n.xfactor).rounded
+  good_list t n None = tt
+  good_list t n (Some start) = good_abscissas t n start (abscissa_of n.firstx n.xfactor).rounded
 
-  good_figures : (t : Needed) (x : Figures) → Good space (figures_by read_table s space t x)
+  good_figures : (t : Needed) (x : Result Numbers ℕ) → Good space (figures_by read_table s space t x)
   unfolding figures_by
-  good_figures t (figures.Wrong a) = tt
-  good_figures t (figures.All n) = good_list t n (listed_in (text_in s t.xydata))
+  good_figures t (Err a) = tt
+  good_figures t (Ok n) = good_list t n (listed_in (text_in s t.xydata))
 
-  good_records : (stop : ℕ) (x : Gathered) → Good space (records_by read_table s space stop x)
+  good_records : (stop : ℕ) (x : Option Needed) → Good space (records_by read_table s space stop x)
   unfolding records_by
-  good_records stop gathered.Lacking = tt
-  good_records stop (gathered.All t) = good_figures t (figures_of s t)
+  good_records stop None = tt
+  good_records stop (Some t) = good_figures t (figures_of s t)
 
-  good_labels : (x : Labelled) → Good space (labels_by read_table s space x)
+  good_labels : (x : Result Places Fault) → Good space (labels_by read_table s space x)
   unfolding labels_by
-  good_labels (Labelled.Refused r) = tt
-  good_labels (Labelled.Places m e x) = good_records x (gathered_from s (suc e) x)
+  good_labels (Err r) = tt
+  good_labels (Ok y) = good_records y.end (gathered_from s (suc y.eq) y.end)
 
   pub good_file : Good space (read_file s space)
   unfolding read_file_by

@@ -12,8 +12,6 @@ use borrow.Rule.Slice.PartMut.{mid_of, put_mid, put_same}
 use Rattle.terms.specs.Logic.{pick, by_case, zero_one}
 use Rattle.terms.specs.Refusals.{fault_at}
 use Rattle.terms.specs.declared.Fault.{Fault}
-use Rattle.terms.specs.declared.TableWritten.{TableWritten}
-use Rattle.terms.specs.declared.TableWritten.TheVariants.{Length, Refused}
 use Rattle.label_spec.specs.Names.{END}
 use Rattle.table_spec.specs.declared.Style.TheVariants.{Difdup}
 use Rattle.table_spec.specs.Writing.{declined, wrote, fitted, write_table, laid}
@@ -24,13 +22,14 @@ use Rattle.table_text.specs.Answers.{told, Tells}
 use Rattle.table_text.specs.Pieces.{Put}
 use Rattle.file_spec.specs.declared.Numbers.{Numbers}
 use Rattle.file_spec.specs.declared.Exactness.{Exactness}
-use Rattle.file_write_spec.specs.declared.FileWritten.{FileWritten}
 use Rattle.file_write_spec.specs.Records.{Entry, entry_text, entries_text}
 use Rattle.file_write_spec.specs.File.{end_line}
 use Rattle.file_lines.specs.Lines.{heading_of}
 use Rattle.file_lay.specs.Answers.{told_file_lem, FileTells}
 use Rattle.file_plan.specs.Stages.{laid_out, body_of, Framed}
 use Rattle.file_lay.proofs.Laying.{parts_laid}
+use Rattle.std.specs.Prelude.{Result, Ok, Err}
+use Rattle.file_write_spec.specs.declared.FileLength.{FileLength}
 
 -- the part of the bytes that the table is lent
 mid_length : (t : List ℕ) (h : ℕ) → h + 8 ≤ length t → length (mid_of h (length t - 8 - h) t) ≡ length t - 8 - h
@@ -48,26 +47,26 @@ module _ (f l : ℤ) (n : ℕ) (es : List ℤ) (T : Framed f l n es) where
   body_bound = wrote_body Difdup f l n es (length B) B (table_is (length B) ∙ fits_most B (length B) (omega arith))
 
   -- what the table's writer says of the part o
-  pub table_refused : (o o' : List ℕ) {x : TableWritten} {r : Fault} → x ≡ Refused r → Tells (write_table Difdup f l n es (length o)) o o' x → (length o < length B) × (o' ≡ o)
+  pub table_refused : (o o' : List ℕ) {x : Result ℕ Fault} {r : Fault} → x ≡ Err r → Tells (write_table Difdup f l n es (length o)) o o' x → (length o < length B) × (o' ≡ o)
   unfolding laid
   table_refused o o' {x} {r} e t =
-      by_case (λ q. ltb (length o) (length B) ≡ q → Refused r ≡ told (pick q (declined 15) (wrote B)) → o' ≡ laid o (pick q (declined 15) (wrote B)) → (length o < length B) × (o' ≡ o))
+      by_case (λ q. ltb (length o) (length B) ≡ q → Err r ≡ told (pick q (declined 15) (wrote B)) → o' ≡ laid o (pick q (declined 15) (wrote B)) → (length o < length B) × (o' ≡ o))
       (ltb (length o) (length B))
       (λ _ q a b. (ltb-true (length o) (length B) q, b)) (λ _ q a b. zero_one cc) refl
       (sym e ∙ t.answer ∙ ap told (table_is (length o))) (t.bytes ∙ ap (laid o) (table_is (length o)))
 
-  pub table_wrote : (o o' : List ℕ) {x : TableWritten} {m : ℕ} → x ≡ Length m → Tells (write_table Difdup f l n es (length o)) o o' x
+  pub table_wrote : (o o' : List ℕ) {x : Result ℕ Fault} {m : ℕ} → x ≡ Ok m → Tells (write_table Difdup f l n es (length o)) o o' x
       → (length B ≤ length o) × (m ≡ length B) × (o' ≡ sets o 0 B)
   unfolding laid
   table_wrote o o' {x} {m} e t =
-      by_case (λ q. ltb (length o) (length B) ≡ q → Length m ≡ told (pick q (declined 15) (wrote B)) → o' ≡ laid o (pick q (declined 15) (wrote B))
+      by_case (λ q. ltb (length o) (length B) ≡ q → Ok m ≡ told (pick q (declined 15) (wrote B)) → o' ≡ laid o (pick q (declined 15) (wrote B))
       → (length B ≤ length o) × (m ≡ length B) × (o' ≡ sets o 0 B))
       (ltb (length o) (length B))
       (λ _ q a b. zero_one cc) (λ _ q a b. (ltb-false (length o) (length B) q, cc, b)) refl
       (sym e ∙ t.answer ∙ ap told (table_is (length o))) (t.bytes ∙ ap (laid o) (table_is (length o)))
 
   -- what is said of the table's length
-  pub table_measured : {x : TableWritten} → Measured Difdup f l n es x → x ≡ Length (length B)
+  pub table_measured : {x : Result ℕ Fault} → Measured Difdup f l n es x → x ≡ Ok (length B)
   table_measured e =
       let most = wrote_most Difdup f l n es (length B) B (table_is (length B) ∙ fits_most B (length B) (omega arith)) in
       e ∙ ap told (table_is (enough n) ∙ fits_most B (enough n) most)
@@ -94,18 +93,18 @@ module _ (title : List ℕ) (m : Numbers) (body t : List ℕ) where
 
   -- the lengths of the three parts
   pub length_whole : {q : Exactness} (h k : ℕ) → h ≡ length H → k ≡ length body
-      → FileWritten.Length (record { length = h + k + 8; exact = q }) ≡ told_file_lem q (wrote (laid_out title m body))
+      → Ok (record { length = h + k + 8; exact = q }) ≡ told_file_lem q (wrote (laid_out title m body))
   length_whole {q} h k e b = let z : h + k + 8 ≡ length (laid_out title m body) = omega (arith, whole_length) in rw z refl
 
-  tells_15 : {q : Exactness} {r : FileWritten} → length t < length (laid_out title m body) → r ≡ FileWritten.Refused (fault_at 15 0) → FileTells q (fitted (length t) (laid_out title m body)) t t r
+  tells_15 : {q : Exactness} {r : Result FileLength Fault} → length t < length (laid_out title m body) → r ≡ Err (fault_at 15 0) → FileTells q (fitted (length t) (laid_out title m body)) t t r
   unfolding laid
   tells_15 {q} {r} h e = let l = lt-ltb (length t) (length (laid_out title m body)) h in record { answer = rw (l, e) refl; bytes = rw l refl }
 
-  pub too_short : {q : Exactness} {r : FileWritten} (h : ℕ) → h ≡ length H → length t < h + 8 → r ≡ FileWritten.Refused (fault_at 15 0) → FileTells q (fitted (length t) (laid_out title m body)) t t r
+  pub too_short : {q : Exactness} {r : Result FileLength Fault} (h : ℕ) → h ≡ length H → length t < h + 8 → r ≡ Err (fault_at 15 0) → FileTells q (fitted (length t) (laid_out title m body)) t t r
   too_short h e l x = tells_15 (omega (arith, whole_length)) x
 
-  pub not_fitting : {q : Exactness} {r : FileWritten} {o : List ℕ} (h : ℕ) → h ≡ length H → h + 8 ≤ length t → length (mid_of h (length t - 8 - h) t) < length body → o ≡ mid_of h (length t - 8 - h) t
-      → r ≡ FileWritten.Refused (fault_at 15 0) → FileTells q (fitted (length t) (laid_out title m body)) t (put_mid h (length t - 8 - h) t o) r
+  pub not_fitting : {q : Exactness} {r : Result FileLength Fault} {o : List ℕ} (h : ℕ) → h ≡ length H → h + 8 ≤ length t → length (mid_of h (length t - 8 - h) t) < length body → o ≡ mid_of h (length t - 8 - h) t
+      → r ≡ Err (fault_at 15 0) → FileTells q (fitted (length t) (laid_out title m body)) t (put_mid h (length t - 8 - h) t o) r
   not_fitting {q} {r} {o} h e l b s x =
       let k = length t - 8 - h in
       let w : length t < length (laid_out title m body) = omega (arith, whole_length, mid_length t h l) in
@@ -120,7 +119,7 @@ module _ (title : List ℕ) (m : Numbers) (body t : List ℕ) where
 
   pub fitting : {q : Exactness} {o u v : List ℕ} {h' r : ℕ} (h j : ℕ) → h ≡ length H → h + 8 ≤ length t → length body ≤ length (mid_of h (length t - 8 - h) t) → j ≡ length body
       → o ≡ sets (mid_of h (length t - 8 - h) t) 0 body → Put (put_mid h (length t - 8 - h) t o) 0 u h' H → Put u (h + j) v r (entry_text end_line)
-      → FileTells q (fitted (length t) (laid_out title m body)) t v (FileWritten.Length (record { length = r; exact = q }))
+      → FileTells q (fitted (length t) (laid_out title m body)) t v (Ok (record { length = r; exact = q }))
   unfolding laid
   fitting {q} {o} {u} {v} {h'} {r} h j e l b i s x y =
       let k = length t - 8 - h in

@@ -5,25 +5,24 @@ ghost use Rattle.std.specs.Prelude.{◌≡◌, ◌≤◌, length};
 ghost use Rattle.terms.specs.Refusals.{fault_at};
 ghost use Rattle.table_spec.specs.Writing.{fitted};
 ghost use Rattle.file_write_spec.specs.Records.{entries_text};
-ghost use Rattle.file_write_spec.specs.declared.FileWritten.{FileWritten};
 ghost use Rattle.file_lines.specs.Lines.{AllWritable, heading_of};
 ghost use Rattle.file_plan.specs.Stages.{laid_out, body_of, Framed};
 ghost use Rattle.file_lay.specs.Answers.{FileTells};
 
 use file_lines::{put_heading, put_line};
 use file_spec::{Exactness, Numbers};
-use file_write_spec::{FileLength, FileWritten};
+use file_write_spec::FileLength;
 use table_write::write_table;
-use terms::{Fault, TableWritten};
+use terms::Fault;
 
 // How many bytes END's record has, with its line end.
 pub const END_LINE: usize = 8;
 
 // A refusal of the writer: its place is 0.
-pub fn refused(number: u64) -> FileWritten
-    ensures { result ≡ FileWritten.Refused (fault_at number 0) }
+pub fn refused(number: u64) -> Result<FileLength, Fault>
+    ensures { result ≡ Err (fault_at number 0) }
 {
-    FileWritten::Refused(Fault::new(number, 0))
+    Err(Fault::new(number, 0))
 }
 
 // How long all that stands before the body is: nothing is stored.
@@ -44,7 +43,7 @@ pub fn lay(
     exact: Exactness,
     ordinates: &[i32],
     text: &mut [u8],
-) -> FileWritten
+) -> Result<FileLength, Fault>
     requires { (length title.now ≤ 72) × AllWritable n × Framed first last n.npoints ordinates.now }
     ensures { FileTells exact (fitted (length text.old) (laid_out title.now n (body_of first last n.npoints ordinates.now)))
         text.old text.new result }
@@ -57,12 +56,12 @@ pub fn lay(
     let stop = len - END_LINE;
     let points = n.npoints as usize;
     match write_table(first, last, points, ordinates, &mut text[head..stop]) {
-        TableWritten::Refused(_) => refused(15),
-        TableWritten::Length(k) => {
+        Err(_) => refused(15),
+        Ok(k) => {
             put_heading(text, title, n);
             let at = head + k;
             let length = put_line(text, at, b"END", &title[..0]);
-            FileWritten::Length(FileLength { length, exact })
+            Ok(FileLength { length, exact })
         }
     }
 }

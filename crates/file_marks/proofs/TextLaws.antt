@@ -12,9 +12,9 @@ use borrow.Author.Tests.{eq-eqb, ne_eqb, leb-true, leb-false}
 use Rattle.terms.specs.Logic.{pick, by_case}
 use Rattle.label_spec.specs.SharedLaws.{first_byte}
 use Rattle.file_spec.specs.Texts.{spacing, first_mark, LIST, ended, matched, listed_as, text_in}
-use Rattle.file_spec.specs.declared.Listed.TheVariants as listed
 use Rattle.file_marks.specs.Spans.{list_step, ListedWithin, Within}
-use Rattle.file_spec.specs.declared.Span.{Span}
+use Rattle.label_spec.specs.declared.Span.{Span}
+use Rattle.std.specs.Prelude.{Some, None}
 
 -- the byte after a place
 after : (s : List ℕ) (i : ℕ) → get_or (drop (suc i) s) 0 0 ≡ get_or s (i + 1) 0
@@ -70,27 +70,27 @@ list_step_lem s i k h n l =
     (λ _ _ x. absurd (omega arith))
     (λ _ e. let g = leb-false 11 k e in
     rw (byte_of k g)
-    (by_case (λ t. pick t (k + 1) 12 ≤ 11 → pick t (K (drop (k + 1) LIST)) listed.Unlisted ≡ K (drop (pick t (k + 1) 12) LIST)) (eqb b (get_or LIST k 0))
+    (by_case (λ t. pick t (k + 1) 12 ≤ 11 → pick t (K (drop (k + 1) LIST)) None ≡ K (drop (pick t (k + 1) 12) LIST)) (eqb b (get_or LIST k 0))
     (λ _ _. refl) (λ _ x. absurd (omega arith)))) refl) m
 
 pub list_stop : (s : List ℕ) (i k : ℕ) → i < length s → (get_or s i 0 ≡ 10 → ⊥) → k ≤ 11 → 11 < list_step (get_or s i 0) (get_or s (i + 1) 0) k
-    → listed_as (drop i s) i (drop k LIST) ≡ listed.Unlisted
+    → listed_as (drop i s) i (drop k LIST) ≡ None
 list_stop s i k h n l =
     let b = get_or s i 0 in let c = get_or s (i + 1) 0 in let K = listed_as (drop (i + 1) s) (i + 1) in
     λ m. list_at s i (drop k LIST) h n ∙
-    by_case (λ t. 11 < pick t k (pick (leb 11 k) 12 (pick (eqb b (get_or LIST k 0)) (k + 1) 12)) → pick t (K (drop k LIST)) (matched b (drop k LIST) K) ≡ listed.Unlisted) (spacing b c)
+    by_case (λ t. 11 < pick t k (pick (leb 11 k) 12 (pick (eqb b (get_or LIST k 0)) (k + 1) 12)) → pick t (K (drop k LIST)) (matched b (drop k LIST) K) ≡ None) (spacing b c)
     (λ _ x. absurd (omega arith))
-    (λ _. by_case (λ t. leb 11 k ≡ t → 11 < pick t 12 (pick (eqb b (get_or LIST k 0)) (k + 1) 12) → matched b (drop k LIST) K ≡ listed.Unlisted) (leb 11 k)
+    (λ _. by_case (λ t. leb 11 k ≡ t → 11 < pick t 12 (pick (eqb b (get_or LIST k 0)) (k + 1) 12) → matched b (drop k LIST) K ≡ None) (leb 11 k)
     (λ _ e x. rw (twelve k (leb-true 11 k e) l) refl)
     (λ _ e x. let g = leb-false 11 k e in
     rw (byte_of k g)
-    (by_case (λ t. 11 < pick t (k + 1) 12 → pick t (K (drop (k + 1) LIST)) listed.Unlisted ≡ listed.Unlisted) (eqb b (get_or LIST k 0)) (λ _ y. absurd (omega arith)) (λ _ _. refl) x)) refl) m
+    (by_case (λ t. 11 < pick t (k + 1) 12 → pick t (K (drop (k + 1) LIST)) None ≡ None) (eqb b (get_or LIST k 0)) (λ _ y. absurd (omega arith)) (λ _ _. refl) x)) refl) m
 
 -- where the line ends
-pub ended_full : (k i : ℕ) → k ≡ 11 → listed.Body i ≡ ended (drop k LIST) i
+pub ended_full : (k i : ℕ) → k ≡ 11 → Some i ≡ ended (drop k LIST) i
 ended_full k i e = rw e refl
 
-pub ended_short : (k i : ℕ) → k ≤ 11 → (k ≡ 11 → ⊥) → listed.Unlisted ≡ ended (drop k LIST) i
+pub ended_short : (k i : ℕ) → k ≤ 11 → (k ≡ 11 → ⊥) → None ≡ ended (drop k LIST) i
 ended_short k i l n = let g : k < 11 = omega (arith, n) in rw (byte_of k g) refl
 
 pub ended_in : (w : List ℕ) (i b : ℕ) → i ≤ b → ListedWithin b (ended w i)

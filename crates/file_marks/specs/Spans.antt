@@ -1,10 +1,8 @@
 -- A part of a text, and bounds of what it says. Assumes nothing.
-use Rattle.std.specs.Prelude.{ℕ, ◌+◌, ◌≤◌, leb, eqb, get_or}
+use Rattle.std.specs.Prelude.{ℕ, ◌+◌, ◌≤◌, leb, eqb, get_or, Option, Some, None}
 use Rattle.terms.specs.Logic.{pick}
 use Rattle.file_spec.specs.Texts.{spacing, LIST}
-use Rattle.file_spec.specs.declared.Span.{Span}
-use Rattle.file_spec.specs.declared.Listed.{Listed}
-use Rattle.file_spec.specs.declared.Listed.TheVariants as listed
+use Rattle.label_spec.specs.declared.Span.{Span}
 
 -- a part of a text of that length
 pub record Within (len : ℕ) (t : Span) : Type 0 where
@@ -12,9 +10,9 @@ pub record Within (len : ℕ) (t : Span) : Type 0 where
   pub high : t.to ≤ len
 
 -- the body's start lies within the text of its record, which is so long
-abbrev pub ListedWithin : ℕ → Listed → Type 0
-ListedWithin len (listed.Body i) = i ≤ len
-ListedWithin len listed.Unlisted = Unit
+abbrev pub ListedWithin : ℕ → Option ℕ → Type 0
+ListedWithin len (Some i) = i ≤ len
+ListedWithin len None = Unit
 
 -- how much of the list stands after the byte b, with c after it; 12 where it does not
 abbrev pub list_step : ℕ → ℕ → ℕ → ℕ

@@ -5,7 +5,7 @@ ghost use Rattle.std.specs.Prelude.{◌≡◌, ◌-◌, ◌≤◌, length, drop}
 ghost use Rattle.file_spec.specs.Texts.{«spacing», text_in, mark_in, mark_of, LIST, ended, listed_in};
 ghost use Rattle.file_marks.specs.Spans.{Within, ListedWithin, list_step};
 
-use file_spec::{Listed, Span};
+use file_spec::Span;
 use text::byte_at;
 
 // A blank, LF, or CR before LF: b, with c after it.
@@ -70,18 +70,18 @@ fn list_step(b: u8, c: u8, k: usize) -> usize
 }
 
 // The line of the list has ended, after so much of it.
-fn list_ended(k: usize, i: usize) -> Listed
+fn list_ended(k: usize, i: usize) -> Option<usize>
     requires { k ≤ 11 }
     ensures { result ≡ ended (drop k LIST) i }
 {
     if k == 11 {
-        return Listed::Body(i);
+        return Some(i);
     }
-    Listed::Unlisted
+    None
 }
 
 // The first line of a text against the list of XYDATA (27).
-fn list_line(s: &[u8]) -> Listed
+fn list_line(s: &[u8]) -> Option<usize>
     ensures { (result ≡ listed_in s.now) × ListedWithin (length s.now) result }
 {
     let mut i: usize = 0;
@@ -94,7 +94,7 @@ fn list_line(s: &[u8]) -> Listed
         }
         let n = list_step(b, byte_at(s, next), k);
         if n > 11 {
-            return Listed::Unlisted;
+            return None;
         }
         k = n;
         i = next;
@@ -103,7 +103,7 @@ fn list_line(s: &[u8]) -> Listed
 }
 
 // The list of XYDATA: where in its text the body starts.
-pub fn list_in(file: &[u8], t: Span) -> Listed
+pub fn list_in(file: &[u8], t: Span) -> Option<usize>
     requires { Within (length file.now) t }
     ensures { (result ≡ listed_in (text_in file.now t)) × ListedWithin (t.to - t.from) result }
 {

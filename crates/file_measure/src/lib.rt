@@ -9,10 +9,10 @@ ghost use Rattle.file_lay.specs.Answers.{told_file_lem};
 
 use file_lay::{END_LINE, heading_length};
 use file_spec::{Exactness, Numbers};
-use file_write_spec::{FileLength, FileWritten};
+use file_write_spec::FileLength;
 use table_spec::Style;
 use table_write::text_length;
-use terms::TableWritten;
+use terms::Fault;
 
 // The length of the file that `lay` would lay: nothing is written.
 pub fn measure(
@@ -22,17 +22,17 @@ pub fn measure(
     last: i64,
     exact: Exactness,
     ordinates: &[i32],
-) -> FileWritten
+) -> Result<FileLength, Fault>
     requires { (length title.now ≤ 72) × AllWritable n × Framed first last n.npoints ordinates.now }
     ensures { result ≡ told_file_lem exact (wrote (laid_out title.now n (body_of first last n.npoints ordinates.now))) }
 {
     let head = heading_length(title, n);
     let points = n.npoints as usize;
     match text_length(Style::Difdup, first, last, points, ordinates) {
-        TableWritten::Refused(fault) => FileWritten::Refused(fault),
-        TableWritten::Length(k) => {
+        Err(fault) => Err(fault),
+        Ok(k) => {
             let length = head + k + END_LINE;
-            FileWritten::Length(FileLength { length, exact })
+            Ok(FileLength { length, exact })
         }
     }
 }

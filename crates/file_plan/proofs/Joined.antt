@@ -13,9 +13,7 @@ use Rattle.table_spec.specs.Groups.{plain_text}
 use Rattle.table_spec.specs.Writing.{declined}
 use Rattle.label_spec.specs.Names.{TITLE}
 use Rattle.decimal_spec.specs.Number.{bound, origin}
-use Rattle.file_spec.specs.declared.Given.TheVariants as goal
 use Rattle.file_spec.specs.declared.Numbers.{Numbers}
-use Rattle.file_spec.specs.declared.Figures.TheVariants as figures
 use Rattle.file_spec.specs.Figures.{exceeding, with_decimal}
 use Rattle.file_spec.specs.Texts.{XFACTOR, YFACTOR, FIRSTX, LASTX, NPOINTS, FIRSTY, XYDATA, LIST}
 use Rattle.file_write_spec.specs.declared.GivenDecimal.{GivenDecimal}
@@ -27,6 +25,7 @@ use Rattle.file_write_law.specs.Lengths.{ScalesFit, scales_fit}
 use Rattle.file_given.specs.Taking.{given_of, from_firstx, figures_for}
 use Rattle.file_pieces.specs.Decimals.{power_text, text_of, Writable}
 use Rattle.file_plan.specs.Stages.{laid_out, body_of, Scaled, in_frame, from_numbers}
+use Rattle.std.specs.Prelude.{Some, None, Ok, Err}
 
 -- ---- one decimal
 
@@ -66,23 +65,23 @@ module _ (d : GivenDecimal) where
       (a.0, ltb-true 0 (nat_abs d.mantissa) b.1)
 
   -- a factor, if it is taken
-  factor_given : exceeding (given_of d) ≡ pick (factor_taken d) (goal.Is (decimal_of d)) goal.Misspelled
+  factor_given : exceeding (given_of d) ≡ pick (factor_taken d) (Some (decimal_of d)) None
   unfolding exceeding given_of factor_taken
   factor_given = go (decimal_taken d)
     where
-      go : (t : Bool) → exceeding (pick t (goal.Is (decimal_of d)) goal.Misspelled)
-          ≡ pick (both t (both (pick (negative d.mantissa) false true) (ltb 0 (nat_abs d.mantissa)))) (goal.Is (decimal_of d)) goal.Misspelled
+      go : (t : Bool) → exceeding (pick t (Some (decimal_of d)) None)
+          ≡ pick (both t (both (pick (negative d.mantissa) false true) (ltb 0 (nat_abs d.mantissa)))) (Some (decimal_of d)) None
       go true = refl
       go false = refl
 
 -- ---- 26
 
 module _ (c : Scales) (n : ℕ) where
-  five : (a b x y z : Bool) → with_decimal 0 (pick a (goal.Is (numbers c n).xfactor) goal.Misspelled) (λ xf. with_decimal 0 (pick b (goal.Is (numbers c n).yfactor) goal.Misspelled) (λ yf.
-      with_decimal 0 (pick x (goal.Is (numbers c n).firstx) goal.Misspelled) (λ fx. with_decimal 0 (pick y (goal.Is (numbers c n).lastx) goal.Misspelled) (λ lx.
-      with_decimal 0 (pick z (goal.Is (numbers c n).firsty) goal.Misspelled) (λ fy.
-      figures.All (record { xfactor = xf; yfactor = yf; firstx = fx; lastx = lx; npoints = n; firsty = fy }))))))
-      ≡ pick (both a (both b (both x (both y z)))) (figures.All (numbers c n)) (figures.Wrong 0)
+  five : (a b x y z : Bool) → with_decimal 0 (pick a (Some (numbers c n).xfactor) None) (λ xf. with_decimal 0 (pick b (Some (numbers c n).yfactor) None) (λ yf.
+      with_decimal 0 (pick x (Some (numbers c n).firstx) None) (λ fx. with_decimal 0 (pick y (Some (numbers c n).lastx) None) (λ lx.
+      with_decimal 0 (pick z (Some (numbers c n).firsty) None) (λ fy.
+      Ok (record { xfactor = xf; yfactor = yf; firstx = fx; lastx = lx; npoints = n; firsty = fy }))))))
+      ≡ pick (both a (both b (both x (both y z)))) (Ok (numbers c n)) (Err 0)
   five false b x y z = refl
   five true false x y z = refl
   five true true false y z = refl
@@ -90,23 +89,23 @@ module _ (c : Scales) (n : ℕ) where
   five true true true true false = refl
   five true true true true true = refl
 
-  figures_are : figures_for c n ≡ pick (scales_legal c) (figures.All (numbers c n)) (figures.Wrong 0)
+  figures_are : figures_for c n ≡ pick (scales_legal c) (Ok (numbers c n)) (Err 0)
   unfolding figures_for from_firstx given_of scales_legal
   figures_are =
       rw (factor_given c.xfactor, factor_given c.yfactor)
       (five (factor_taken c.xfactor) (factor_taken c.yfactor) (decimal_taken c.firstx) (decimal_taken c.lastx) (decimal_taken c.firsty))
 
-  pub figures_wrong : {a : ℕ} → figures.Wrong a ≡ figures_for c n → scales_legal c ≡ false
+  pub figures_wrong : {a : ℕ} → Err a ≡ figures_for c n → scales_legal c ≡ false
   figures_wrong {a} e = go (scales_legal c) (e ∙ figures_are)
     where
-      go : (t : Bool) → figures.Wrong a ≡ pick t (figures.All (numbers c n)) (figures.Wrong 0) → t ≡ false
+      go : (t : Bool) → Err a ≡ pick t (Ok (numbers c n)) (Err 0) → t ≡ false
       go true h = zero_one cc
       go false h = refl
 
-  pub figures_all : {m : Numbers} → figures.All m ≡ figures_for c n → (scales_legal c ≡ true) × (m ≡ numbers c n)
+  pub figures_all : {m : Numbers} → Ok m ≡ figures_for c n → (scales_legal c ≡ true) × (m ≡ numbers c n)
   figures_all {m} e = go (scales_legal c) (e ∙ figures_are)
     where
-      go : (t : Bool) → figures.All m ≡ pick t (figures.All (numbers c n)) (figures.Wrong 0) → (t ≡ true) × (m ≡ numbers c n)
+      go : (t : Bool) → Ok m ≡ pick t (Ok (numbers c n)) (Err 0) → (t ≡ true) × (m ≡ numbers c n)
       go true h = (refl, cc)
       go false h = zero_one cc
 

@@ -9,7 +9,6 @@ use lib.ListN.{length, get_or}
 use borrow.Author.Tests.{lt-ltb, le-ltb}
 use Rattle.table_spec.specs.Frame.{frame_legal, ordinate_of}
 use Rattle.table_spec.specs.Writing.{Outcome, declined, fitted}
-use Rattle.decimal_spec.specs.declared.Rounded.{Rounded}
 use Rattle.frame.specs.declared.Frame.{Frame}
 use Rattle.frame.specs.Legal.{Sound}
 use Rattle.frame.specs.FrameLaws.{Framing}
@@ -22,12 +21,15 @@ use Rattle.file_write_spec.specs.File.{ordinates}
 use Rattle.file_pieces.specs.Decimals.{Writable}
 use Rattle.file_lines.specs.Lines.{AllWritable}
 use Rattle.file_plan.specs.Stages.{laid_out, body_of, Scaled, in_frame, first_from, last_from, from_numbers, Plans}
-use Rattle.file_plan.specs.declared.Planned.{Planned}
+use Rattle.std.specs.Prelude.{Some, None, Result, Ok, Err}
+use Rattle.terms.specs.declared.Reason.{Reason}
+use Rattle.file_plan.specs.declared.Plan.{Plan}
+use Rattle.decimal_spec.specs.Parts.{whole_with}
 
 -- a stage that is what a later one is
-pub plans_same : (x y : ℕ → Outcome) (e : Exactness) (title : List ℕ) (es : List ℤ) (r : Planned) → ((space : ℕ) → x space ≡ y space) → Plans y e title es r → Plans x e title es r
-plans_same x y e title es (Planned.Refused k) h g = λ space. h space ∙ g space
-plans_same x y e title es (Planned.Taken p) h g =
+pub plans_same : (x y : ℕ → Outcome) (e : Exactness) (title : List ℕ) (es : List ℤ) (r : Result Plan Reason) → ((space : ℕ) → x space ≡ y space) → Plans y e title es r → Plans x e title es r
+plans_same x y e title es (Err z) h g = λ space. h space ∙ g space
+plans_same x y e title es (Ok p) h g =
     record { titled = g.titled; writable = g.writable; framed = g.framed; exact = g.exact; text = λ space. h space ∙ g.text space }
 
 -- what is taken can be divided
@@ -80,15 +82,15 @@ module _ (title : List ℕ) (n : Numbers) (es : List ℤ) (space : ℕ) (f l : �
 -- ---- 28
 
 module _ (title : List ℕ) (n : Numbers) (es : List ℤ) (space : ℕ) where
-  pub first_beyond : first_from n ≡ Rounded.Beyond → from_numbers title n es space ≡ declined 28
+  pub first_beyond : first_from n ≡ None → from_numbers title n es space ≡ declined 28
   unfolding from_numbers
   first_beyond e = rw e refl
 
-  module _ {m : Bool} {p : ℕ} (e : first_from n ≡ Rounded.Whole m p) where
-    pub last_beyond : last_from n ≡ Rounded.Beyond → from_numbers title n es space ≡ declined 28
+  module _ {m : Bool} {p : ℕ} (e : first_from n ≡ Some (whole_with m p)) where
+    pub last_beyond : last_from n ≡ None → from_numbers title n es space ≡ declined 28
     unfolding from_numbers
     last_beyond g = rw (e, g) refl
 
-    pub both_whole : {k : Bool} {q : ℕ} → last_from n ≡ Rounded.Whole k q → from_numbers title n es space ≡ in_frame title n es space (whole m p) (whole k q)
+    pub both_whole : {k : Bool} {q : ℕ} → last_from n ≡ Some (whole_with k q) → from_numbers title n es space ≡ in_frame title n es space (whole m p) (whole k q)
     unfolding from_numbers
     both_whole g = rw (e, g) refl

@@ -1,10 +1,9 @@
 -- The stages of writing a file, said of its numbers (02, T-04), and what each of them answers in all rooms at once (T-10). Assumes nothing.
-use Rattle.std.specs.Prelude.{◌≡◌, true, List, [], ◌∷◌, ◌++◌, ℕ, ◌<◌, ◌≤◌, ltb, ℤ, length, get_or}
+use Rattle.std.specs.Prelude.{◌≡◌, true, List, [], ◌∷◌, ◌++◌, ℕ, ◌<◌, ◌≤◌, ltb, ℤ, length, get_or, Option, Result, Ok, Err}
 use Rattle.terms.specs.Logic.{pick}
 use Rattle.table_spec.specs.Frame.{frame_legal, abscissa}
 use Rattle.table_spec.specs.Writing.{Outcome, declined, fitted, written}
 use Rattle.table_spec.specs.declared.Style.TheVariants.{Difdup}
-use Rattle.decimal_spec.specs.declared.Rounded.{Rounded}
 use Rattle.file_spec.specs.declared.Numbers.{Numbers}
 use Rattle.file_spec.specs.declared.Exactness.{Exactness}
 use Rattle.file_spec.specs.Figures.{ratio, abscissa_of, agrees, exactness_of}
@@ -13,7 +12,9 @@ use Rattle.file_write_spec.specs.File.{end_line, within_limit, ordinates, limite
 use Rattle.file_pieces.specs.Decimals.{Writable}
 use Rattle.file_lines.specs.Lines.{AllWritable, heading_of}
 use Rattle.file_plan.specs.declared.Plan.{Plan}
-use Rattle.file_plan.specs.declared.Planned.{Planned}
+use Rattle.decimal_spec.specs.declared.Whole.{Whole}
+use Rattle.terms.specs.declared.Reason.{Reason}
+use Rattle.terms.specs.Refusals.{reason_number}
 
 -- heading, body and END's record
 abbrev pub laid_out : List ℕ → Numbers → List ℕ → List ℕ
@@ -52,10 +53,10 @@ in_frame title n es space f l =
     (declined 1)
 
 -- F and L, as they are rounded
-abbrev pub first_from : Numbers → Rounded
+abbrev pub first_from : Numbers → Option Whole
 first_from n = (abscissa_of n.firstx n.xfactor).rounded
 
-abbrev pub last_from : Numbers → Rounded
+abbrev pub last_from : Numbers → Option Whole
 last_from n = (abscissa_of n.lastx n.xfactor).rounded
 
 -- 28, then the rest
@@ -74,10 +75,10 @@ pub record Planning (x : ℕ → Outcome) (e : Exactness) (title : List ℕ) (es
   pub text : (space : ℕ) → x space ≡ fitted space (laid_out title p.numbers (body_of p.first p.last p.numbers.npoints es))
 
 -- a plan, or the number that is refused with in every room
-abbrev pub Plans : (ℕ → Outcome) → Exactness → List ℕ → List ℤ → Planned → Type 0
-Plans x e title es (Planned.Taken p) = Planning x e title es p
-Plans x e title es (Planned.Refused k) = (space : ℕ) → x space ≡ declined k
+abbrev pub Plans : (ℕ → Outcome) → Exactness → List ℕ → List ℤ → Result Plan Reason → Type 0
+Plans x e title es (Ok p) = Planning x e title es p
+Plans x e title es (Err y) = (space : ℕ) → x space ≡ declined (reason_number y)
 
 -- what a stage answers of every title that is taken
-abbrev pub PlansAll : (List ℕ → ℕ → Outcome) → Exactness → List ℤ → Planned → Type 0
+abbrev pub PlansAll : (List ℕ → ℕ → Outcome) → Exactness → List ℤ → Result Plan Reason → Type 0
 PlansAll x e es r = (title : List ℕ) → length title ≤ 72 → Plans (x title) e title es r

@@ -5,12 +5,13 @@ ghost use Rattle.file_write_spec.specs.File.{file_exact, write_file};
 ghost use Rattle.figure.specs.Carried.{Carried};
 ghost use Rattle.file_plan.specs.Stages.{Scaled, exact_in, in_frame, from_numbers, Plans, PlansAll};
 
-use decimal_spec::Rounded;
 use figure::{agree, exact_with, ratio_of, whole_of};
 use file_given::{figures_of, title_fair};
-use file_spec::{Exactness, Figures, Numbers};
+use file_spec::{Exactness, Numbers};
 use file_write_spec::Scales;
-use frame::{Frame, Framed};
+use frame::Frame;
+use decimal_spec::Whole;
+use terms::Reason;
 
 // A file that can be written: its numbers, F and L, and what of it is exact (02, T-08).
 #[derive(Drop)]
@@ -21,13 +22,6 @@ pub struct Plan {
     pub exact: Exactness,
 }
 
-// What the tests answer: the plan of a file, or the number of a refusal.
-#[derive(Drop)]
-pub enum Planned {
-    Taken(Plan),
-    Refused(u64),
-}
-
 // In F and L: a legal frame (1), enough ordinates (2), the first of them as FIRSTY says (29).
 fn plan_in(
     n: Numbers,
@@ -36,26 +30,26 @@ fn plan_in(
     first_exact: bool,
     last_exact: bool,
     ordinates: &[i32],
-) -> Planned
+) -> Result<Plan, Reason>
     requires { Scaled n × Carried n first_exact last_exact }
     ensures { PlansAll (λ title space. in_frame title n ordinates.now space first last) (exact_in n ordinates.now) ordinates.now result }
 {
     let points = n.npoints as usize;
     match Frame::new(first, last, points) {
-        Framed::Outside => Planned::Refused(1),
-        Framed::Legal(_) => {
+        None => Err(Reason::OutsideLimits),
+        Some(_) => {
             if ordinates.len() < points {
-                return Planned::Refused(2);
+                return Err(Reason::LittleRoom);
             }
             let firsty = n.firsty;
             let yfactor = n.yfactor;
             let q = ratio_of(0, firsty, yfactor);
             let rounded = q.rounded;
             if !agree(ordinates[0], rounded) {
-                return Planned::Refused(29);
+                return Err(Reason::WrongFirst);
             }
             let exact = exact_with(first_exact, last_exact, q.exact, ordinates[0]);
-            Planned::Taken(Plan {
+            Ok(Plan {
                 numbers: n,
                 first,
                 last,
@@ -66,7 +60,7 @@ fn plan_in(
 }
 
 // F and L within their limits (28), then the rest.
-fn plan_numbers(n: Numbers, ordinates: &[i32]) -> Planned
+fn plan_numbers(n: Numbers, ordinates: &[i32]) -> Result<Plan, Reason>
     requires { Scaled n }
     ensures { PlansAll (λ title space. from_numbers title n ordinates.now space) (exact_in n ordinates.now) ordinates.now result }
 {
@@ -76,13 +70,13 @@ fn plan_numbers(n: Numbers, ordinates: &[i32]) -> Planned
     let f = ratio_of(3, firstx, xfactor);
     let first_rounded = f.rounded;
     match first_rounded {
-        Rounded::Beyond => Planned::Refused(28),
-        Rounded::Whole { minus: m, size: p } => {
+        None => Err(Reason::FarAbscissa),
+        Some(Whole { minus: m, size: p }) => {
             let l = ratio_of(3, lastx, xfactor);
             let last_rounded = l.rounded;
             match last_rounded {
-                Rounded::Beyond => Planned::Refused(28),
-                Rounded::Whole { minus: k, size: q } => {
+                None => Err(Reason::FarAbscissa),
+                Some(Whole { minus: k, size: q }) => {
                     let first = whole_of(m, p);
                     let last = whole_of(k, q);
                     plan_in(n, first, last, f.exact, l.exact, ordinates)
@@ -93,15 +87,15 @@ fn plan_numbers(n: Numbers, ordinates: &[i32]) -> Planned
 }
 
 // The tests of a file, in the order of the refusals: the title (37), the decimals (26), then what their numbers say.
-pub fn plan_file(title: &[u8], points: usize, scales: Scales, ordinates: &[i32]) -> Planned
+pub fn plan_file(title: &[u8], points: usize, scales: Scales, ordinates: &[i32]) -> Result<Plan, Reason>
     ensures { Plans (write_file title.now points scales ordinates.now) (file_exact scales points ordinates.now)
         title.now ordinates.now result }
 {
     if !title_fair(title) {
-        return Planned::Refused(37);
+        return Err(Reason::BadTitle);
     }
     match figures_of(scales, points as u64) {
-        Figures::Wrong(_) => Planned::Refused(26),
-        Figures::All(n) => plan_numbers(n, ordinates),
+        Err(_) => Err(Reason::BadNumber),
+        Ok(n) => plan_numbers(n, ordinates),
     }
 }

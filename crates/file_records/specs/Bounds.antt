@@ -1,12 +1,10 @@
 -- Bounds of the six numbers, which callers need. Assumes nothing.
-use Rattle.std.specs.Prelude.{ℕ, ◌<◌}
+use Rattle.std.specs.Prelude.{ℕ, ◌<◌, Result, Ok, Err}
 use Rattle.decimal_spec.specs.Number.{bound}
 use Rattle.figure.specs.Bounds.{Small, Factor}
 use Rattle.file_spec.specs.declared.Decimal.{Decimal}
 use Rattle.file_spec.specs.declared.Needed.{Needed}
 use Rattle.file_spec.specs.declared.Numbers.{Numbers}
-use Rattle.file_spec.specs.declared.Figures.{Figures}
-use Rattle.file_spec.specs.declared.Figures.TheVariants as figures
 use Rattle.file_gather.specs.Bounds.{AllWithin}
 
 -- the numbers after the factors can be read: each text lies in the file, and the factors are as they can be spelled
@@ -25,6 +23,6 @@ pub record AllSmall (n : Numbers) : Type 0 where
   pub firsty : Small n.firsty
 
 -- where none is wrong
-abbrev pub FiguresIn : Figures → Type 0
-FiguresIn (figures.All n) = AllSmall n
-FiguresIn (figures.Wrong a) = Unit
+abbrev pub FiguresIn : Result Numbers ℕ → Type 0
+FiguresIn (Ok n) = AllSmall n
+FiguresIn (Err a) = Unit

@@ -1,24 +1,21 @@
 -- 01, "The file", "Numbers": the numbers of the six records, and the quotients that they make. Assumes nothing.
-use Rattle.std.specs.Prelude.{Bool, true, false, List, ℕ, zero, suc, ◌+◌, ◌*◌, ◌^◌, ltb, eqb, ℤ, pos, negsuc, length}
+use Rattle.std.specs.Prelude.{Bool, true, false, List, ℕ, zero, suc, ◌+◌, ◌*◌, ◌^◌, ltb, eqb, ℤ, pos, negsuc, length, Option, Some, None, Result, Ok, Err}
 use Rattle.terms.specs.Logic.{pick, both}
 use Rattle.label_spec.specs.Space.{past_space}
 use Rattle.table_spec.specs.Frame.{largest_abscissa, zero_ordinate}
 use Rattle.table_spec.specs.Values.{signed}
 use Rattle.decimal_spec.specs.Number.{number_at, count_at}
 use Rattle.decimal_spec.specs.Quotient.{quotient_of}
-use Rattle.decimal_spec.specs.declared.Number.{Number}
-use Rattle.decimal_spec.specs.declared.Count.{Count}
-use Rattle.decimal_spec.specs.declared.Rounded.{Rounded}
 use Rattle.decimal_spec.specs.declared.Quotient.{Quotient}
 use Rattle.file_spec.specs.declared.Needed.{Needed}
 use Rattle.file_spec.specs.declared.Decimal.{Decimal}
-use Rattle.file_spec.specs.declared.Given.{Given}
-use Rattle.file_spec.specs.declared.Given.TheVariants as given
 use Rattle.file_spec.specs.declared.Numbers.{Numbers}
 use Rattle.file_spec.specs.declared.Exactness.{Exactness}
-use Rattle.file_spec.specs.declared.Figures.{Figures}
-use Rattle.file_spec.specs.declared.Figures.TheVariants as figures
 use Rattle.file_spec.specs.Texts.{text_in, mark_of}
+use Rattle.decimal_spec.specs.declared.Number.{Number}
+use Rattle.decimal_spec.specs.declared.Count.{Count}
+use Rattle.decimal_spec.specs.declared.Whole.{Whole}
+use Rattle.decimal_spec.specs.Parts.{count_with}
 
 -- ---- 26: "Blanks, line ends and comments around"
 
@@ -26,37 +23,37 @@ use Rattle.file_spec.specs.Texts.{text_in, mark_of}
 abbrev pub ends_there : List ℕ → ℕ → Bool
 ends_there p j = eqb (past_space p j) (length p)
 
-unfoldable pub alone : List ℕ → Number → Given
-alone p Number.Misspelled = given.Misspelled
-alone p (Number.Decimal minus m e j) = pick (ends_there p j) (given.Is (record { minus = minus; mantissa = m; power = e })) given.Misspelled
+unfoldable pub alone : List ℕ → Option Number → Option Decimal
+alone p None = None
+alone p (Some x) = pick (ends_there p x.end) (Some (record { x.minus = x.minus; mantissa = x.mantissa; power = x.power })) None
 
 -- the number that a text is
-unfoldable pub decimal_in : List ℕ → Given
+unfoldable pub decimal_in : List ℕ → Option Decimal
 decimal_in p = alone p (number_at p (past_space p 0))
 
 -- "XFACTOR and YFACTOR exceed zero"
-unfoldable pub exceeding : Given → Given
-exceeding given.Misspelled = given.Misspelled
-exceeding (given.Is d) = pick (both (pick d.minus false true) (ltb 0 d.mantissa)) (given.Is d) given.Misspelled
+unfoldable pub exceeding : Option Decimal → Option Decimal
+exceeding None = None
+exceeding (Some d) = pick (both (pick d.minus false true) (ltb 0 d.mantissa)) (Some d) None
 
 -- NPOINTS
-unfoldable pub alone_count : List ℕ → Count → Count
-alone_count p Count.Misspelled = Count.Misspelled
-alone_count p (Count.Counted v j) = pick (ends_there p j) (Count.Counted v j) Count.Misspelled
+unfoldable pub alone_count : List ℕ → Option Count → Option Count
+alone_count p None = None
+alone_count p (Some x) = pick (ends_there p x.end) (Some (count_with x.value x.end)) None
 
-unfoldable pub count_in : List ℕ → Count
+unfoldable pub count_in : List ℕ → Option Count
 count_in p = alone_count p (count_at p (past_space p 0))
 
-abbrev pub with_decimal : ℕ → Given → (Decimal → Figures) → Figures
-with_decimal a given.Misspelled f = figures.Wrong a
-with_decimal a (given.Is d) f = f d
+abbrev pub with_decimal : ℕ → Option Decimal → (Decimal → Result Numbers ℕ) → Result Numbers ℕ
+with_decimal a None f = Err a
+with_decimal a (Some d) f = f d
 
-abbrev pub with_count : ℕ → Count → (ℕ → Figures) → Figures
-with_count a Count.Misspelled f = figures.Wrong a
-with_count a (Count.Counted v j) f = f v
+abbrev pub with_count : ℕ → Option Count → (ℕ → Result Numbers ℕ) → Result Numbers ℕ
+with_count a None f = Err a
+with_count a (Some x) f = f x.value
 
 -- "26 in the order that 25 lists"
-unfoldable pub figures_of : List ℕ → Needed → Figures
+unfoldable pub figures_of : List ℕ → Needed → Result Numbers ℕ
 figures_of s t =
     with_decimal (mark_of s t.xfactor) (exceeding (decimal_in (text_in s t.xfactor))) (λ xf.
     with_decimal (mark_of s t.yfactor) (exceeding (decimal_in (text_in s t.yfactor))) (λ yf.
@@ -64,7 +61,7 @@ figures_of s t =
     with_decimal (mark_of s t.lastx) (decimal_in (text_in s t.lastx)) (λ lx.
     with_count (mark_of s t.npoints) (count_in (text_in s t.npoints)) (λ n.
     with_decimal (mark_of s t.firsty) (decimal_in (text_in s t.firsty)) (λ fy.
-    figures.All (record { xfactor = xf; yfactor = yf; firstx = fx; lastx = lx; npoints = n; firsty = fy })))))))
+    Ok (record { xfactor = xf; yfactor = yf; firstx = fx; lastx = lx; npoints = n; firsty = fy })))))))
 
 -- ---- quotients: of a decimal by a factor above zero, in units of ten to the -k
 
@@ -82,11 +79,11 @@ whole true (suc n) = negsuc n
 whole false n = pos n
 
 -- "The first ordinate, unless missing, equals FIRSTY/YFACTOR rounded likewise to a whole number": the ordinate stands as y + 2^31, a missing one as 0
-unfoldable pub equals : ℕ → Rounded → Bool
-equals u (Rounded.Whole minus q) = eqb u (signed zero_ordinate minus q)
-equals u Rounded.Beyond = false
+unfoldable pub equals : ℕ → Option Whole → Bool
+equals u (Some x) = eqb u (signed zero_ordinate x.minus x.size)
+equals u None = false
 
-abbrev pub agrees : ℕ → Rounded → Bool
+abbrev pub agrees : ℕ → Option Whole → Bool
 agrees u r = pick (eqb u 0) true (equals u r)
 
 -- ---- 02, T-08: "The file reader's answer carries that for F, L and FIRSTY (exact if not compared)"

@@ -1,15 +1,11 @@
 -- 01, "The file": the seven records, where a fault in one stands, and the list of XYDATA. Assumes nothing.
-use Rattle.std.specs.Prelude.{Bool, true, false, List, [], ◌∷◌, ℕ, suc, ◌+◌, ◌-◌, eqb, length, get_or, drop, take}
+use Rattle.std.specs.Prelude.{Bool, true, false, List, [], ◌∷◌, ℕ, suc, ◌+◌, ◌-◌, eqb, length, get_or, drop, take, Option, Some, None}
 use Rattle.terms.specs.Logic.{pick, both}
 use Rattle.label_spec.specs.Names.{blank}
 use Rattle.label_spec.specs.Labels.{from}
 use Rattle.label_spec.specs.Records.{record_of}
-use Rattle.label_spec.specs.declared.Found.{Found}
-use Rattle.file_spec.specs.declared.Span.{Span}
-use Rattle.file_spec.specs.declared.Gathered.{Gathered}
-use Rattle.file_spec.specs.declared.Gathered.TheVariants as gathered
-use Rattle.file_spec.specs.declared.Listed.{Listed}
-use Rattle.file_spec.specs.declared.Listed.TheVariants as listed
+use Rattle.label_spec.specs.declared.Span.{Span}
+use Rattle.file_spec.specs.declared.Needed.{Needed}
 
 -- ---- the names, as they compare
 
@@ -41,19 +37,19 @@ text_in s t = take (t.to - t.from) (drop t.from s)
 
 -- ---- 25: all seven, among the labels from a place on and before END's
 
-abbrev pub with_text : Found → (Span → Gathered) → Gathered
-with_text (Found.Text a b) f = f (record { from = a; to = b })
-with_text Found.Absent f = gathered.Lacking
+abbrev pub with_text : Option Span → (Span → Option Needed) → Option Needed
+with_text (Some x) f = f (record { from = x.from; to = x.to })
+with_text None f = None
 
 module _ (s : List ℕ) (start stop : ℕ) where
-  abbrev pub text_of : List ℕ → Found
+  abbrev pub text_of : List ℕ → Option Span
   text_of w = record_of (length s) stop w (from s start false)
 
-  unfoldable pub gathered_from : Gathered
+  unfoldable pub gathered_from : Option Needed
   gathered_from =
       with_text (text_of XFACTOR) (λ xf. with_text (text_of YFACTOR) (λ yf. with_text (text_of FIRSTX) (λ fx. with_text (text_of LASTX) (λ lx.
       with_text (text_of NPOINTS) (λ np. with_text (text_of FIRSTY) (λ fy. with_text (text_of XYDATA) (λ xy.
-      gathered.All (record { xfactor = xf; yfactor = yf; firstx = fx; lastx = lx; npoints = np; firsty = fy; xydata = xy }))))))))
+      Some (record { xfactor = xf; yfactor = yf; firstx = fx; lastx = lx; npoints = np; firsty = fy; xydata = xy }))))))))
 
 -- ---- 26's place: "first non-blank after `=`, or record end"; "line ends count as blanks for the places below"
 
@@ -80,20 +76,20 @@ abbrev pub LIST : List ℕ
 LIST = 40 ∷ 88 ∷ 43 ∷ 43 ∷ 40 ∷ 89 ∷ 46 ∷ 46 ∷ 89 ∷ 41 ∷ 41 ∷ []
 
 -- the line has ended, and so has the list; or not
-abbrev pub ended : List ℕ → ℕ → Listed
-ended [] i = listed.Body i
-ended (c ∷ w) i = listed.Unlisted
+abbrev pub ended : List ℕ → ℕ → Option ℕ
+ended [] i = Some i
+ended (c ∷ w) i = None
 
 -- the next byte b of the line against what is left of the list
-abbrev pub matched : ℕ → List ℕ → (List ℕ → Listed) → Listed
-matched b [] f = listed.Unlisted
-matched b (c ∷ w) f = pick (eqb b c) (f w) listed.Unlisted
+abbrev pub matched : ℕ → List ℕ → (List ℕ → Option ℕ) → Option ℕ
+matched b [] f = None
+matched b (c ∷ w) f = pick (eqb b c) (f w) None
 
 -- the rest of a line that stands from i on, against what is left of the list: blanks are dropped, LF, CR LF or the end of the record ends the line; the body starts on the next
-unfoldable pub listed_as : List ℕ → ℕ → List ℕ → Listed
+unfoldable pub listed_as : List ℕ → ℕ → List ℕ → Option ℕ
 listed_as [] i w = ended w i
 listed_as (b ∷ s) i w = pick (eqb b 10) (ended w (suc i)) (pick (spacing b (get_or s 0 0)) (listed_as s (suc i) w) (matched b w (listed_as s (suc i))))
 
 -- of the text of XYDATA: the body starts at a place of that text
-unfoldable pub listed_in : List ℕ → Listed
+unfoldable pub listed_in : List ℕ → Option ℕ
 listed_in p = listed_as p 0 LIST

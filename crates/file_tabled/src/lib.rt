@@ -5,7 +5,6 @@ ghost use Rattle.std.specs.Prelude.{◌≡◌, ◌+◌, ◌≤◌};
 ghost use Rattle.label_spec.specs.File.{longest_file};
 ghost use Rattle.terms.specs.Refusals.{fault_at};
 ghost use Rattle.file_spec.specs.File.{in_file};
-ghost use Rattle.file_tabled.specs.declared.Tabled.{Tabled};
 
 use file_spec::{Exactness, FileTable, Span};
 use terms::Fault;
@@ -17,18 +16,11 @@ pub struct TablePlace {
     pub body: Span,
 }
 
-// What checking a file answers: its table, or a fault, its place counted in the file.
-#[derive(Drop)]
-pub enum Tabled {
-    At(TablePlace),
-    Refused(Fault),
-}
-
 // A fault.
-pub fn refused(number: u64, place: usize) -> Tabled
-    ensures { result ≡ Tabled.Refused (fault_at number place) }
+pub fn refused(number: u64, place: usize) -> Result<TablePlace, Fault>
+    ensures { result ≡ Err (fault_at number place) }
 {
-    Tabled::Refused(Fault::new(number, place))
+    Err(Fault::new(number, place))
 }
 
 // The table of a file that has no fault.
@@ -39,8 +31,8 @@ pub fn accepted(
     exact: Exactness,
     from: usize,
     to: usize,
-) -> Tabled
-    ensures { result ≡ Tabled.At (record { table = record { points = points; first = first; last = last; exact = exact }; body = record { from = from; to = to } }) }
+) -> Result<TablePlace, Fault>
+    ensures { result ≡ Ok (record { table = record { points = points; first = first; last = last; exact = exact }; body = record { from = from; to = to } }) }
 {
     let table = FileTable {
         points,
@@ -49,13 +41,13 @@ pub fn accepted(
         exact,
     };
     let body = Span { from, to };
-    Tabled::At(TablePlace { table, body })
+    Ok(TablePlace { table, body })
 }
 
 // A fault of the body, with its place counted in the file; 1 and 2 stand at 0.
-pub fn refused_in(r: Fault, start: usize) -> Tabled
+pub fn refused_in(r: Fault, start: usize) -> Result<TablePlace, Fault>
     requires { start + r.place ≤ longest_file }
-    ensures { result ≡ Tabled.Refused (fault_at r.number (in_file start r.number r.place)) }
+    ensures { result ≡ Err (fault_at r.number (in_file start r.number r.place)) }
 {
     let number = r.number;
     if number <= 2 {

@@ -1,5 +1,5 @@
 -- T-13: the file that the converter makes reads as the file did before: number, place, ordinates, line and column, for all files and all room. Assumes nothing.
-use Rattle.std.specs.Prelude.{◌≡◌, Bool, true, List, [], ◌∷◌, ◌++◌, ℕ, zero, suc, ◌-◌, ℤ, length, take}
+use Rattle.std.specs.Prelude.{◌≡◌, Bool, true, List, [], ◌∷◌, ◌++◌, ℕ, zero, suc, ◌-◌, ℤ, length, take, Option, Some, None, Result, Ok, Err}
 use Rattle.std.proofs.Math.Path.{refl, sym, ap}
 use Rattle.std.proofs.Common.{◌∙◌, take-append-drop}
 use Rattle.std.proofs.Math.Bool.{false}
@@ -10,19 +10,9 @@ use Rattle.table_spec.specs.Reading.{Answer, refuse, accept, read_table}
 use Rattle.table_spec.specs.Tabs.{commented, changed, spaced, read_before}
 use Rattle.table_tabs.specs.Converted.{converted_table}
 use Rattle.label_spec.specs.File.{labelled}
-use Rattle.label_spec.specs.declared.Labelled.{Labelled}
-use Rattle.decimal_spec.specs.declared.Rounded.{Rounded}
-use Rattle.file_spec.specs.declared.Span.{Span}
+use Rattle.label_spec.specs.declared.Span.{Span}
 use Rattle.file_spec.specs.declared.Needed.{Needed}
 use Rattle.file_spec.specs.declared.Numbers.{Numbers}
-use Rattle.file_spec.specs.declared.Gathered.{Gathered}
-use Rattle.file_spec.specs.declared.Gathered.TheVariants as gathered
-use Rattle.file_spec.specs.declared.Figures.{Figures}
-use Rattle.file_spec.specs.declared.Figures.TheVariants as figures
-use Rattle.file_spec.specs.declared.Listed.{Listed}
-use Rattle.file_spec.specs.declared.Listed.TheVariants as listed
-use Rattle.file_spec.specs.declared.FoundBody.{FoundBody}
-use Rattle.file_spec.specs.declared.FoundBody.TheVariants as body
 use Rattle.file_spec.specs.Texts.{text_in, mark_of, gathered_from, listed_in}
 use Rattle.file_spec.specs.Figures.{figures_of, whole, abscissa_of}
 use Rattle.file_spec.specs.Places.{body_from, found_at, found_in, found_between, found_body}
@@ -31,6 +21,9 @@ use Rattle.file_spec.specs.File.{FileAnswer, refuse_file, accept_file, by_first,
 use Rattle.file_spec.specs.Tabs.{spaced_in, detabbed_at, detabbed, read_file_before}
 use Rattle.file_tabs.specs.Headers.{untabbed, tab_or_same, length_untabbed, same_line, same_column, same_labelled, same_gathered, text_untabbed, same_mark, same_listed}
 use Rattle.file_tabs.specs.Numbers.{same_figures}
+use Rattle.label_spec.specs.declared.Places.{Places}
+use Rattle.decimal_spec.specs.declared.Whole.{Whole}
+use Rattle.terms.specs.declared.Fault.{Fault}
 
 -- ---- a converted part
 
@@ -81,29 +74,29 @@ pub length_part : (s : List ℕ) (b : Span) → length (spaced_in s b) ≡ lengt
 length_part s b = sym (length_untabbed (spaced_in s b)) ∙ ap length (untabbed_part s b) ∙ length_untabbed s
 
 -- of a file: what stands before its body, and after it
-abbrev pub Keeps : List ℕ → List ℕ → FoundBody → Type 0
-Keeps s s' body.Absent = s' ≡ s
-Keeps s s' (body.At b) = (take b.from s' ≡ take b.from s) × (drop (b.to - b.from) (drop b.from s') ≡ drop (b.to - b.from) (drop b.from s))
+abbrev pub Keeps : List ℕ → List ℕ → Option Span → Type 0
+Keeps s s' None = s' ≡ s
+Keeps s s' (Some b) = (take b.from s' ≡ take b.from s) × (drop (b.to - b.from) (drop b.from s') ≡ drop (b.to - b.from) (drop b.from s))
 
 -- a converted file differs in tabs and spaces only
-untabbed_at : (s : List ℕ) (x : FoundBody) → untabbed (detabbed_at s x) ≡ untabbed s
+untabbed_at : (s : List ℕ) (x : Option Span) → untabbed (detabbed_at s x) ≡ untabbed s
 unfolding detabbed_at
-untabbed_at s body.Absent = refl
-untabbed_at s (body.At b) = untabbed_part s b
+untabbed_at s None = refl
+untabbed_at s (Some b) = untabbed_part s b
 
 pub length_detabbed : (s : List ℕ) → length (detabbed s) ≡ length s
 length_detabbed s = sym (length_untabbed (detabbed s)) ∙ ap length (untabbed_at s (found_body s)) ∙ length_untabbed s
 
 -- ---- two texts that differ in tabs and spaces only, the body of the one converted in the other
 
-abbrev Converted : List ℕ → List ℕ → FoundBody → Type 0
-Converted s s' body.Absent = Unit {0}
-Converted s s' (body.At b) = text_in s' b ≡ spaced false (text_in s b)
+abbrev Converted : List ℕ → List ℕ → Option Span → Type 0
+Converted s s' None = Unit {0}
+Converted s s' (Some b) = text_in s' b ≡ spaced false (text_in s b)
 
-converted_at : (s : List ℕ) (x : FoundBody) → Converted s (detabbed_at s x) x
+converted_at : (s : List ℕ) (x : Option Span) → Converted s (detabbed_at s x) x
 unfolding detabbed_at
-converted_at s body.Absent = tt
-converted_at s (body.At b) = part_converted s b
+converted_at s None = tt
+converted_at s (Some b) = part_converted s b
 
 module _ (s s' : List ℕ) (e : untabbed s' ≡ untabbed s) where
   -- what a text with spaces for tabs says alike, both say alike
@@ -126,43 +119,43 @@ module _ (s s' : List ℕ) (e : untabbed s' ≡ untabbed s) where
     same_by_first n f l start (refuse c a) = refl
     same_by_first n f l start (accept ys) = rw (alike_mark t.firsty) refl
 
-    same_table : (n : Numbers) (start : ℕ) (f l : ℤ) → Converted s s' (body.At (body_from t start)) → table_by read_table s' space t n start f l ≡ table_by read_before s space t n start f l
+    same_table : (n : Numbers) (start : ℕ) (f l : ℤ) → Converted s s' (Some (body_from t start)) → table_by read_table s' space t n start f l ≡ table_by read_before s space t n start f l
     unfolding table_by
     same_table n start f l h =
         let c : drop start (text_in s' t.xydata) ≡ spaced false (drop start (text_in s t.xydata))
         = sym (body_is s' t.xydata start) ∙ h ∙ ap (spaced false) (body_is s t.xydata start) in
         rw (c, converted_table f l n.npoints (drop start (text_in s t.xydata)) space) (same_by_first n f l _ _)
 
-    same_last : (n : Numbers) (start : ℕ) (f : ℤ) (r : Rounded) → Converted s s' (body.At (body_from t start)) → last_by read_table s' space t n start f r ≡ last_by read_before s space t n start f r
+    same_last : (n : Numbers) (start : ℕ) (f : ℤ) (r : Option Whole) → Converted s s' (Some (body_from t start)) → last_by read_table s' space t n start f r ≡ last_by read_before s space t n start f r
     unfolding last_by
-    same_last n start f Rounded.Beyond h = rw (alike_mark t.lastx) refl
-    same_last n start f (Rounded.Whole minus q) h = same_table n start f (whole minus q) h
+    same_last n start f None h = rw (alike_mark t.lastx) refl
+    same_last n start f (Some x) h = same_table n start f (whole x.minus x.size) h
 
-    same_abscissas : (n : Numbers) (start : ℕ) (r : Rounded) → Converted s s' (body.At (body_from t start)) → abscissas_by read_table s' space t n start r ≡ abscissas_by read_before s space t n start r
+    same_abscissas : (n : Numbers) (start : ℕ) (r : Option Whole) → Converted s s' (Some (body_from t start)) → abscissas_by read_table s' space t n start r ≡ abscissas_by read_before s space t n start r
     unfolding abscissas_by
-    same_abscissas n start Rounded.Beyond h = rw (alike_mark t.firstx) refl
-    same_abscissas n start (Rounded.Whole minus q) h = same_last n start (whole minus q) (abscissa_of n.lastx n.xfactor).rounded h
+    same_abscissas n start None h = rw (alike_mark t.firstx) refl
+    same_abscissas n start (Some x) h = same_last n start (whole x.minus x.size) (abscissa_of n.lastx n.xfactor).rounded h
 
-    same_list : (n : Numbers) (x : Listed) → Converted s s' (found_at t x) → list_by read_table s' space t n x ≡ list_by read_before s space t n x
+    same_list : (n : Numbers) (x : Option ℕ) → Converted s s' (found_at t x) → list_by read_table s' space t n x ≡ list_by read_before s space t n x
     unfolding list_by found_at
-    same_list n listed.Unlisted h = rw (alike_mark t.xydata) refl
-    same_list n (listed.Body start) h = same_abscissas n start (abscissa_of n.firstx n.xfactor).rounded h
+    same_list n None h = rw (alike_mark t.xydata) refl
+    same_list n (Some start) h = same_abscissas n start (abscissa_of n.firstx n.xfactor).rounded h
 
-    same_by_figures : (x : Figures) → Converted s s' (found_at t (listed_in (text_in s t.xydata))) → figures_by read_table s' space t x ≡ figures_by read_before s space t x
+    same_by_figures : (x : Result Numbers ℕ) → Converted s s' (found_at t (listed_in (text_in s t.xydata))) → figures_by read_table s' space t x ≡ figures_by read_before s space t x
     unfolding figures_by
-    same_by_figures (figures.Wrong a) h = refl
-    same_by_figures (figures.All n) h = rw (alike_listed t.xydata) (same_list n (listed_in (text_in s t.xydata)) h)
+    same_by_figures (Err a) h = refl
+    same_by_figures (Ok n) h = rw (alike_listed t.xydata) (same_list n (listed_in (text_in s t.xydata)) h)
 
-  same_records : (space stop : ℕ) (x : Gathered) → Converted s s' (found_in s x) → records_by read_table s' space stop x ≡ records_by read_before s space stop x
+  same_records : (space stop : ℕ) (x : Option Needed) → Converted s s' (found_in s x) → records_by read_table s' space stop x ≡ records_by read_before s space stop x
   unfolding records_by found_in
-  same_records space stop gathered.Lacking h = refl
-  same_records space stop (gathered.All t) h = rw (alike (λ l. figures_of l t) (λ l. same_figures l t)) (same_by_figures space t (figures_of s t) h)
+  same_records space stop None h = refl
+  same_records space stop (Some t) h = rw (alike (λ l. figures_of l t) (λ l. same_figures l t)) (same_by_figures space t (figures_of s t) h)
 
-  same_labels : (space : ℕ) (x : Labelled) → Converted s s' (found_between s x) → labels_by read_table s' space x ≡ labels_by read_before s space x
+  same_labels : (space : ℕ) (x : Result Places Fault) → Converted s s' (found_between s x) → labels_by read_table s' space x ≡ labels_by read_before s space x
   unfolding labels_by found_between
-  same_labels space (Labelled.Refused r) h = refl
-  same_labels space (Labelled.Places m e x) h =
-      rw (alike (λ l. gathered_from l (suc e) x) (λ l. same_gathered l (suc e) x)) (same_records space x (gathered_from s (suc e) x) h)
+  same_labels space (Err r) h = refl
+  same_labels space (Ok y) h =
+      rw (alike (λ l. gathered_from l (suc y.eq) y.end) (λ l. same_gathered l (suc y.eq) y.end)) (same_records space y.end (gathered_from s (suc y.eq) y.end) h)
 
   same_read : (space : ℕ) → Converted s s' (found_body s) → read_file s' space ≡ read_file_before s space
   unfolding read_file_by

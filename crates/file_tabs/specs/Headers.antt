@@ -1,5 +1,5 @@
 -- T-13: "in headers it may stay". Labels, records and their texts are the same where each tab of a text is a space. Assumes nothing.
-use Rattle.std.specs.Prelude.{◌≡◌, refl, Bool, true, false, not, List, [], ◌∷◌, ℕ, zero, suc, ◌+◌, ◌-◌, eqb, length, get_or, take, drop}
+use Rattle.std.specs.Prelude.{◌≡◌, refl, Bool, true, false, not, List, [], ◌∷◌, ℕ, zero, suc, ◌+◌, ◌-◌, eqb, length, get_or, take, drop, Option, Some, None, Result, Ok, Err}
 use Rattle.std.proofs.Common.{ap, ◌∙◌, eqb-true}
 use Rattle.terms.specs.Logic.{pick, by_case}
 use Rattle.terms.specs.Places.{line_of, column_after}
@@ -9,12 +9,10 @@ use Rattle.label_spec.specs.Names.{blank, ignored, norm}
 use Rattle.label_spec.specs.Labels.{Walk, eq_in, headed, step, walk, from, hashed}
 use Rattle.label_spec.specs.Space.{space, opens, past, past_at}
 use Rattle.label_spec.specs.File.{opened_at, opened, after_title, labelled}
-use Rattle.label_spec.specs.declared.Spot.{Spot}
-use Rattle.label_spec.specs.declared.Spot.TheVariants.{Place, Nowhere}
-use Rattle.label_spec.specs.declared.Opened.{Opened}
-use Rattle.file_spec.specs.declared.Span.{Span}
-use Rattle.file_spec.specs.declared.Listed.{Listed}
+use Rattle.label_spec.specs.declared.Span.{Span}
 use Rattle.file_spec.specs.Texts.{text_in, gathered_from, spacing, first_mark, mark_of, LIST, matched, listed_as, listed_in}
+use Rattle.label_spec.specs.declared.Edges.{Edges}
+use Rattle.terms.specs.declared.Fault.{Fault}
 
 -- a text with a space for each tab, in comments too
 unfoldable pub untabbed : List ℕ → List ℕ
@@ -85,10 +83,10 @@ unfolding eq_in untabbed
 same_eq [] i = refl
 same_eq (b ∷ s) i = rw (eq_same false b 61 refl refl, eq_same false b 10 refl refl, same_eq s (i + 1)) refl
 
-same_headed : (s : List ℕ) (m n : ℕ) (K : Walk) (p : Spot) → headed (untabbed s) m n K p ≡ headed s m n K p
+same_headed : (s : List ℕ) (m n : ℕ) (K : Walk) (p : Option ℕ) → headed (untabbed s) m n K p ≡ headed s m n K p
 unfolding headed
-same_headed s m n K Nowhere = refl
-same_headed s m n K (Place e) = rw (take_untabbed (e - n) s, same_norm (take (e - n) s)) refl
+same_headed s m n K None = refl
+same_headed s m n K (Some e) = rw (take_untabbed (e - n) s, same_norm (take (e - n) s)) refl
 
 same_step : (J K : Bool → Walk) (s : List ℕ) (i : ℕ) (t : Bool) (b : ℕ) → ((u : Bool) → J u ≡ K u) → step J (untabbed s) i t (changed false b) ≡ step K s i t b
 unfolding step
@@ -146,10 +144,10 @@ same_opened : (s : List ℕ) → opened (untabbed s) ≡ opened s
 unfolding opened opened_at
 same_opened s = rw (same_past_at s 0 false, same_hashed s (past_at s 0 false), same_from s (past_at s 0 false) true) refl
 
-same_after : (s : List ℕ) (o : Opened) → after_title (untabbed s) o ≡ after_title s o
+same_after : (s : List ℕ) (o : Result Edges Fault) → after_title (untabbed s) o ≡ after_title s o
 unfolding after_title
-same_after s (Opened.Title m e) = rw (length_untabbed s, same_from s (e + 1) false) refl
-same_after s (Opened.Refused r) = refl
+same_after s (Ok x) = rw (length_untabbed s, same_from s (x.eq + 1) false) refl
+same_after s (Err r) = refl
 
 pub same_labelled : (s : List ℕ) → labelled (untabbed s) ≡ labelled s
 unfolding labelled
@@ -177,7 +175,7 @@ pub same_mark : (s : List ℕ) (t : Span) → mark_of (untabbed s) t ≡ mark_of
 unfolding mark_of
 same_mark s t = rw (text_untabbed s t, same_first (text_in s t) 0) refl
 
-same_matched : (b : ℕ) (w : List ℕ) (f g : List ℕ → Listed) → ((v : List ℕ) → f v ≡ g v) → matched b w f ≡ matched b w g
+same_matched : (b : ℕ) (w : List ℕ) (f g : List ℕ → Option ℕ) → ((v : List ℕ) → f v ≡ g v) → matched b w f ≡ matched b w g
 same_matched b [] f g h = refl
 same_matched b (c ∷ w) f g h = rw (h w) refl
 

@@ -1,16 +1,16 @@
 -- T-13: the numbers of a file are the same where each tab of their texts is a space. Assumes nothing.
-use Rattle.std.specs.Prelude.{◌≡◌, refl, Bool, true, false, List, [], ◌∷◌, ℕ, ◌+◌, ◌-◌, drop}
+use Rattle.std.specs.Prelude.{◌≡◌, refl, Bool, true, false, List, [], ◌∷◌, ℕ, ◌+◌, ◌-◌, drop, Option, Some, None}
 use Rattle.alphabet_spec.specs.Digits.{Run, long, run, digits}
 use Rattle.decimal_spec.specs.Number.{most_digits, before_point, mantissa_at, exponent_at, unsigned, number_at, count_at}
-use Rattle.decimal_spec.specs.declared.Mantissa.{Mantissa}
-use Rattle.decimal_spec.specs.declared.Number.{Number}
-use Rattle.decimal_spec.specs.declared.Count.{Count}
 use Rattle.label_spec.specs.Space.{past_space}
 use Rattle.table_tabs.specs.Converted.{more_same}
 use Rattle.file_spec.specs.declared.Needed.{Needed}
 use Rattle.file_spec.specs.Texts.{text_in}
 use Rattle.file_spec.specs.Figures.{alone, decimal_in, alone_count, count_in, figures_of}
 use Rattle.file_tabs.specs.Headers.{untabbed, tab_or_same, length_untabbed, drop_untabbed, same_byte, same_past_at, text_untabbed, same_mark}
+use Rattle.decimal_spec.specs.declared.Mantissa.{Mantissa}
+use Rattle.decimal_spec.specs.declared.Number.{Number}
+use Rattle.decimal_spec.specs.declared.Count.{Count}
 
 same_digits : (s : List ℕ) (m v n : ℕ) → digits (untabbed s) m v n ≡ digits s m v n
 unfolding digits untabbed
@@ -38,10 +38,10 @@ unfolding exponent_at
 same_exponent s i =
     rw (same_byte s i 69 refl refl, same_byte s (i + 1) 43 refl refl, same_byte s (i + 1) 45 refl refl, digits_from s (i + 2) 3 0 0) refl
 
-same_unsigned : (s : List ℕ) (minus : Bool) (x : Mantissa) → unsigned (untabbed s) minus x ≡ unsigned s minus x
+same_unsigned : (s : List ℕ) (minus : Bool) (x : Option Mantissa) → unsigned (untabbed s) minus x ≡ unsigned s minus x
 unfolding unsigned
-same_unsigned s minus Mantissa.Misspelled = refl
-same_unsigned s minus (Mantissa.Digits v f j) = rw (same_exponent s j) refl
+same_unsigned s minus None = refl
+same_unsigned s minus (Some x) = rw (same_exponent s x.end) refl
 
 same_number : (s : List ℕ) (i : ℕ) → number_at (untabbed s) i ≡ number_at s i
 unfolding number_at
@@ -62,19 +62,19 @@ same_count_at s i = rw (digits_from s i most_digits 0 0) refl
 
 -- ---- the texts that are numbers
 
-same_alone : (p : List ℕ) (x : Number) → alone (untabbed p) x ≡ alone p x
+same_alone : (p : List ℕ) (x : Option Number) → alone (untabbed p) x ≡ alone p x
 unfolding alone
-same_alone p Number.Misspelled = refl
-same_alone p (Number.Decimal minus m e j) = rw (same_past_at p j false, length_untabbed p) refl
+same_alone p None = refl
+same_alone p (Some x) = rw (same_past_at p x.end false, length_untabbed p) refl
 
 same_decimal : (p : List ℕ) → decimal_in (untabbed p) ≡ decimal_in p
 unfolding decimal_in
 same_decimal p = rw (same_past_at p 0 false, same_number p (past_space p 0)) (same_alone p (number_at p (past_space p 0)))
 
-same_alone_count : (p : List ℕ) (x : Count) → alone_count (untabbed p) x ≡ alone_count p x
+same_alone_count : (p : List ℕ) (x : Option Count) → alone_count (untabbed p) x ≡ alone_count p x
 unfolding alone_count
-same_alone_count p Count.Misspelled = refl
-same_alone_count p (Count.Counted v j) = rw (same_past_at p j false, length_untabbed p) refl
+same_alone_count p None = refl
+same_alone_count p (Some x) = rw (same_past_at p x.end false, length_untabbed p) refl
 
 same_count : (p : List ℕ) → count_in (untabbed p) ≡ count_in p
 unfolding count_in

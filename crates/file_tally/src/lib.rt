@@ -3,19 +3,19 @@
 
 ghost use Rattle.file_tally.specs.Says.{ReportSays};
 
-use file_spec::FileRead;
-use night_spec::FileReport;
 use ordinate_account::account;
+use terms::Refusal;
+use night_spec::Account;
 
 // The report of a file: any bytes, any slice. The slice is left as reading the file leaves it.
-pub fn report_file(file: &[u8], out: &mut [i32]) -> FileReport
+pub fn report_file(file: &[u8], out: &mut [i32]) -> Result<Account, Refusal>
     ensures { ReportSays file.now out.old out.new result }
 {
     match file::read_file(file, out) {
-        FileRead::Refused(r) => FileReport::Refused(r),
-        FileRead::Accepted(t) => {
+        Err(r) => Err(r),
+        Ok(t) => {
             let n = t.points;
-            FileReport::Read(account(out, n))
+            Ok(account(out, n))
         }
     }
 }

@@ -10,11 +10,11 @@ ghost use Rattle.figure.specs.Bounds.{GivenIn, FactorIn};
 
 use decimal_spec::{Count, Number};
 use figure::exceed;
-use file_spec::{Decimal, Given, Span};
+use file_spec::{Decimal, Span};
 use label_space::past_space;
 
 // The decimal that the text of a record is, with blanks, line ends and comments around it.
-pub fn decimal_in(file: &[u8], x: Span) -> Given
+pub fn decimal_in(file: &[u8], x: Span) -> Option<Decimal>
     requires { Within (length file.now) x }
     ensures { (result ≡ decimal_in (text_in file.now x)) × GivenIn result }
 {
@@ -24,22 +24,22 @@ pub fn decimal_in(file: &[u8], x: Span) -> Given
 }
 
 // The decimal that a text is.
-fn decimal_alone(part: &[u8]) -> Given
+fn decimal_alone(part: &[u8]) -> Option<Decimal>
     ensures { (result ≡ decimal_in part.now) × GivenIn result }
 {
     let at = past_space(part, 0);
     match decimal::number(part, at) {
-        Number::Misspelled => Given::Misspelled,
-        Number::Decimal {
+        None => None,
+        Some(Number {
             minus,
             mantissa,
             power,
             end,
-        } => {
+        }) => {
             if past_space(part, end) != part.len() {
-                return Given::Misspelled;
+                return None;
             }
-            Given::Is(Decimal {
+            Some(Decimal {
                 minus,
                 mantissa,
                 power,
@@ -49,7 +49,7 @@ fn decimal_alone(part: &[u8]) -> Given
 }
 
 // The factor that the text of a record is.
-pub fn factor_in(file: &[u8], x: Span) -> Given
+pub fn factor_in(file: &[u8], x: Span) -> Option<Decimal>
     requires { Within (length file.now) x }
     ensures { (result ≡ exceeding (decimal_in (text_in file.now x))) × FactorIn result }
 {
@@ -57,23 +57,23 @@ pub fn factor_in(file: &[u8], x: Span) -> Given
 }
 
 // The count that a text is (NPOINTS).
-fn count_alone(part: &[u8]) -> Count
+fn count_alone(part: &[u8]) -> Option<Count>
     ensures { (result ≡ count_in part.now) × CountSmall result }
 {
     let at = past_space(part, 0);
     match decimal_digits::count(part, at) {
-        Count::Misspelled => Count::Misspelled,
-        Count::Counted { value, end } => {
+        None => None,
+        Some(Count { value, end }) => {
             if past_space(part, end) != part.len() {
-                return Count::Misspelled;
+                return None;
             }
-            Count::Counted { value, end }
+            Some(Count { value, end })
         }
     }
 }
 
 // The count that the text of a record is.
-pub fn count_in(file: &[u8], x: Span) -> Count
+pub fn count_in(file: &[u8], x: Span) -> Option<Count>
     requires { Within (length file.now) x }
     ensures { (result ≡ count_in (text_in file.now x)) × CountSmall result }
 {

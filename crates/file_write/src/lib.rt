@@ -8,8 +8,9 @@ ghost use Rattle.file_write.specs.Room.{FileMeasured};
 
 use file_lay::{lay, refused};
 use file_measure::measure;
-use file_plan::{Planned, plan_file};
-use file_write_spec::{FileWritten, Scales};
+use file_plan::plan_file;
+use file_write_spec::{FileLength, Scales};
+use terms::Fault;
 
 // Writes a file: any title, N, decimals and slices. Written: its length and what of it is exact, and the file stands from the first
 // of the lent bytes on. Refused, at place 0: every lent byte is what it was.
@@ -19,22 +20,22 @@ pub fn write_file(
     scales: Scales,
     ordinates: &[i32],
     text: &mut [u8],
-) -> FileWritten
+) -> Result<FileLength, Fault>
     ensures { FileTells (file_exact scales points ordinates.now)
         (write_file title.now points scales ordinates.now (length text.old)) text.old text.new result }
 {
     match plan_file(title, points, scales, ordinates) {
-        Planned::Refused(number) => refused(number),
-        Planned::Taken(p) => lay(title, p.numbers, p.first, p.last, p.exact, ordinates, text),
+        Err(why) => refused(number),
+        Ok(p) => lay(title, p.numbers, p.first, p.last, p.exact, ordinates, text),
     }
 }
 
 // The length of the file that `write_file` would write, however little room there is, and what of it is exact; or its refusal, which is never 15 (02, T-10). Nothing is written.
-pub fn file_length(title: &[u8], points: usize, scales: Scales, ordinates: &[i32]) -> FileWritten
+pub fn file_length(title: &[u8], points: usize, scales: Scales, ordinates: &[i32]) -> Result<FileLength, Fault>
     ensures { FileMeasured title.now points scales ordinates.now result }
 {
     match plan_file(title, points, scales, ordinates) {
-        Planned::Refused(number) => refused(number),
-        Planned::Taken(p) => measure(title, p.numbers, p.first, p.last, p.exact, ordinates),
+        Err(why) => refused(number),
+        Ok(p) => measure(title, p.numbers, p.first, p.last, p.exact, ordinates),
     }
 }

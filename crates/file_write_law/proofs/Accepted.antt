@@ -1,6 +1,6 @@
 -- 02, T-04: "Our reader must accept each file written and return the same ordinates, F and L"; T-08: and the same exactness.
 -- Each line has at most 80 bytes, and the file is within its limit. Assumes nothing.
-use Rattle.std.specs.Prelude.{◌≡◌, Bool, true, false, List, ◌++◌, ℕ, ◌+◌, ◌*◌, ◌≤◌, ltb, leb, ℤ, length}
+use Rattle.std.specs.Prelude.{◌≡◌, Bool, true, false, List, ◌++◌, ℕ, ◌+◌, ◌*◌, ◌≤◌, ltb, leb, ℤ, length, Option, Some, None}
 use Rattle.std.proofs.Math.Path.{refl}
 use Rattle.std.proofs.Common.{arith}
 use borrow.Author.Tests.{le-ltb, ltb-false, leb-true}
@@ -13,8 +13,6 @@ use Rattle.table_spec.specs.Writing.{Outcome, declined, wrote, fitted, write_tab
 use Rattle.table_spec.specs.declared.Style.TheVariants.{Difdup}
 use Rattle.table_write_law.proofs.EightyBytes.{Lined, inner_lined}
 use Rattle.table_write_law.proofs.ReadBack.{Entries, wrote_inner, wrote_most, reads_back}
-use Rattle.decimal_spec.specs.declared.Rounded.{Rounded}
-use Rattle.file_spec.specs.declared.Listed.TheVariants as listed
 use Rattle.file_spec.specs.Texts.{spacing, LIST, listed_as, listed_in}
 use Rattle.file_spec.specs.File.{accept_file, by_first, table_by, last_by, abscissas_by, list_by, figures_by, records_by, labels_by, read_file_by, read_file}
 use Rattle.file_write_spec.specs.declared.Scales.{Scales}
@@ -24,22 +22,24 @@ use Rattle.file_write_spec.specs.File.{body_text, text_of_file, by_frame, write_
 use Rattle.file_write_law.specs.Lengths.{title_fits, scales_fit, file_most}
 use Rattle.file_write_law.proofs.Lengths.{file_lined}
 use Rattle.file_write_law.proofs.Found.{Parts, whole_file, spans, file_short, labelled_is, gathered_is, texts_written, figures_are}
+use Rattle.decimal_spec.specs.declared.Whole.{Whole}
+use Rattle.decimal_spec.specs.Parts.{whole_with}
 
 -- the list is the one asked for, and the body starts on the next line
-listed_is : (body : List ℕ) → listed_in (LIST ++ crlf ++ body) ≡ listed.Body 13
+listed_is : (body : List ℕ) → listed_in (LIST ++ crlf ++ body) ≡ Some 13
 unfolding listed_in listed_as spacing blank
 listed_is body = refl
 
 -- a quotient within its limit
-pub record Limited (r : Rounded) : Type 0 where
+pub record Limited (r : Option Whole) : Type 0 where
   pub minus : Bool
   pub size : ℕ
-  pub is : r ≡ Rounded.Whole minus size
+  pub is : r ≡ Some (whole_with minus size)
 
 -- ---- reading the parts, down to the table
 
 module _ (title : List ℕ) (c : Scales) (n : ℕ) (body : List ℕ) (k : Parts title c n body) (room : ℕ) where
-  file_table : (f l : Rounded) → first_quotient c n ≡ f → last_quotient c n ≡ l → Limited f → Limited l
+  file_table : (f l : Option Whole) → first_quotient c n ≡ f → last_quotient c n ≡ l → Limited f → Limited l
       → read_file (whole_file title c n body) room
       ≡ by_first (whole_file title c n body) room (spans title c n body) (numbers c n) (within_limit f) (within_limit l) ((spans title c n body).xydata.from + 13)
       (read_table (within_limit f) (within_limit l) n body room)
@@ -98,7 +98,7 @@ module _ (title : List ℕ) (n : ℕ) (c : Scales) (es : List ℤ) where
       let r : fitted space t ≡ wrote t = rw (le-ltb space (length t) (omega (arith, text_most k))) refl in
       rw (k.titled, k.scaled) (within (first_quotient c n) k.first (within (last_quotient c n) k.last (rw (k.legal, le-ltb (length es) n k.enough, k.begins) r)))
     where
-      within : (q : Rounded) {x y : Outcome} → Limited q → x ≡ y → limited q x ≡ y
+      within : (q : Option Whole) {x y : Outcome} → Limited q → x ≡ y → limited q x ≡ y
       within q l e = rw l.is e
 
   -- ---- what was written
@@ -116,9 +116,9 @@ module _ (title : List ℕ) (n : ℕ) (c : Scales) (es : List ℤ) where
     spared true x k e f = never e
     spared false x k e f = f refl e
 
-    bounded : {A : Type 0} (r : Rounded) (x : Outcome) → limited r x ≡ wrote s → (Limited r → x ≡ wrote s → A) → A
-    bounded (Rounded.Whole minus q) x e f = f (record { minus = minus; size = q; is = refl }) e
-    bounded Rounded.Beyond x e f = never e
+    bounded : {A : Type 0} (r : Option Whole) (x : Outcome) → limited r x ≡ wrote s → (Limited r → x ≡ wrote s → A) → A
+    bounded (Some y) x e f = f (record { y.minus = y.minus; size = y.size; is = refl }) e
+    bounded None x e f = never e
 
     -- the writer took all this, and the text is the one defined
     pub went : write_file title n c es space ≡ wrote s → Taken title n c es × (text_of_file title n c es ≡ s)

@@ -1,14 +1,11 @@
 -- A written file has its labels, its seven records and its numbers (01, "The file"; 02, T-04). Assumes nothing.
-use Rattle.std.specs.Prelude.{◌≡◌, ℕ, ◌+◌, ◌*◌, ◌≤◌, ◌<◌, length, drop}
+use Rattle.std.specs.Prelude.{◌≡◌, ℕ, ◌+◌, ◌*◌, ◌≤◌, ◌<◌, length, drop, Option, Some, Ok}
 use Rattle.std.proofs.Math.Path.{refl, sym, ap}
 use Rattle.std.proofs.Common.{◌∙◌, drop-drop, le-leb}
 use Rattle.std.proofs.Math.Bool.{true, false}
 use mathlib.Core.List.{List, [], ◌∷◌, ◌++◌}
 use native.Mathlib.Omega.{arith}
 use Rattle.std.proofs.Math.Seq.{drop-append_seam}
-use Rattle.label_spec.specs.declared.Found.{Found}
-use Rattle.label_spec.specs.declared.Labelled.{Labelled}
-use Rattle.label_spec.specs.declared.Opened.{Opened}
 use Rattle.label_spec.specs.Names.{blank, ignored, upper, norm, sames, TITLE, END}
 use Rattle.label_spec.specs.Space.{space, opens, past, past_at}
 use Rattle.label_spec.specs.Labels.{from, hashed}
@@ -17,8 +14,6 @@ use Rattle.label_spec.specs.Records.{record_of}
 use Rattle.decimal_spec.specs.Number.{bound}
 use Rattle.table_write_law.proofs.EightyBytes.{LinedOf, Inner}
 use Rattle.file_spec.specs.declared.Needed.{Needed}
-use Rattle.file_spec.specs.declared.Gathered.TheVariants as gathered
-use Rattle.file_spec.specs.declared.Figures.TheVariants as figures
 use Rattle.file_spec.specs.Texts.{XFACTOR, YFACTOR, FIRSTX, LASTX, NPOINTS, FIRSTY, XYDATA, with_text, gathered_from}
 use Rattle.file_spec.specs.Figures.{figures_of}
 use Rattle.file_write_spec.specs.declared.Scales.{Scales}
@@ -33,6 +28,8 @@ use Rattle.file_write_law.specs.Numbers.{decimal_in_lem, factor_in, count_in_lem
 use Rattle.file_write_law.specs.Settled.{OneLine, count_line, decimal_line}
 use Rattle.file_write_law.proofs.Settled.{line_settles, lined_settles}
 use Rattle.file_write_law.specs.Lengths.{title_fits, scales_fit, file_most}
+use Rattle.label_spec.specs.declared.Span.{Span}
+use Rattle.label_spec.specs.Parts.{edges_with, places_with}
 
 -- what is asked of the parts of a file
 pub record Parts (title : List ℕ) (c : Scales) (n : ℕ) (body : List ℕ) : Type 0 where
@@ -106,11 +103,11 @@ module _ (title : List ℕ) (c : Scales) (n : ℕ) (body : List ℕ) where
   unfolding hashed file_text entries_text entry_text
   title_hashed = refl
 
-  opened_is : OneLine title → LinedOf Inner 0 body → opened whole_file ≡ Opened.Title 0 7
+  opened_is : OneLine title → LinedOf Inner 0 body → opened whole_file ≡ Ok (edges_with 0 7)
   unfolding opened opened_at titled sames TITLE
   opened_is o l = rw (first_byte, title_hashed, from_start o l) refl
 
-  judged_is : (len : ℕ) → placed 0 7 (judged len [] (labels rest begin)) ≡ Labelled.Places 0 7 stop
+  judged_is : (len : ℕ) → placed 0 7 (judged len [] (labels rest begin)) ≡ Ok (places_with 0 7 stop)
   unfolding placed judged twice member sames TITLE END
   judged_is len = refl
 
@@ -123,7 +120,7 @@ module _ (title : List ℕ) (c : Scales) (n : ℕ) (body : List ℕ) where
   title_one : Parts title c n body → OneLine title
   title_one k = (title_fits title k.titled).one
 
-  pub labelled_is : Parts title c n body → labelled whole_file ≡ Labelled.Places 0 7 stop
+  pub labelled_is : Parts title c n body → labelled whole_file ≡ Ok (places_with 0 7 stop)
   unfolding labelled after_title
   labelled_is k =
       let o = title_one k in
@@ -143,15 +140,15 @@ module _ (title : List ℕ) (c : Scales) (n : ℕ) (body : List ℕ) where
         xydata = nth 6 (needed c n body) begin;
       }
 
-  gathers : (found : List ℕ → Found) → ((w : List ℕ) → found w ≡ span_of w (needed c n body) begin)
+  gathers : (found : List ℕ → Option Span) → ((w : List ℕ) → found w ≡ span_of w (needed c n body) begin)
       → with_text (found XFACTOR) (λ xf. with_text (found YFACTOR) (λ yf. with_text (found FIRSTX) (λ fx. with_text (found LASTX) (λ lx.
       with_text (found NPOINTS) (λ np. with_text (found FIRSTY) (λ fy. with_text (found XYDATA) (λ xy.
-      gathered.All (record { xfactor = xf; yfactor = yf; firstx = fx; lastx = lx; npoints = np; firsty = fy; xydata = xy }))))))))
-      ≡ gathered.All spans
+      Some (record { xfactor = xf; yfactor = yf; firstx = fx; lastx = lx; npoints = np; firsty = fy; xydata = xy }))))))))
+      ≡ Some spans
   unfolding sames
   gathers found h = rw (h XFACTOR, h YFACTOR, h FIRSTX, h LASTX, h NPOINTS, h FIRSTY, h XYDATA) refl
 
-  pub gathered_is : Parts title c n body → gathered_from whole_file 8 stop ≡ gathered.All spans
+  pub gathered_is : Parts title c n body → gathered_from whole_file 8 stop ≡ Some spans
   unfolding gathered_from
   gathered_is k =
       gathers (λ w. record_of (length whole_file) stop w (from whole_file 8 false))
@@ -168,7 +165,7 @@ module _ (title : List ℕ) (c : Scales) (n : ℕ) (body : List ℕ) where
 
   -- ---- the numbers
 
-  pub figures_are : Parts title c n body → figures_of whole_file spans ≡ figures.All (numbers c n)
+  pub figures_are : Parts title c n body → figures_of whole_file spans ≡ Ok (numbers c n)
   unfolding figures_of
   figures_are k =
       let t = texts_written in

@@ -1,9 +1,8 @@
 -- The walk over written records meets exactly their labels, in order (01, "The file"; 02, T-04). Assumes nothing.
-use Rattle.std.specs.Prelude.{◌≡◌, refl, Bool, true, false, List, [], ◌∷◌, ◌++◌, ℕ, suc, ◌+◌, ◌-◌, eqb, leb, length}
+use Rattle.std.specs.Prelude.{◌≡◌, refl, Bool, true, false, List, [], ◌∷◌, ◌++◌, ℕ, suc, ◌+◌, ◌-◌, eqb, leb, length, Some}
 use Rattle.std.proofs.Common.{sym, ap, ◌∙◌, append_assoc, arith, add-zero, ne_eqb}
 use Rattle.std.proofs.Math.Seq.{take-append_seam}
 use Rattle.terms.specs.Logic.{pick, both, both_true, no_way}
-use Rattle.label_spec.specs.declared.Spot.TheVariants.{Place}
 use Rattle.label_spec.specs.Names.{blank, norm, sames}
 use Rattle.label_spec.specs.NameLaws.{sames_eq}
 use Rattle.label_spec.specs.Labels.{label, longest_name, eq_in, headed, step, walk}
@@ -36,13 +35,13 @@ plain_cons b v = cases (eqb b 61) (eqb b 10)
     cases false false h = (refl, refl, h)
 
 -- its line's first `=` stands right after it,
-equals_after : (v u : List ℕ) (i : ℕ) → plain v ≡ true → eq_in (v ++ 61 ∷ u) i ≡ Place (i + length v)
+equals_after : (v u : List ℕ) (i : ℕ) → plain v ≡ true → eq_in (v ++ 61 ∷ u) i ≡ Some (i + length v)
 unfolding eq_in
-equals_after [] u i h = ap Place (sym (add-zero i))
+equals_after [] u i h = ap Some (sym (add-zero i))
 equals_after (b ∷ v) u i h =
     let k = plain_cons b v h in
     let e : i + 1 + length v ≡ i + suc (length v) = omega arith in
-    rw (k.0, k.1) (equals_after v u (i + 1) k.2 ∙ ap Place e)
+    rw (k.0, k.1) (equals_after v u (i + 1) k.2 ∙ ap Some e)
 
 -- and the walk passes over both
 walk_name : (v u : List ℕ) (i : ℕ) → plain v ≡ true → walk (v ++ 61 ∷ u) i false ≡ walk u (i + length v + 1) false

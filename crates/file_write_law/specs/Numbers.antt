@@ -1,5 +1,5 @@
 -- The written numbers of a file are read as what they are (01, "Numbers"; 02, T-04). Assumes nothing.
-use Rattle.std.specs.Prelude.{◌≡◌, refl, true, false, ◌⊎◌, ℕ, suc, ◌+◌, ◌-◌, ◌*◌, ◌/◌, ◌%◌, ◌≤◌, ◌<◌, ltb, ℤ, pos, negsuc, nat_abs, length, get_or, drop}
+use Rattle.std.specs.Prelude.{◌≡◌, refl, true, false, ◌⊎◌, ℕ, suc, ◌+◌, ◌-◌, ◌*◌, ◌/◌, ◌%◌, ◌≤◌, ◌<◌, ltb, ℤ, pos, negsuc, nat_abs, length, get_or, drop, Some}
 use Rattle.std.proofs.Common.{sym, ap, ◌∙◌, subst, inl, inr, div-add-mod', lit<, lit≤, length-drop, ltb-true, eq-eqb}
 use mathlib.Core.List.{List, [], ◌∷◌, ◌++◌, append_assoc}
 use native.Mathlib.Omega.{arith}
@@ -16,12 +16,11 @@ use Rattle.table_write_law.specs.Numbers.{digits, top_small}
 use Rattle.decimal_spec.specs.Number.{bound, origin}
 use Rattle.decimal_spec.specs.Spelling.{SpelledMantissa, whole, SpelledExponent, up, down, SpelledNumber, plain, minus, SpelledCount, only}
 use Rattle.decimal_spec.proofs.SpellingLaws.{Ends, number_read, count_read}
-use Rattle.decimal_spec.specs.declared.Count.{Count}
-use Rattle.file_spec.specs.declared.Given.TheVariants as given
 use Rattle.file_spec.specs.Figures.{ends_there, alone, decimal_in, exceeding, alone_count, count_in}
 use Rattle.file_write_spec.specs.declared.GivenDecimal.{GivenDecimal}
 use Rattle.file_write_spec.specs.Records.{crlf}
 use Rattle.file_write_spec.specs.Decimals.{two_digits, mantissa_text, exponent_text, decimal_text, negative, decimal_of, decimal_taken, factor_taken}
+use Rattle.decimal_spec.specs.Parts.{count_with}
 
 -- ---- what is written is spelled
 
@@ -90,7 +89,7 @@ ends_crlf : Ends crlf
 ends_crlf = record { no_digit = refl; no_point = λ z. omega arith; no_exponent = λ z. omega arith }
 
 -- a decimal that is taken is read as it is
-pub decimal_in_lem : (d : GivenDecimal) → decimal_taken d ≡ true → decimal_in (decimal_text d ++ crlf) ≡ given.Is (decimal_of d)
+pub decimal_in_lem : (d : GivenDecimal) → decimal_taken d ≡ true → decimal_in (decimal_text d ++ crlf) ≡ Some (decimal_of d)
 unfolding decimal_in decimal_text decimal_taken alone
 decimal_in_lem d t =
     let h = both_true (ltb (nat_abs d.mantissa) bound) (ltb (nat_abs d.exponent) 100) t in
@@ -101,14 +100,14 @@ decimal_in_lem d t =
     let r = number_read p 0 (mantissa_spelled d.mantissa m (exponent_spelled d.exponent x)) refl ends_crlf in
     rw (append_assoc (mantissa_text d.mantissa) (exponent_text d.exponent) crlf, mantissa_begins d.mantissa u, r.1, ends_there_lem p r.0 r.2) refl
 
-pub factor_in : (d : GivenDecimal) → factor_taken d ≡ true → exceeding (decimal_in (decimal_text d ++ crlf)) ≡ given.Is (decimal_of d)
+pub factor_in : (d : GivenDecimal) → factor_taken d ≡ true → exceeding (decimal_in (decimal_text d ++ crlf)) ≡ Some (decimal_of d)
 unfolding factor_taken exceeding
 factor_in d t =
     let h = both_true (decimal_taken d) (both (pick (negative d.mantissa) false true) (ltb 0 (nat_abs d.mantissa))) t in
     rw (decimal_in_lem d h.0, h.1) refl
 
 -- and so is a count
-pub count_in_lem : (v : ℕ) → v < bound → (j : ℕ) × (count_in (plain_text v ++ crlf) ≡ Count.Counted v j)
+pub count_in_lem : (v : ℕ) → v < bound → (j : ℕ) × (count_in (plain_text v ++ crlf) ≡ Some (count_with v j))
 unfolding count_in alone_count
 count_in_lem v h =
     let p = plain_text v ++ crlf in

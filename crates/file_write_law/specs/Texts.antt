@@ -1,12 +1,11 @@
 -- Where the texts of written records are found, and that each is what was written (01, "The text of a record"; 02, T-04). Assumes nothing.
-use Rattle.std.specs.Prelude.{◌≡◌, refl, List, [], ◌∷◌, ◌++◌, ℕ, zero, suc, ◌+◌, ◌-◌, ◌≤◌, ◌<◌, length, drop}
+use Rattle.std.specs.Prelude.{◌≡◌, refl, List, [], ◌∷◌, ◌++◌, ℕ, zero, suc, ◌+◌, ◌-◌, ◌≤◌, ◌<◌, length, drop, Option, Some, None}
 use Rattle.std.proofs.Common.{sym, ap, ◌∙◌, append_assoc, arith, length-append, drop-drop, lt-ltb, le-ltb}
 use Rattle.std.proofs.Math.Seq.{take-append_seam, drop-append_seam}
-use Rattle.label_spec.specs.declared.Found.{Found}
 use Rattle.terms.specs.Logic.{pick}
 use Rattle.label_spec.specs.Names.{sames}
 use Rattle.label_spec.specs.Records.{mark_of, record_of}
-use Rattle.file_spec.specs.declared.Span.{Span}
+use Rattle.label_spec.specs.declared.Span.{Span}
 use Rattle.file_spec.specs.Texts.{text_in}
 use Rattle.file_write_spec.specs.Records.{Entry, entry_text, entries_text}
 use Rattle.file_write_law.specs.Labels.{size, inset, labels}
@@ -33,9 +32,9 @@ nth zero (r ∷ rs) i = span r i
 nth (suc k) (r ∷ rs) i = nth k rs (i + size r)
 
 -- the first of the records with that name, from i on
-abbrev pub span_of : List ℕ → List Entry → ℕ → Found
-span_of w [] i = Found.Absent
-span_of w (r ∷ rs) i = pick (sames r.name w) (Found.Text (i + inset r) (i + size r)) (span_of w rs (i + size r))
+abbrev pub span_of : List ℕ → List Entry → ℕ → Option Span
+span_of w [] i = None
+span_of w (r ∷ rs) i = pick (sames r.name w) (Some (span_of (i + inset r) (i + size r))) (span_of w rs (i + size r))
 
 -- is what `record_of` finds before a last record
 mark_labels : (len : ℕ) (rs : List Entry) (e : Entry) (i : ℕ) → mark_of len (labels (rs ++ e ∷ []) i) ≡ i

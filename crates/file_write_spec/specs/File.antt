@@ -1,11 +1,10 @@
 -- 02, T-04: the written file, and what writing it answers. "Refusals: 37 .. first of all; then 26, 28, 1, 2, 29, 15, all at place 0." Assumes nothing.
-use Rattle.std.specs.Prelude.{Bool, true, false, List, [], ◌∷◌, ◌++◌, map, ℕ, ltb, leb, eqb, ℤ, length, get_or, take}
+use Rattle.std.specs.Prelude.{Bool, true, false, List, [], ◌∷◌, ◌++◌, map, ℕ, ltb, leb, eqb, ℤ, length, get_or, take, Option, Some, None}
 use Rattle.terms.specs.Logic.{pick, both}
 use Rattle.table_spec.specs.Frame.{frame_legal, abscissa, ordinate_of}
 use Rattle.table_spec.specs.Writing.{Outcome, declined, fitted, written}
 use Rattle.table_spec.specs.declared.Style.TheVariants.{Difdup}
 use Rattle.label_spec.specs.Names.{TITLE, END}
-use Rattle.decimal_spec.specs.declared.Rounded.{Rounded}
 use Rattle.file_spec.specs.declared.Numbers.{Numbers}
 use Rattle.file_spec.specs.Texts.{XFACTOR, YFACTOR, FIRSTX, LASTX, NPOINTS, FIRSTY, XYDATA, LIST}
 use Rattle.file_spec.specs.declared.Exactness.{Exactness}
@@ -14,6 +13,7 @@ use Rattle.table_spec.specs.Groups.{plain_text}
 use Rattle.file_write_spec.specs.declared.Scales.{Scales}
 use Rattle.file_write_spec.specs.Records.{Entry, crlf, entries_text, line}
 use Rattle.file_write_spec.specs.Decimals.{decimal_text, decimal_of, decimal_taken, factor_taken}
+use Rattle.decimal_spec.specs.declared.Whole.{Whole}
 
 -- ---- the text: "TITLE, XFACTOR, YFACTOR, FIRSTX, LASTX, NPOINTS, FIRSTY, XYDATA, DIFDUP body, END, in that order, CR LF ends"
 
@@ -85,21 +85,21 @@ numbers c n =
     }
 
 -- 01: "F is FIRSTX/XFACTOR and L is LASTX/XFACTOR, to the nearest thousandth"
-abbrev pub first_quotient : Scales → ℕ → Rounded
+abbrev pub first_quotient : Scales → ℕ → Option Whole
 first_quotient c n = (abscissa_of (numbers c n).firstx (numbers c n).xfactor).rounded
 
-abbrev pub last_quotient : Scales → ℕ → Rounded
+abbrev pub last_quotient : Scales → ℕ → Option Whole
 last_quotient c n = (abscissa_of (numbers c n).lastx (numbers c n).xfactor).rounded
 
 -- a quotient beyond its limit is refused
-abbrev pub limited : Rounded → Outcome → Outcome
-limited Rounded.Beyond x = declined 28
-limited (Rounded.Whole minus q) x = x
+abbrev pub limited : Option Whole → Outcome → Outcome
+limited None x = declined 28
+limited (Some y) x = x
 
 -- the number that a quotient within its limit is; no other is asked for
-abbrev pub within_limit : Rounded → ℤ
-within_limit (Rounded.Whole minus q) = whole minus q
-within_limit Rounded.Beyond = whole false 0
+abbrev pub within_limit : Option Whole → ℤ
+within_limit (Some x) = whole x.minus x.size
+within_limit None = whole false 0
 
 abbrev pub first_of : Scales → ℕ → ℤ
 first_of c n = within_limit (first_quotient c n)

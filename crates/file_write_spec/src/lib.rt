@@ -28,9 +28,3 @@ pub struct FileLength {
     pub exact: Exactness,
 }
 
-// What writing a file answers: its length, or a fault at place 0.
-#[derive(Drop)]
-pub enum FileWritten {
-    Length(FileLength),
-    Refused(Fault),
-}

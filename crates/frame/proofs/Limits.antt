@@ -14,9 +14,9 @@ use Rattle.terms.specs.Logic.{pick, by_case, no_way}
 use Rattle.table_spec.specs.Frame.{frame_legal, abscissa, abscissa_legal, zero_abscissa, passes, apart, twice_off}
 use Rattle.signed.specs.Scale.{lift_small}
 use Rattle.frame.specs.declared.Frame.{Frame}
-use Rattle.frame.specs.declared.Framed.TheVariants.{Legal, Outside}
 use Rattle.frame.specs.Legal.{framed, lifted, Sound}
 use Rattle.frame.specs.FrameLaws.{legal_abscissa}
+use Rattle.std.specs.Prelude.{Some, None}
 
 -- ---- one abscissa
 
@@ -63,20 +63,20 @@ lifted_some x u =
 -- ---- the frame
 
 module _ (f l : ℤ) (n : ℕ) where
-  pub first_outside : lifted f ≡ 0 → Outside ≡ framed f l n
+  pub first_outside : lifted f ≡ 0 → None ≡ framed f l n
   unfolding framed frame_legal
   first_outside e = rw (lifted_zero f e) refl
 
-  pub last_outside : {u : ℕ} → Lifts f u → lifted l ≡ 0 → Outside ≡ framed f l n
+  pub last_outside : {u : ℕ} → Lifts f u → lifted l ≡ 0 → None ≡ framed f l n
   unfolding framed frame_legal
   last_outside a e = rw (a.legal, lifted_zero l e) refl
 
   module _ {u v : ℕ} (a : Lifts f u) (b : Lifts l v) where
-    pub no_point : n < 1 → Outside ≡ framed f l n
+    pub no_point : n < 1 → None ≡ framed f l n
     unfolding framed frame_legal
     no_point h = rw (a.legal, b.legal, lt-leb 1 n h) refl
 
-    pub too_many : 65536 < n → Outside ≡ framed f l n
+    pub too_many : 65536 < n → None ≡ framed f l n
     unfolding framed frame_legal
     too_many h = rw (a.legal, b.legal, le-leb 1 n (omega arith), lt-leb n 65536 h) refl
 
@@ -92,11 +92,11 @@ module _ (f l : ℤ) (n : ℕ) where
     alike false true e = no_way (sym e)
     alike false false e = refl
 
-    pub ill_matched : 1 ≤ n → n ≤ 65536 → not (beq (eqb n 1) (eqb u v)) ≡ true → Outside ≡ framed f l n
+    pub ill_matched : 1 ≤ n → n ≤ 65536 → not (beq (eqb n 1) (eqb u v)) ≡ true → None ≡ framed f l n
     unfolding framed frame_legal
     ill_matched h k e = rw (a.legal, b.legal, le-leb 1 n h, le-leb n 65536 k, a.is, b.is, unlike (eqb n 1) (eqb u v) e) refl
 
-    pub legal_frame : 1 ≤ n → n ≤ 65536 → not (beq (eqb n 1) (eqb u v)) ≡ false → Legal (record { first = u; last = v; points = n }) ≡ framed f l n
+    pub legal_frame : 1 ≤ n → n ≤ 65536 → not (beq (eqb n 1) (eqb u v)) ≡ false → Some (record { first = u; last = v; points = n }) ≡ framed f l n
     unfolding framed frame_legal
     legal_frame h k e = rw (a.legal, b.legal, le-leb 1 n h, le-leb n 65536 k, a.is, b.is, alike (eqb n 1) (eqb u v) e) refl
 

@@ -1,11 +1,10 @@
 -- What the answer of the frame's constructor says of F, L and N. Assumes nothing.
-use Rattle.std.specs.Prelude.{◌≡◌, true, false, ℕ, suc, ◌<◌, leb, ℤ, pos, negsuc}
+use Rattle.std.specs.Prelude.{◌≡◌, true, false, ℕ, suc, ◌<◌, leb, ℤ, pos, negsuc, Some, None}
 use Rattle.std.proofs.Math.Path.{refl}
 use Rattle.std.proofs.Common.{arith, leb-true}
 use Rattle.terms.specs.Logic.{pick, by_case, zero_one, both_true}
 use Rattle.table_spec.specs.Frame.{frame_legal, abscissa, abscissa_legal}
 use Rattle.frame.specs.declared.Frame.{Frame}
-use Rattle.frame.specs.declared.Framed.TheVariants.{Legal, Outside}
 use Rattle.frame.specs.Legal.{framed, Sound}
 
 pub legal_abscissa : (x : ℤ) → abscissa_legal x ≡ true → (0 < abscissa x) × (abscissa x < 20000000000)
@@ -26,13 +25,13 @@ pub record Framing (f l : ℤ) (n : ℕ) (fr : Frame) : Type 0 where
   pub sound : Sound fr
 
 module _ (f l : ℤ) (n : ℕ) where
-  pub framed_outside : framed f l n ≡ Outside → frame_legal f l n ≡ false
+  pub framed_outside : framed f l n ≡ None → frame_legal f l n ≡ false
   unfolding framed
   framed_outside =
-      by_case (λ t. pick t (Legal (record { first = abscissa f; last = abscissa l; points = n })) Outside ≡ Outside → t ≡ false) (frame_legal f l n) (λ _ e. zero_one cc) (λ _ e. refl)
+      by_case (λ t. pick t (Some (record { first = abscissa f; last = abscissa l; points = n })) None ≡ None → t ≡ false) (frame_legal f l n) (λ _ e. zero_one cc) (λ _ e. refl)
 
-  pub framed_legal : {fr : Frame} → framed f l n ≡ Legal fr → Framing f l n fr
+  pub framed_legal : {fr : Frame} → framed f l n ≡ Some fr → Framing f l n fr
   unfolding framed
   framed_legal {fr} =
-      by_case (λ t. frame_legal f l n ≡ t → pick t (Legal (record { first = abscissa f; last = abscissa l; points = n })) Outside ≡ Legal fr → Framing f l n fr) (frame_legal f l n)
+      by_case (λ t. frame_legal f l n ≡ t → pick t (Some (record { first = abscissa f; last = abscissa l; points = n })) None ≡ Some fr → Framing f l n fr) (frame_legal f l n)
       (λ _ h e. let z : fr ≡ record { first = abscissa f; last = abscissa l; points = n } = cc in record { legal = h; is = z; sound = rw z (legal_sound f l n h) }) (λ _ h e. zero_one cc) refl

@@ -1,14 +1,12 @@
 -- What the frame's functions ensure (01, "The frame of a table"). Assumes nothing.
-use Rattle.std.specs.Prelude.{ℕ, ◌<◌, ◌≤◌, ℤ}
+use Rattle.std.specs.Prelude.{ℕ, ◌<◌, ◌≤◌, ℤ, Option, Some, None}
 use Rattle.frame.specs.declared.Frame.{Frame}
-use Rattle.frame.specs.declared.Framed.{Framed}
-use Rattle.frame.specs.declared.Framed.TheVariants.{Legal, Outside}
 use Rattle.terms.specs.Logic.{pick}
 use Rattle.table_spec.specs.Frame.{frame_legal, abscissa, abscissa_legal, most_points}
 
 -- the frame that F, L and N make, or refusal 1
-unfoldable pub framed : ℤ → ℤ → ℕ → Framed
-framed f l n = pick (frame_legal f l n) (Legal (record { first = abscissa f; last = abscissa l; points = n })) Outside
+unfoldable pub framed : ℤ → ℤ → ℕ → Option Frame
+framed f l n = pick (frame_legal f l n) (Some (record { first = abscissa f; last = abscissa l; points = n })) None
 
 -- x + 10^10, or 0 where x is outside its limit
 unfoldable pub lifted : ℤ → ℕ

@@ -13,13 +13,6 @@ pub struct Frame {
     pub points: usize,
 }
 
-// A frame within its limits, or refusal 1 at place 0.
-#[derive(Drop)]
-pub enum Framed {
-    Legal(Frame),
-    Outside,
-}
-
 // x plus 10,000,000,000, or 0 where x is beyond the largest abscissa.
 pub fn lift(x: i64) -> u64
     ensures { result ≡ lifted x }
@@ -54,27 +47,27 @@ impl Frame {
     pub const LONGEST_LINE: usize = 80;
 
     // The frame of any F, L and N, or that they are outside their limits.
-    pub fn new(f: i64, l: i64, n: usize) -> Framed
+    pub fn new(f: i64, l: i64, n: usize) -> Option<Frame>
         ensures { result ≡ framed f l n }
     {
         let first = lift(f);
         let last = lift(l);
         if first == 0 {
-            return Framed::Outside;
+            return None;
         }
         if last == 0 {
-            return Framed::Outside;
+            return None;
         }
         if n < 1 {
-            return Framed::Outside;
+            return None;
         }
         if n > Frame::MOST_POINTS {
-            return Framed::Outside;
+            return None;
         }
         if (n == 1) != (first == last) {
-            return Framed::Outside;
+            return None;
         }
-        Framed::Legal(Frame {
+        Some(Frame {
             first,
             last,
             points: n,

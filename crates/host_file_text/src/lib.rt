@@ -6,15 +6,16 @@ ghost use Rattle.std.specs.Prelude.{◌≡◌};
 ghost use Rattle.host_file_text.specs.Answers.{scales_of, file_numbers, FileTextTold, FileLengthTold};
 ghost use Rattle.host_numbers.specs.Numbers.{Told};
 
-use file_write_spec::{FileWritten, GivenDecimal, Scales};
+use file_write_spec::{FileLength, GivenDecimal, Scales};
 use host_numbers::flag_of;
+use terms::Fault;
 
 // Tells what the writer of files answered: refused, length, and whether F, L and FIRSTY's quotient are exact.
-fn tell_file(written: FileWritten, answer: &mut [u64; 5]) -> u64
+fn tell_file(written: Result<FileLength, Fault>, answer: &mut [u64; 5]) -> u64
     ensures { Told (file_numbers written) answer.new result }
 {
     match written {
-        FileWritten::Length(n) => {
+        Ok(n) => {
             let exact = n.exact;
             let ef = flag_of(exact.first);
             let el = flag_of(exact.last);
@@ -22,7 +23,7 @@ fn tell_file(written: FileWritten, answer: &mut [u64; 5]) -> u64
             *answer = [0, n.length as u64, ef, el, ey];
             0
         }
-        FileWritten::Refused(refusal) => {
+        Err(refusal) => {
             *answer = [refusal.number, 0, 0, 0, 0];
             refusal.number
         }

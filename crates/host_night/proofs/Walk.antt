@@ -10,9 +10,6 @@ use Rattle.terms.specs.Logic.{pick, zero_one}
 use Rattle.night_spec.specs.Spool.{part}
 use Rattle.night_spec.specs.Night.{report_as, with_report}
 use Rattle.night_spec.specs.Steps.{no_progress, walk_legal, standing, step_of, answer_of}
-use Rattle.night_spec.specs.declared.Spooled.{Spooled}
-use Rattle.night_spec.specs.declared.Spooled.TheVariants as spooled
-use Rattle.night_spec.specs.declared.FileReport.{FileReport}
 use Rattle.night_spec.specs.declared.Progress.{Progress}
 use Rattle.night_spec.specs.declared.Reported.TheVariants as reported
 use Rattle.file_tally.proofs.Widths.{report_in}
@@ -21,18 +18,23 @@ use Rattle.night_totals.proofs.TotalLaws.{more_in}
 use Rattle.night_step.proofs.StepLaws.{legal_in}
 use Rattle.night_numbers.specs.Numbers.{numbers_of, progress_of}
 use Rattle.night_numbers.proofs.BitLaws.{kept_whole}
+use Rattle.std.specs.Prelude.{Option, Some, None, Result, Ok, Err}
+use Rattle.label_spec.specs.declared.Span.{Span}
+use Rattle.terms.specs.declared.Fault.{Fault}
+use Rattle.terms.specs.declared.Refusal.{Refusal}
+use Rattle.night_spec.specs.declared.Account.{Account}
 
 pub starts : progress_of (0 ∷ 0 ∷ 0 ∷ 0 ∷ 0 ∷ 0 ∷ []) ≡ no_progress
 starts = refl
 
-module _ (space : ℕ) (s : List ℕ) (p q : Progress) (x : FileReport) where
-  sum_fits : (l : Bool) → walk_legal p ≡ l → (y : Spooled) → pick l (step_of space s p y) reported.Strange ≡ reported.File x q → SFits w64 q.totals.sum
+module _ (space : ℕ) (s : List ℕ) (p q : Progress) (x : Result Account Refusal) where
+  sum_fits : (l : Bool) → walk_legal p ≡ l → (y : Result (Option Span) Fault) → pick l (step_of space s p y) reported.Strange ≡ reported.File x q → SFits w64 q.totals.sum
   sum_fits false l y e = zero_one cc
-  sum_fits true l spooled.Over e = zero_one cc
-  sum_fits true l (spooled.Refused r) e = zero_one cc
-  sum_fits true l (spooled.File a b) e =
-      let r = report_as space (part s a b) in let h = legal_in p l in let k = more_in r h.1 (report_in space (part s a b)) in
-      let z : q ≡ record { at = b; seen = suc p.seen; totals = with_report r p.totals } = cc in
+  sum_fits true l (Ok None) e = zero_one cc
+  sum_fits true l (Err r) e = zero_one cc
+  sum_fits true l (Ok (Some x)) e =
+      let r = report_as space (part s x.from x.to) in let h = legal_in p l in let k = more_in r h.1 (report_in space (part s x.from x.to)) in
+      let z : q ≡ record { at = x.to; seen = suc p.seen; totals = with_report r p.totals } = cc in
       rw z (size_fits (with_report r p.totals).sum (omega (arith, k.sum, h.0)))
 
   pub handed_on : answer_of space s p ≡ reported.File x q → progress_of (numbers_of q) ≡ q

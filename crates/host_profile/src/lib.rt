@@ -5,7 +5,7 @@
 ghost use Rattle.host_profile.specs.Answers.{ProfileTold};
 
 use host_numbers::{bits_of, flag_of};
-use profile_spec::ProfileRead;
+use profile_spec::PageRefusal;
 
 // Reads a profile (02, T-09), with the site's page beside the file: refused, place, line, column, points, first, last, whether F, L and FIRSTY's quotient are exact, and whether the refusal is on
 // the page. `shown` has three numbers a record in 001's order: whether it is on the page, and from where up to where its text stands.
@@ -19,7 +19,7 @@ pub fn lastarunc_read_profile(
     ensures { ProfileTold file.now page.now out.old out.new shown.old shown.new answer.new result }
 {
     match profile::read_profile(file, page, out, shown) {
-        ProfileRead::Accepted(t) => {
+        Ok(t) => {
             let n = t.points;
             let f = bits_of(t.first);
             let l = bits_of(t.last);
@@ -30,7 +30,7 @@ pub fn lastarunc_read_profile(
             *answer = [0, 0, 0, 0, n as u64, f, l, ef, el, ey, 0];
             0
         }
-        ProfileRead::Refused { page: q, refusal } => {
+        Err(PageRefusal { page: q, refusal }) => {
             let on_page = flag_of(q);
             *answer = [
                 refusal.number,

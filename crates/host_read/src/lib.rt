@@ -4,20 +4,21 @@
 ghost use Rattle.host_numbers.specs.Numbers.{Told};
 ghost use Rattle.host_read.specs.Answers.{file_numbers, record_numbers, blocks_numbers, block_numbers};
 
-use compound_spec::{BlockRead, BlocksFound};
-use file_spec::FileRead;
 use host_numbers::{bits_of, flag_of};
-use label_spec::Record;
+use label_spec::Span;
+use terms::Refusal;
+use compound_spec::Blocks;
+use file_spec::FileTable;
 
 // What is answered for a record or a block that is absent, -1 for C (LASTARUNC_ABSENT in the header): no refusal has this number.
 const ABSENT: u64 = 18446744073709551615;
 
 // A file read: refused, place, line, column, points, first, last, and whether F, L and FIRSTY's quotient are exact.
-pub fn tell_file(read: FileRead, answer: &mut [u64; 10]) -> u64
+pub fn tell_file(read: Result<FileTable, Refusal>, answer: &mut [u64; 10]) -> u64
     ensures { Told (file_numbers read) answer.new result }
 {
     match read {
-        FileRead::Accepted(t) => {
+        Ok(t) => {
             let n = t.points;
             let f = bits_of(t.first);
             let l = bits_of(t.last);
@@ -28,7 +29,7 @@ pub fn tell_file(read: FileRead, answer: &mut [u64; 10]) -> u64
             *answer = [0, 0, 0, 0, n as u64, f, l, ef, el, ey];
             0
         }
-        FileRead::Refused(r) => {
+        Err(r) => {
             *answer = [
                 r.number,
                 r.place as u64,
@@ -47,13 +48,13 @@ pub fn tell_file(read: FileRead, answer: &mut [u64; 10]) -> u64
 }
 
 // A data block read: as a file is; or that there is no block.
-pub fn tell_block(read: BlockRead, answer: &mut [u64; 10]) -> u64
+pub fn tell_block(read: Option<Result<FileTable, Refusal>>, answer: &mut [u64; 10]) -> u64
     ensures { Told (block_numbers read) answer.new result }
 {
     match read {
-        BlockRead::Accepted(t) => tell_file(FileRead::Accepted(t), answer),
-        BlockRead::Refused(r) => tell_file(FileRead::Refused(r), answer),
-        BlockRead::NoBlock => {
+        Some(Ok(t)) => tell_file(Ok(t), answer),
+        Some(Err(r)) => tell_file(Err(r), answer),
+        None => {
             *answer = [ABSENT, 0, 0, 0, 0, 0, 0, 0, 0, 0];
             ABSENT
         }
@@ -61,19 +62,19 @@ pub fn tell_block(read: BlockRead, answer: &mut [u64; 10]) -> u64
 }
 
 // A record looked for: refused, place, line, column, from, to.
-pub fn tell_record(found: Record, answer: &mut [u64; 6]) -> u64
+pub fn tell_record(found: Result<Option<Span>, Refusal>, answer: &mut [u64; 6]) -> u64
     ensures { Told (record_numbers found) answer.new result }
 {
     match found {
-        Record::Text { from: a, to: b } => {
+        Ok(Some(Span { from: a, to: b })) => {
             *answer = [0, 0, 0, 0, a as u64, b as u64];
             0
         }
-        Record::Absent => {
+        Ok(None) => {
             *answer = [ABSENT, 0, 0, 0, 0, 0];
             ABSENT
         }
-        Record::Refused(r) => {
+        Err(r) => {
             *answer = [
                 r.number,
                 r.place as u64,
@@ -88,11 +89,11 @@ pub fn tell_record(found: Record, answer: &mut [u64; 6]) -> u64
 }
 
 // The data blocks of a file: refused, place, line, column, compound, blocks.
-pub fn tell_blocks(found: BlocksFound, answer: &mut [u64; 6]) -> u64
+pub fn tell_blocks(found: Result<Blocks, Refusal>, answer: &mut [u64; 6]) -> u64
     ensures { Told (blocks_numbers found) answer.new result }
 {
     match found {
-        BlocksFound::Refused(r) => {
+        Err(r) => {
             *answer = [
                 r.number,
                 r.place as u64,
@@ -103,11 +104,11 @@ pub fn tell_blocks(found: BlocksFound, answer: &mut [u64; 6]) -> u64
             ];
             r.number
         }
-        BlocksFound::One => {
+        Ok(Blocks::One) => {
             *answer = [0, 0, 0, 0, 0, 1];
             0
         }
-        BlocksFound::Compound(n) => {
+        Ok(Blocks::Compound(n)) => {
             *answer = [0, 0, 0, 0, 1, n as u64];
             0
         }

@@ -1,10 +1,9 @@
 -- What a C host is told of a table: the numbers of the answer's struct, in the header's order, and the first of them once more as the result. What is not given is 0. Assumes nothing.
-use Rattle.std.specs.Prelude.{◌≡◌, List, [], ◌∷◌, ℕ, ℤ, length}
+use Rattle.std.specs.Prelude.{◌≡◌, List, [], ◌∷◌, ℕ, ℤ, length, Result, Ok, Err}
 use Rattle.terms.specs.Places.{line_of, column_of}
-use Rattle.terms.specs.declared.TableRead.{TableRead}
-use Rattle.terms.specs.declared.TableRead.TheVariants as tables
 use Rattle.table_spec.specs.Reading.{Answer, refuse, accept, read_table, stored}
 use Rattle.host_numbers.specs.Numbers.{refused_of}
+use Rattle.terms.specs.declared.Refusal.{Refusal}
 
 -- a table read: refused, place, line, column, points
 abbrev pub table_answer : ℕ → List ℕ → Answer → List ℕ
@@ -17,6 +16,6 @@ pub record TableTold (f l : ℤ) (n : ℕ) (body : List ℕ) (out out' : List �
   pub leaves : out' ≡ stored out (read_table f l n body (length out))
 
 -- the same numbers, by cases of what a reader answered
-abbrev pub table_numbers : TableRead → List ℕ
-table_numbers (tables.Accepted n) = 0 ∷ 0 ∷ 0 ∷ 0 ∷ n ∷ []
-table_numbers (tables.Refused r) = r.number ∷ r.place ∷ r.line ∷ r.column ∷ 0 ∷ []
+abbrev pub table_numbers : Result ℕ Refusal → List ℕ
+table_numbers (Ok n) = 0 ∷ 0 ∷ 0 ∷ 0 ∷ n ∷ []
+table_numbers (Err r) = r.number ∷ r.place ∷ r.line ∷ r.column ∷ 0 ∷ []

@@ -4,19 +4,19 @@
 
 ghost use Rattle.host_numbers.specs.Numbers.{Told};
 ghost use Rattle.host_table.specs.Answers.{table_numbers, TableTold};
+use terms::Refusal;
 
-use terms::TableRead;
 
 // A table read: refused, place, line, column, points.
-pub fn tell_table(read: TableRead, answer: &mut [u64; 5]) -> u64
+pub fn tell_table(read: Result<usize, Refusal>, answer: &mut [u64; 5]) -> u64
     ensures { Told (table_numbers read) answer.new result }
 {
     match read {
-        TableRead::Accepted(n) => {
+        Ok(n) => {
             *answer = [0, 0, 0, 0, n as u64];
             0
         }
-        TableRead::Refused(r) => {
+        Err(r) => {
             *answer = [r.number, r.place as u64, r.line as u64, r.column as u64, 0];
             r.number
         }

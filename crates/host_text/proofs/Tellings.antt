@@ -4,23 +4,22 @@ use mathlib.Core.List.{List, ◌∷◌}
 use Prim.Native.Nat.{ℕ}
 use borrow.Author.Tests.{ne_eqb}
 use Rattle.terms.specs.declared.Fault.{Fault}
-use Rattle.terms.specs.declared.TableWritten.{TableWritten}
-use Rattle.terms.specs.declared.TableWritten.TheVariants as texts
 use Rattle.table_spec.specs.Writing.{Outcome, declined, wrote, laid}
 use Rattle.table_text.specs.Answers as writing
 use Rattle.host_text.specs.declared.Form.{Form}
 use Rattle.host_numbers.specs.Numbers.{refused_of, no_flags, Told}
 use Rattle.host_text.specs.Answers.{text_answer, OutcomeTold, LengthTold, no_form, FormOf, written_numbers}
+use Rattle.std.specs.Prelude.{Result, Ok, Err}
 
 -- ---- what the functions tell
 
 pub no_such_form : (k : ℕ) → (k ≡ 0 → ⊥) → (k ≡ 1 → ⊥) → (k ≡ 2 → ⊥) → (k ≡ 3 → ⊥) → FormOf k Form.NoForm
 no_such_form k a b c d = λ f l n ys space. rw (ne_eqb k 0 a, ne_eqb k 1 b, ne_eqb k 2 c, ne_eqb k 3 d) refl
 
-pub tells_length : {w : TableWritten} {m : ℕ} → w ≡ texts.Length m → Told (written_numbers w) (0 ∷ m ∷ no_flags) 0
+pub tells_length : {w : Result ℕ Fault} {m : ℕ} → w ≡ Ok m → Told (written_numbers w) (0 ∷ m ∷ no_flags) 0
 tells_length e = rw e (record { numbers = refl; returned = refl })
 
-pub tells_refusal : {w : TableWritten} {f : Fault} → w ≡ texts.Refused f → Told (written_numbers w) (f.number ∷ 0 ∷ no_flags) f.number
+pub tells_refusal : {w : Result ℕ Fault} {f : Fault} → w ≡ Err f → Told (written_numbers w) (f.number ∷ 0 ∷ no_flags) f.number
 tells_refusal e = rw e (record { numbers = refl; returned = refl })
 
 -- ---- so that a host is told of an outcome
@@ -30,12 +29,12 @@ text_numbers (declined c) = refl
 text_numbers (wrote t) = refl
 
 module _ (x : Outcome) {answer : List ℕ} {r : ℕ} where
-  pub text_measured : {w : TableWritten} → w ≡ writing.told x → Told (written_numbers w) answer r → LengthTold no_flags x answer r
+  pub text_measured : {w : Result ℕ Fault} → w ≡ writing.told x → Told (written_numbers w) answer r → LengthTold no_flags x answer r
   text_measured e g =
       let z = ap written_numbers e ∙ text_numbers x in
       record { numbers = g.numbers ∙ z; returned = g.returned ∙ ap refused_of z }
 
-  pub text_told : {w : TableWritten} {o o' : List ℕ} → writing.Tells x o o' w → Told (written_numbers w) answer r → OutcomeTold no_flags x o o' answer r
+  pub text_told : {w : Result ℕ Fault} {o o' : List ℕ} → writing.Tells x o o' w → Told (written_numbers w) answer r → OutcomeTold no_flags x o o' answer r
   text_told t g = let z = text_measured t.answer g in record { numbers = z.numbers; returned = z.returned; leaves = t.bytes }
 
   -- a number that is no form's

@@ -1,14 +1,13 @@
 -- What a C host is told of a table's text, written or measured (02, T-10): the numbers of the answer's struct, in the header's order, and the first once more as the result. Assumes nothing.
-use Rattle.std.specs.Prelude.{◌≡◌, List, ◌∷◌, ℕ, ℤ, eqb, length}
+use Rattle.std.specs.Prelude.{◌≡◌, List, ◌∷◌, ℕ, ℤ, eqb, length, Result, Ok, Err}
 use Rattle.terms.specs.Logic.{pick}
-use Rattle.terms.specs.declared.TableWritten.{TableWritten}
-use Rattle.terms.specs.declared.TableWritten.TheVariants as texts
 use Rattle.table_spec.specs.Writing.{Outcome, declined, wrote, write_table, laid}
 use Rattle.table_spec.specs.declared.Style.{Style}
 use Rattle.table_spec.specs.declared.Style.TheVariants.{Difdup, Affn, Pac, Sqz}
 use Rattle.table_write.specs.Room.{enough}
 use Rattle.host_numbers.specs.Numbers.{refused_of, no_flags}
 use Rattle.host_text.specs.declared.Form.{Form}
+use Rattle.terms.specs.declared.Fault.{Fault}
 
 -- a text written: refused, length, what is exact
 abbrev pub text_answer : List ℕ → Outcome → List ℕ
@@ -61,6 +60,6 @@ FormOf k (Form.Of st) = (f l : ℤ) (n : ℕ) (ys : List ℤ) (space : ℕ) → 
 FormOf k Form.NoForm = (f l : ℤ) (n : ℕ) (ys : List ℤ) (space : ℕ) → write_form k f l n ys space ≡ declined no_form
 
 -- the numbers of what a writer of tables answered
-abbrev pub written_numbers : TableWritten → List ℕ
-written_numbers (texts.Length m) = 0 ∷ m ∷ no_flags
-written_numbers (texts.Refused f) = f.number ∷ 0 ∷ no_flags
+abbrev pub written_numbers : Result ℕ Fault → List ℕ
+written_numbers (Ok m) = 0 ∷ m ∷ no_flags
+written_numbers (Err f) = f.number ∷ 0 ∷ no_flags

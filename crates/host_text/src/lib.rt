@@ -8,7 +8,7 @@ ghost use Rattle.table_spec.specs.declared.Style.TheVariants.{Difdup};
 ghost use Rattle.std.specs.Prelude.{◌∷◌};
 
 use table_spec::Style;
-use terms::TableWritten;
+use terms::Fault;
 
 // What is answered for a number that is no form's, -1 for C (LASTARUNC_NO_FORM in the header): no refusal has this number.
 const NO_FORM: u64 = 18446744073709551615;
@@ -34,15 +34,15 @@ fn form_of(form: u64) -> Form
 }
 
 // Tells what a writer of tables answered: refused, length, and three zeros where a file has what is exact.
-fn tell_text(written: TableWritten, answer: &mut [u64; 5]) -> u64
+fn tell_text(written: Result<usize, Fault>, answer: &mut [u64; 5]) -> u64
     ensures { Told (written_numbers written) answer.new result }
 {
     match written {
-        TableWritten::Length(n) => {
+        Ok(n) => {
             *answer = [0, n as u64, 0, 0, 0];
             0
         }
-        TableWritten::Refused(f) => {
+        Err(f) => {
             *answer = [f.number, 0, 0, 0, 0];
             f.number
         }

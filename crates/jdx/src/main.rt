@@ -1,7 +1,7 @@
 // The program (01, "Bench samples"): reads a file from standard input and prints its table, or why it is refused. A read that fails or ends early ends the input: what came before it is the file.
 #![tactic(auto)]
 
-use file_spec::{FileRead, FileTable};
+use file_spec::FileTable;
 use standard_input::read_full;
 use std::io;
 use std::io::Print;
@@ -62,8 +62,8 @@ fn refuse(output: &impl Print, errors: &impl Print, file: &[u8], r: Refusal) -> 
 fn answer(output: &impl Print, errors: &impl Print, file: &[u8]) -> io::Result<()> {
     let mut out = [0i32; MOST_POINTS];
     match file::read_file(file, &mut out) {
-        FileRead::Accepted(table) => show(output, errors, table, &out),
-        FileRead::Refused(r) => refuse(output, errors, file, r),
+        Ok(table) => show(output, errors, table, &out),
+        Err(r) => refuse(output, errors, file, r),
     }
 }
 

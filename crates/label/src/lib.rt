@@ -12,37 +12,38 @@ ghost use Rattle.label.specs.Post.{Named};
 
 use label_lines::{label_here, next_mark};
 use label_names::{differ, first_of, is_word};
-use label_spec::{Found, Label, Labelled, Record, Spot};
+use label_spec::{Label, Places, Span};
 use label_walk::labels;
 use text::refusal_in;
+use terms::Refusal;
 
 // The place of the `=` of the label whose `##` stands here, if it has this name. The first byte of the name is given.
-fn eq_here(part: &[u8], at: usize, first: u8, name: &[u8]) -> Spot
+fn eq_here(part: &[u8], at: usize, first: u8, name: &[u8]) -> Option<usize>
     requires { (hashed part.now at ≡ true) × (first ≡ first_of name.now 0) }
     ensures { Named part.now at (norm name.now) result }
 {
     let start = at + 2;
     if differ(first_of(part, start), first) {
-        return Spot::Nowhere;
+        return None;
     }
     match label_here(part, at) {
-        Label::None => Spot::Nowhere,
-        Label::Bad { mark: _ } => Spot::Nowhere,
+        Label::None => None,
+        Label::Bad { mark: _ } => None,
         Label::At {
             mark: _,
             start: n,
             eq,
         } => {
             if is_word(part, n, eq, name) {
-                return Spot::Place(eq);
+                return Some(eq);
             }
-            Spot::Nowhere
+            None
         }
     }
 }
 
 // The text of the first record with a name, among the labels of a part of a file after the place `start` and before `stop`.
-pub fn find_record(part: &[u8], start: usize, stop: usize, name: &[u8]) -> Found
+pub fn find_record(part: &[u8], start: usize, stop: usize, name: &[u8]) -> Option<Span>
     requires { start ≤ length part.now }
     ensures { (result ≡ record_of (length part.now) stop (norm name.now) (from part.now start false)) × found_in start (length part.now) result }
 {
@@ -51,21 +52,21 @@ pub fn find_record(part: &[u8], start: usize, stop: usize, name: &[u8]) -> Found
     loop {
         let mark = next_mark(part, at);
         if mark >= stop {
-            return Found::Absent;
+            return None;
         }
         if mark >= part.len() {
-            return Found::Absent;
+            return None;
         }
         match eq_here(part, mark, first, name) {
-            Spot::Place(eq) => {
+            Some(eq) => {
                 let next = eq + 1;
                 let end = next_mark(part, next);
-                return Found::Text {
+                return Some(Span {
                     from: next,
                     to: end,
-                };
+                });
             }
-            Spot::Nowhere => {
+            None => {
                 at = mark + 2;
             }
         }
@@ -73,7 +74,7 @@ pub fn find_record(part: &[u8], start: usize, stop: usize, name: &[u8]) -> Found
 }
 
 // The text of the record with a name, TITLE's own among them, before END.
-fn find_from_title(file: &[u8], title: usize, eq: usize, end: usize, name: &[u8]) -> Found
+fn find_from_title(file: &[u8], title: usize, eq: usize, end: usize, name: &[u8]) -> Option<Span>
     requires { TitleAt file.now title eq × (title < end) }
     ensures { (result ≡ record_of (length file.now) end (norm name.now) (from file.now title true)) × found_in eq (length file.now) result }
 {
@@ -81,22 +82,22 @@ fn find_from_title(file: &[u8], title: usize, eq: usize, end: usize, name: &[u8]
     let next = eq + 1;
     if is_word(file, start, eq, name) {
         let to = next_mark(file, next);
-        return Found::Text { from: next, to };
+        return Some(Span { from: next, to });
     }
     find_record(file, next, end, name)
 }
 
 // Where the text of the record with a name stands in a file, if its labels are not refused.
-pub fn find(file: &[u8], name: &[u8]) -> Record
+pub fn find(file: &[u8], name: &[u8]) -> Result<Option<Span>, Refusal>
     ensures { (result ≡ record_for file.now (norm name.now)) × FindIn (length file.now) result }
 {
     match labels(file) {
-        Labelled::Refused(fault) => {
-            Record::Refused(refusal_in(file, fault.number, fault.place))
+        Err(fault) => {
+            Err(refusal_in(file, fault.number, fault.place))
         },
-        Labelled::Places { title, eq, end } => match find_from_title(file, title, eq, end, name) {
-            Found::Text { from, to } => Record::Text { from, to },
-            Found::Absent => Record::Absent,
+        Ok(Places { title, eq, end }) => match find_from_title(file, title, eq, end, name) {
+            Some(Span { from, to }) => Ok(Some(Span { from, to })),
+            None => Ok(None),
         },
     }
 }
@@ -114,8 +115,8 @@ pub fn record_text<'a>(file: &'a [u8], name: &[u8]) -> &'a [u8]
     ensures { result.now ≡ text_of file.now (record_for file.now (norm name.now)) }
 {
     match find(file, name) {
-        Record::Text { from, to } => part_of(file, from, to),
-        Record::Absent => &file[..0],
-        Record::Refused(_) => &file[..0],
+        Ok(Some(Span { from, to })) => part_of(file, from, to),
+        Ok(None) => &file[..0],
+        Err(_) => &file[..0],
     }
 }

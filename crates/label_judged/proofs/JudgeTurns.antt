@@ -1,4 +1,5 @@
 -- What the next label says by itself: no place of the code is named here.
+use Rattle.label_spec.specs.declared.Label.{Label}
 use mathlib.Core.Path.{◌≡◌, refl, sym, ap, ◌∙◌}
 use mathlib.Core.Bool.{Bool, true, false}
 use mathlib.Core.List.{List, [], ◌∷◌}
@@ -17,13 +18,13 @@ use Rattle.terms.specs.Refusals.{fault_at}
 use Rattle.label_spec.specs.Scans.{known, clash, judge}
 use Rattle.label_spec.specs.Records.{mark_of}
 use Rattle.label_spec.specs.RecordLaws.{mark_hashed}
-use Rattle.label_spec.specs.declared.Label.TheVariants.{At, Bad, None}
-use Rattle.label_spec.specs.declared.Walked.{Walked}
 use Rattle.label_judged.specs.declared.Judged.{Judged}
 use Rattle.label_names.specs.Post.{empty}
 use Rattle.label_judged.specs.Post.{leads, Told}
 use Rattle.label_lines.specs.Post.{Marked, Met}
 use Rattle.label_judged.proofs.MarkTurns.{met_label}
+use Rattle.std.specs.Prelude.{Ok, Err}
+use Rattle.label_spec.specs.Parts.{edges_with}
 
 -- The place of the next `##` is that of the next label.
 module _ (s : List ℕ) (at k : ℕ) (q : Marked s at k) where
@@ -60,27 +61,27 @@ leads_here x n e v k rest p = rw (p, eq-eqb x x refl) refl
 
 -- What the next label says by itself.
 module _ (s : List ℕ) (at : ℕ) where
-  pub told_none : Met s at false None → Told s at (Judged.Done (Walked.Refused (fault_at 22 (length s))))
+  pub told_none : Met s at false Label.None → Told s at (Judged.Done (Err (fault_at 22 (length s))))
   unfolding resume judge
   told_none x = record { says = (omega arith, λ all. ap (judge (length s) all) x.law) }
 
-  pub told_bad : (m : ℕ) → Met s at false (Bad m) → Told s at (Judged.Done (Walked.Refused (fault_at 20 m)))
+  pub told_bad : (m : ℕ) → Met s at false (Label.Bad m) → Told s at (Judged.Done (Err (fault_at 20 m)))
   unfolding resume judge
   told_bad m x = record { says = (omega (arith, x.good.1), λ all. ap (judge (length s) all) x.law) }
 
-  module _ (m n e : ℕ) (x : Met s at false (At m n e)) where
+  module _ (m n e : ℕ) (x : Met s at false (Label.At m n e)) where
     told_label : (all : Walk) → judge (length s) all (from s at false)
-        ≡ pick (sames (name_in s n e) END) (Walked.Ended m e)
-        (pick (sames (name_in s n e) TITLE) (Walked.Refused (fault_at 24 m))
-        (pick (clash m (name_in s n e) all) (Walked.Refused (fault_at 23 m)) (judge (length s) all (from s (e + 1) false))))
+        ≡ pick (sames (name_in s n e) END) (Ok (edges_with m e))
+        (pick (sames (name_in s n e) TITLE) (Err (fault_at 24 m))
+        (pick (clash m (name_in s n e) all) (Err (fault_at 23 m)) (judge (length s) all (from s (e + 1) false))))
     unfolding resume judge
     told_label all = ap (judge (length s) all) x.law
 
-    pub told_end : sames (name_in s n e) END ≡ true → Told s at (Judged.Done (Walked.Ended m e))
+    pub told_end : sames (name_in s n e) END ≡ true → Told s at (Judged.Done (Ok (edges_with m e)))
     told_end h = record { says = ((x.good.0, omega (arith, x.good.1, x.good.2), x.good.3), λ all. told_label all ∙ rw h refl) }
 
     module _ (a : sames (name_in s n e) END ≡ false) where
-      pub told_title : sames (name_in s n e) TITLE ≡ true → Told s at (Judged.Done (Walked.Refused (fault_at 24 m)))
+      pub told_title : sames (name_in s n e) TITLE ≡ true → Told s at (Judged.Done (Err (fault_at 24 m)))
       told_title h = record { says = (omega (arith, x.good.1, x.good.2, x.good.3), λ all. told_label all ∙ rw (a, h) refl) }
 
       module _ (b : sames (name_in s n e) TITLE ≡ false) where

@@ -9,13 +9,13 @@ ghost use Rattle.label_judged.specs.Post.{Alike, Told};
 
 use label_lines::{name_end, next_label};
 use label_names::{differ, first_of, is_empty, is_end, is_title, same_name};
-use label_spec::{Label, Walked};
+use label_spec::{Edges, Label};
 use terms::Fault;
 
 // What the next label says by itself, before it is compared with those before it: the walk is done, or goes on after its `=`.
 #[derive(Drop)]
 pub enum Judged {
-    Done(Walked),
+    Done(Result<Edges, Fault>),
     Empty {
         eq: usize,
     },
@@ -27,10 +27,10 @@ pub enum Judged {
 }
 
 // A fault of the walk.
-pub fn fault(number: u64, place: usize) -> Walked
+pub fn fault(number: u64, place: usize) -> Result<Edges, Fault>
     ensures { result ≡ Walked.Refused (fault_at number place) }
 {
-    Walked::Refused(Fault::new(number, place))
+    Err(Fault::new(number, place))
 }
 
 // The next label by itself: 22 without one, 20 if it is bad, END, and 24 if it is TITLE.
@@ -43,7 +43,7 @@ pub fn next_judged(s: &[u8], at: usize) -> Judged
         Label::Bad { mark } => Judged::Done(fault(20, mark)),
         Label::At { mark, start, eq } => {
             if is_end(s, start, eq) {
-                return Judged::Done(Walked::Ended { mark, eq });
+                return Judged::Done(Ok(Edges { mark, eq }));
             }
             if is_title(s, start, eq) {
                 return Judged::Done(fault(24, mark));

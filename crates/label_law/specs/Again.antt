@@ -1,8 +1,6 @@
 -- The two nested scans (`judge`) answer what "each name is looked for among those before it" (`judged`) says, since the places of labels rise.
-use Rattle.std.specs.Prelude.{◌≡◌, refl, Bool, true, false, List, [], ◌∷◌, ◌++◌, ℕ, ◌+◌, ◌-◌, ◌≤◌, ◌<◌, leb, eqb, length, get_or, take, drop}
+use Rattle.std.specs.Prelude.{◌≡◌, refl, Bool, true, false, List, [], ◌∷◌, ◌++◌, ℕ, ◌+◌, ◌-◌, ◌≤◌, ◌<◌, leb, eqb, length, get_or, take, drop, Option, Some, None}
 use Rattle.std.proofs.Common.{ap, subst, arith, lt-ltb, le-ltb}
-use Rattle.label_spec.specs.declared.Spot.{Spot}
-use Rattle.label_spec.specs.declared.Spot.TheVariants.{Place, Nowhere}
 use Rattle.terms.specs.Logic.{pick}
 use Rattle.label_spec.specs.SharedLaws.{picked}
 use Rattle.label_spec.specs.Names.{norm, blank}
@@ -84,10 +82,10 @@ looser a b over h r = tt
 looser a b (bad x rest) h r = tt
 looser a b (label x n e v rest) h r = (omega (arith, r.0), r.1)
 
-headed_rising : (s : List ℕ) (m n : ℕ) (k : Walk) (p : Spot) → Rising (m + 1) k → Rising m (headed s m n k p)
+headed_rising : (s : List ℕ) (m n : ℕ) (k : Walk) (p : Option ℕ) → Rising (m + 1) k → Rising m (headed s m n k p)
 unfolding headed
-headed_rising s m n k Nowhere r = tt
-headed_rising s m n k (Place e) r = picked (Rising m) (leb (length (norm (take (e - n) s))) longest_name) (omega arith, r) tt
+headed_rising s m n k None r = tt
+headed_rising s m n k (Some e) r = picked (Rising m) (leb (length (norm (take (e - n) s))) longest_name) (omega arith, r) tt
 
 step_rising : (K : Bool → Walk) (s : List ℕ) (i : ℕ) (t : Bool) (b : ℕ) → ((u : Bool) → Rising (i + 1) (K u)) → Rising i (step K s i t b)
 unfolding step

@@ -13,7 +13,6 @@ use Rattle.label_spec.specs.Names.{name_in, blank}
 use Rattle.label_spec.specs.Labels.{longest_name, from, hashed}
 use Rattle.label_spec.specs.LabelLaws.{eq_at, spot_yes, spot_no, eq_end, eq_here, eq_line, eq_on, from_end, skip_on, skip_line, blank_on, no_label, hash_in, resume, label_none, label_long, label_at}
 use Rattle.label_spec.specs.declared.Label.{Label}
-use Rattle.label_spec.specs.declared.Label.TheVariants.{At, Bad, None}
 use Rattle.label_lines.specs.Post.{NameEnd, Ahead, Within, LineEnd, Unblanked, Marked, Met, MetIn}
 
 -- The line's first `=`, sought from a, has not come up to i.
@@ -117,20 +116,20 @@ module _ (s : List ℕ) (a i : ℕ) (x : Blanks s a i) where
 
 -- The label whose `##` stands at i; e is its name's end.
 module _ (s : List ℕ) (i : ℕ) (y : hashed s i ≡ true) (e : ℕ) (q : NameEnd s (i + 2) e) where
-  pub here_none : (get_or s e 0 ≡ 61 → ⊥) → Met s i true (Bad i)
+  pub here_none : (get_or s e 0 ≡ 61 → ⊥) → Met s i true (Label.Bad i)
   here_none n = record {
     good = (omega arith, omega (arith, hash_in s i y));
     law = label_none s i y (q.is ∙ spot_no s e n);
   }
 
   module _ (g : get_or s e 0 ≡ 61) (n : ℕ) (k : n ≡ length (name_in s (i + 2) e)) where
-    pub here_long : longest_name < n → Met s i true (Bad i)
+    pub here_long : longest_name < n → Met s i true (Label.Bad i)
     here_long l = record {
       good = (omega arith, omega (arith, hash_in s i y));
       law = label_long s i y e (q.is ∙ spot_yes s e g) (rw k at l);
     }
 
-    pub here_at : n ≤ longest_name → Met s i true (At i (i + 2) e)
+    pub here_at : n ≤ longest_name → Met s i true (Label.At i (i + 2) e)
     here_at l =
         let h : e < length s = inside s e 61 g (omega arith) in
         let z : get_or s e 0 ≡ 10 → ⊥ = λ f. omega arith in record {
@@ -165,13 +164,13 @@ module _ (s : List ℕ) (at i j : ℕ) (x : Along s at i) (p : LineEnd s i j) wh
     mark_on l n = (rise, q.high, come ∙ no_label s k l (q.stops l) n)
 
 lower : (a k n : ℕ) (r : Label) → a ≤ k → MetIn k n r → MetIn a n r
-lower a k n (At m o e) h x = (omega (arith, x.0), x.1, x.2, x.3)
-lower a k n (Bad m) h x = (omega (arith, x.0), x.1)
-lower a k n None h x = tt
+lower a k n (Label.At m o e) h x = (omega (arith, x.0), x.1, x.2, x.3)
+lower a k n (Label.Bad m) h x = (omega (arith, x.0), x.1)
+lower a k n Label.None h x = tt
 
 -- The next label.
 module _ (s : List ℕ) (at k : ℕ) (q : Marked s at k) where
-  pub next_none : length s ≤ k → Met s at false None
+  pub next_none : length s ≤ k → Met s at false Label.None
   unfolding resume
   next_none h = record { good = tt; law = q.same ∙ from_end s k true h }
 

@@ -4,7 +4,6 @@ use Rattle.label_spec.specs.Names.{blank}
 use Rattle.label_spec.specs.Labels.{from, hashed}
 use Rattle.label_spec.specs.LabelLaws.{eq_at, spot_at, resume}
 use Rattle.label_spec.specs.declared.Label.{Label}
-use Rattle.label_spec.specs.declared.Label.TheVariants.{At, Bad, None}
 
 -- r is the place of the line's first `=` from i on, or of its end.
 pub record NameEnd (s : List ℕ) (i r : ℕ) : Type 0 where
@@ -48,9 +47,9 @@ pub record Marked (s : List ℕ) (i r : ℕ) : Type 0 where
 
 -- The next label from `at` on is r. The mode: do only blanks stand before on the line?
 abbrev pub MetIn : ℕ → ℕ → Label → Type 0
-MetIn at len (At m n e) = (at ≤ m) × (n ≡ m + 2) × (n ≤ e) × (e < len)
-MetIn at len (Bad m) = (at ≤ m) × (m < len)
-MetIn at len None = Unit
+MetIn at len (Label.At m n e) = (at ≤ m) × (n ≡ m + 2) × (n ≤ e) × (e < len)
+MetIn at len (Label.Bad m) = (at ≤ m) × (m < len)
+MetIn at len Label.None = Unit
 
 pub record Met (s : List ℕ) (at : ℕ) (t : Bool) (r : Label) : Type 0 where
   pub good : MetIn at (length s) r

@@ -9,10 +9,10 @@ ghost use Rattle.label_page.specs.Post.{FindsFrom};
 use label::find_record;
 use label_lines::{is_hashed, label_here, next_mark, past_blanks};
 use label_names::is_word;
-use label_spec::{Found, Label};
+use label_spec::{Label, Span};
 
 // The text of the first record with a name, among the labels from the `##` that stands here on and before `stop`.
-pub fn find_from_mark(s: &[u8], at: usize, stop: usize, name: &[u8]) -> Found
+pub fn find_from_mark(s: &[u8], at: usize, stop: usize, name: &[u8]) -> Option<Span>
     requires { (hashed s.now at ≡ true) × (at < stop) }
     ensures { FindsFrom s.now at stop (norm name.now) result }
 {
@@ -28,7 +28,7 @@ pub fn find_from_mark(s: &[u8], at: usize, stop: usize, name: &[u8]) -> Found
             if is_word(s, n, eq, name) {
                 let next = eq + 1;
                 let to = next_mark(s, next);
-                return Found::Text { from: next, to };
+                return Some(Span { from: next, to });
             }
             find_record(s, after, stop, name)
         }
@@ -36,12 +36,12 @@ pub fn find_from_mark(s: &[u8], at: usize, stop: usize, name: &[u8]) -> Found
 }
 
 // The text of the first record with a name on a page, whose first label may stand at its first byte. Labels that are bad are passed, but end the text before them.
-pub fn find_on_page(page: &[u8], name: &[u8]) -> Found
+pub fn find_on_page(page: &[u8], name: &[u8]) -> Option<Span>
     ensures { FindsFrom page.now 0 (length page.now) (norm name.now) result }
 {
     let at = past_blanks(page, 0);
     if at >= page.len() {
-        return Found::Absent;
+        return None;
     }
     if is_hashed(page, at) {
         return find_from_mark(page, at, page.len(), name);

@@ -1,5 +1,5 @@
 -- The walk from a place on, and what the code's steps need of it.
-use Rattle.std.specs.Prelude.{◌≡◌, Bool, List, ℕ, ◌+◌, ◌≤◌, ◌<◌, eqb, ltb, length, drop}
+use Rattle.std.specs.Prelude.{◌≡◌, Bool, List, ℕ, ◌+◌, ◌≤◌, ◌<◌, eqb, ltb, length, drop, Option, Some, None}
 use Rattle.std.proofs.Math.Path.{refl}
 use Rattle.std.proofs.Common.{sym, ap, ◌∙◌, drop_of_length-le, drop-cons}
 use Rattle.std.proofs.Math.Bool.{true, false}
@@ -9,28 +9,25 @@ use Rattle.std.proofs.Math.Nat.{add_assoc}
 use Rattle.std.proofs.Math.ListN.{get_or, get_or-eq_default}
 use Rattle.std.proofs.Math.Seq.{drop-drop}
 use borrow.Author.Tests.{ltb-true, ltb-false, eqb-true, eq-eqb, ne_eqb, le-leb, lt-leb}
-use Rattle.label_spec.specs.declared.Spot.{Spot}
-use Rattle.label_spec.specs.declared.Spot.TheVariants.{Place, Nowhere}
 use Rattle.label_spec.specs.declared.Label.{Label}
-use Rattle.label_spec.specs.declared.Label.TheVariants.{At, Bad, None}
 use Rattle.terms.specs.Logic.{pick, no_way, both_true}
 use Rattle.label_spec.specs.SharedLaws.{pick_same, first_byte}
 use Rattle.label_spec.specs.Names.{blank, name_in}
 use Rattle.label_spec.specs.Labels.{Walk, over, bad, label, longest_name, eq_in, headed, step, walk, from, hashed}
 
 -- The line's first `=` from the place i on.
-unfoldable pub eq_at : List ℕ → ℕ → Spot
+unfoldable pub eq_at : List ℕ → ℕ → Option ℕ
 eq_at s i = eq_in (drop i s) i
 
 -- The place r, if `=` stands there.
-unfoldable pub spot_at : List ℕ → ℕ → Spot
-spot_at s r = pick (eqb (get_or s r 0) 61) (Place r) Nowhere
+unfoldable pub spot_at : List ℕ → ℕ → Option ℕ
+spot_at s r = pick (eqb (get_or s r 0) 61) (Some r) None
 
-pub spot_yes : (s : List ℕ) (r : ℕ) → get_or s r 0 ≡ 61 → spot_at s r ≡ Place r
+pub spot_yes : (s : List ℕ) (r : ℕ) → get_or s r 0 ≡ 61 → spot_at s r ≡ Some r
 unfolding spot_at
 spot_yes s r e = rw (eq-eqb (get_or s r 0) 61 e) refl
 
-pub spot_no : (s : List ℕ) (r : ℕ) → (get_or s r 0 ≡ 61 → ⊥) → spot_at s r ≡ Nowhere
+pub spot_no : (s : List ℕ) (r : ℕ) → (get_or s r 0 ≡ 61 → ⊥) → spot_at s r ≡ None
 unfolding spot_at
 spot_no s r n = rw (ne_eqb (get_or s r 0) 61 n) refl
 
@@ -39,7 +36,7 @@ unfolding eq_at eq_in spot_at
 eq_end s i h = rw (drop_of_length-le s h, get_or-eq_default s 0 h) refl
 
 module _ (s : List ℕ) (i : ℕ) (h : i < length s) where
-  eq_step : eq_at s i ≡ pick (eqb (get_or s i 0) 61) (Place i) (pick (eqb (get_or s i 0) 10) Nowhere (eq_at s (i + 1)))
+  eq_step : eq_at s i ≡ pick (eqb (get_or s i 0) 61) (Some i) (pick (eqb (get_or s i 0) 10) None (eq_at s (i + 1)))
   unfolding eq_at eq_in
   eq_step = rw (drop-cons s i 0 h, add-one i) refl
 
@@ -119,20 +116,20 @@ hash_blank s i y = rw (eqb-true (get_or s i 0) 35 (both_true (eqb (get_or s i 0)
 
 -- What an answer makes of the rest.
 unfoldable pub resume : List ℕ → Label → Walk
-resume s None = over
-resume s (Bad m) = bad m (from s (m + 1) false)
-resume s (At m n e) = label m n e (name_in s n e) (from s (e + 1) false)
+resume s Label.None = over
+resume s (Label.Bad m) = bad m (from s (m + 1) false)
+resume s (Label.At m n e) = label m n e (name_in s n e) (from s (e + 1) false)
 
 -- The label whose `##` stands at i.
 module _ (s : List ℕ) (i : ℕ) (y : hashed s i ≡ true) where
   pub label_is : from s i true ≡ headed (drop (i + 2) s) i (i + 2) (from s (i + 1) false) (eq_at s (i + 2))
   label_is = is_label s i (omega (arith, hash_in s i y)) (hash_blank s i y) y
 
-  pub label_none : eq_at s (i + 2) ≡ Nowhere → from s i true ≡ resume s (Bad i)
+  pub label_none : eq_at s (i + 2) ≡ None → from s i true ≡ resume s (Label.Bad i)
   unfolding headed resume
   label_none e = rw (label_is, e) refl
 
-  pub label_long : (e : ℕ) → eq_at s (i + 2) ≡ Place e → longest_name < length (name_in s (i + 2) e) → from s i true ≡ resume s (Bad i)
+  pub label_long : (e : ℕ) → eq_at s (i + 2) ≡ Some e → longest_name < length (name_in s (i + 2) e) → from s i true ≡ resume s (Label.Bad i)
   unfolding headed resume name_in
   label_long e q l = rw (label_is, q, lt-leb (length (name_in s (i + 2) e)) longest_name l) refl
 
@@ -141,7 +138,7 @@ module _ (s : List ℕ) (i : ℕ) (y : hashed s i ≡ true) where
       let n : get_or s (i + 1) 0 ≡ 10 → ⊥ = λ e. omega (arith, hash_second s i y) in
       skip_on s (i + 1) (hash_in s i y) n ∙ ap (λ (k : ℕ). from s k false) (add_assoc i 1 1)
 
-  pub label_at : (e : ℕ) → eq_at s (i + 2) ≡ Place e → from s (i + 2) false ≡ from s (e + 1) false
-      → length (name_in s (i + 2) e) ≤ longest_name → from s i true ≡ resume s (At i (i + 2) e)
+  pub label_at : (e : ℕ) → eq_at s (i + 2) ≡ Some e → from s (i + 2) false ≡ from s (e + 1) false
+      → length (name_in s (i + 2) e) ≤ longest_name → from s i true ≡ resume s (Label.At i (i + 2) e)
   unfolding headed resume name_in
   label_at e q g l = rw (label_is, q, le-leb (length (name_in s (i + 2) e)) longest_name l, hash_skip, g) refl

@@ -1,7 +1,5 @@
 -- 01, The file: "A label is `##` first on a line (blanks aside), a name, then that line's first `=`. Names .. have at most 40 bytes".
-use Rattle.std.specs.Prelude.{Bool, true, false, List, [], ◌∷◌, ℕ, ◌+◌, ◌-◌, leb, eqb, length, get_or, take, drop}
-use Rattle.label_spec.specs.declared.Spot.{Spot}
-use Rattle.label_spec.specs.declared.Spot.TheVariants.{Place, Nowhere}
+use Rattle.std.specs.Prelude.{Bool, true, false, List, [], ◌∷◌, ℕ, ◌+◌, ◌-◌, leb, eqb, length, get_or, take, drop, Option, Some, None}
 use Rattle.terms.specs.Logic.{pick}
 use Rattle.label_spec.specs.Names.{blank, norm}
 
@@ -17,14 +15,14 @@ abbrev pub longest_name : ℕ
 longest_name = 40
 
 -- The place of the line's first `=`; the text stands from the place i on.
-unfoldable pub eq_in : List ℕ → ℕ → Spot
-eq_in [] i = Nowhere
-eq_in (b ∷ s) i = pick (eqb b 61) (Place i) (pick (eqb b 10) Nowhere (eq_in s (i + 1)))
+unfoldable pub eq_in : List ℕ → ℕ → Option ℕ
+eq_in [] i = None
+eq_in (b ∷ s) i = pick (eqb b 61) (Some i) (pick (eqb b 10) None (eq_in s (i + 1)))
 
 -- A `##` at m, and its line's first `=`: the text s stands from n on, where the name starts. K is what follows.
-unfoldable pub headed : List ℕ → ℕ → ℕ → Walk → Spot → Walk
-headed s m n K Nowhere = bad m K
-headed s m n K (Place e) = pick (leb (length (norm (take (e - n) s))) longest_name) (label m n e (norm (take (e - n) s)) K) (bad m K)
+unfoldable pub headed : List ℕ → ℕ → ℕ → Walk → Option ℕ → Walk
+headed s m n K None = bad m K
+headed s m n K (Some e) = pick (leb (length (norm (take (e - n) s))) longest_name) (label m n e (norm (take (e - n) s)) K) (bad m K)
 
 -- The byte b at the place i, with s after it, and K what follows. The mode: do only blanks stand before it on its line?
 unfoldable pub step : (Bool → Walk) → List ℕ → ℕ → Bool → ℕ → Walk

@@ -1,8 +1,9 @@
 -- What the search for TITLE ensures besides the definitions of label_spec: where its answer lies. Assumes nothing.
-use Rattle.std.specs.Prelude.{◌≡◌, true, false, List, ℕ, ◌+◌, ◌<◌, ◌≤◌, length}
+use Rattle.std.specs.Prelude.{◌≡◌, true, false, List, ℕ, ◌+◌, ◌<◌, ◌≤◌, length, Result, Ok, Err}
 use Rattle.label_spec.specs.Names.{name_in, TITLE}
 use Rattle.label_spec.specs.Labels.{label, from}
-use Rattle.label_spec.specs.declared.Opened.{Opened}
+use Rattle.label_spec.specs.declared.Edges.{Edges}
+use Rattle.terms.specs.declared.Fault.{Fault}
 
 -- TITLE's label stands there, first on its line, with `##` at m and `=` at e.
 pub record TitleAt (s : List ℕ) (m e : ℕ) : Type 0 where
@@ -12,6 +13,6 @@ pub record TitleAt (s : List ℕ) (m e : ℕ) : Type 0 where
   pub law : from s m true ≡ label m (m + 2) e (name_in s (m + 2) e) (from s (e + 1) false)
 
 -- The places of each answer lie in the file.
-abbrev pub OpenIn : List ℕ → Opened → Type 0
-OpenIn s (Opened.Title m e) = TitleAt s m e
-OpenIn s (Opened.Refused r) = r.place ≤ length s
+abbrev pub OpenIn : List ℕ → Result Edges Fault → Type 0
+OpenIn s (Ok x) = TitleAt s x.mark x.eq
+OpenIn s (Err r) = r.place ≤ length s

@@ -10,18 +10,18 @@ ghost use Rattle.label_title.specs.Answers.{OpenIn};
 use label_lines::{is_hashed, label_here};
 use label_names::is_title;
 use label_space::past_space;
-use label_spec::{Label, Opened};
-use terms::Fault;
+use label_spec::{Edges, Label};
+use terms::{Fault, Reason};
 
 // TITLE is not first: another byte stands there, or the end (21).
-fn untitled(place: usize) -> Opened
+fn untitled(place: usize) -> Result<Edges, Fault>
     ensures { result ≡ Opened.Refused (fault_at 21 place) }
 {
-    Opened::Refused(Fault::new(21, place))
+    Err(Fault::new(Reason::NoTitle, place))
 }
 
 // The label whose `##` stands here, if it is TITLE.
-fn title_here(s: &[u8], at: usize) -> Opened
+fn title_here(s: &[u8], at: usize) -> Result<Edges, Fault>
     requires { hashed s.now at ≡ true }
     ensures { (result ≡ opened_at s.now at) × OpenIn s.now result }
 {
@@ -30,7 +30,7 @@ fn title_here(s: &[u8], at: usize) -> Opened
         Label::Bad { mark: _ } => untitled(at),
         Label::At { mark, start, eq } => {
             if is_title(s, start, eq) {
-                Opened::Title { mark, eq }
+                Ok(Edges { mark, eq })
             } else {
                 untitled(at)
             }
@@ -39,7 +39,7 @@ fn title_here(s: &[u8], at: usize) -> Opened
 }
 
 // TITLE, if it is first: only blank or comment lines precede it (21).
-pub fn open_title(file: &[u8]) -> Opened
+pub fn open_title(file: &[u8]) -> Result<Edges, Fault>
     ensures { (result ≡ opened file.now) × OpenIn file.now result }
 {
     let place = past_space(file, 0);

@@ -1,9 +1,10 @@
 -- Where the answer of what a file's labels say lies. Assumes nothing.
-use Rattle.std.specs.Prelude.{List, ℕ, ◌<◌, ◌≤◌, length}
-use Rattle.label_spec.specs.declared.Labelled.{Labelled}
+use Rattle.std.specs.Prelude.{List, ℕ, ◌<◌, ◌≤◌, length, Result, Ok, Err}
 use Rattle.label_title.specs.Answers.{TitleAt}
+use Rattle.label_spec.specs.declared.Places.{Places}
+use Rattle.terms.specs.declared.Fault.{Fault}
 
 -- The places of each answer lie in the file.
-abbrev pub LabelledIn : List ℕ → Labelled → Type 0
-LabelledIn s (Labelled.Places m e x) = TitleAt s m e × (e < x) × (x < length s)
-LabelledIn s (Labelled.Refused r) = r.place ≤ length s
+abbrev pub LabelledIn : List ℕ → Result Places Fault → Type 0
+LabelledIn s (Ok y) = TitleAt s y.title y.eq × (y.eq < y.end) × (y.end < length s)
+LabelledIn s (Err r) = r.place ≤ length s

@@ -11,16 +11,16 @@ ghost use Rattle.label_walk.specs.Answers.{LabelledIn};
 use label_judged::{Judged, fault, is_same, next_judged};
 use label_lines::next_mark;
 use label_names::first_of;
-use label_spec::{Labelled, Opened, Walked};
 use label_title::open_title;
-use terms::Fault;
+use terms::{Fault, Reason};
+use label_spec::{Edges, Places};
 
 // The most bytes of a file.
 const LONGEST_FILE: usize = 1048576;
 
 // The walk over the labels of a part of a file, from after TITLE's `=`: up to END, or to the first of 20, 22, 23, 24.
 // Each label is compared with every label before it: two nested scans, left from inside at the first equal name (23).
-pub fn walk(part: &[u8], start: usize) -> Walked
+pub fn walk(part: &[u8], start: usize) -> Result<Edges, Fault>
     requires { start ≤ length part.now }
     ensures { (result ≡ judged (length part.now) [] (from part.now start false)) × WalkedIn start (length part.now) result }
 {
@@ -61,30 +61,30 @@ pub fn walk(part: &[u8], start: usize) -> Walked
 }
 
 // The file is longer than a file may be (19).
-fn too_long() -> Labelled
+fn too_long() -> Result<Places, Fault>
     ensures { result ≡ Labelled.Refused (fault_at 19 0) }
 {
-    Labelled::Refused(Fault::new(19, 0))
+    Err(Fault::new(Reason::LongFile, 0))
 }
 
 // What the labels of a file say: 19, 21, then 20, 22, 23, 24 in one walk; or the places of TITLE and END.
-pub fn labels(file: &[u8]) -> Labelled
+pub fn labels(file: &[u8]) -> Result<Places, Fault>
     ensures { (result ≡ labelled file.now) × LabelledIn file.now result }
 {
     if file.len() > LONGEST_FILE {
         return too_long();
     }
     match open_title(file) {
-        Opened::Refused(fault) => Labelled::Refused(fault),
-        Opened::Title { mark, eq } => {
+        Err(fault) => Err(fault),
+        Ok(Edges { mark, eq }) => {
             let start = eq + 1;
             match walk(file, start) {
-                Walked::Refused(fault) => Labelled::Refused(fault),
-                Walked::Ended { mark: end, eq: _ } => Labelled::Places {
+                Err(fault) => Err(fault),
+                Ok(Edges { mark: end, eq: _ }) => Ok(Places {
                     title: mark,
                     eq,
                     end,
-                },
+                }),
             }
         }
     }

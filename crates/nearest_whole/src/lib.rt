@@ -4,7 +4,7 @@
 ghost use Rattle.std.specs.Prelude.{◌≡◌, ◌<◌, ◌≤◌};
 ghost use Rattle.decimal_spec.specs.Quotient.{Nearest, IsQuotient, zero_quotient, beyond_quotient};
 
-use decimal_spec::{Quotient, Rounded};
+use decimal_spec::{Quotient, Whole};
 
 // The size of the whole number nearest to a / b, halves to the larger. Twice the rest is formed, since twice a may not fit.
 fn nearest(minus: bool, a: u64, b: u64) -> u64
@@ -29,10 +29,10 @@ pub fn zero(exact: bool) -> Quotient
     ensures { result ≡ zero_quotient exact }
 {
     Quotient {
-        rounded: Rounded::Whole {
+        rounded: Some(Whole {
             minus: false,
             size: 0,
-        },
+        }),
         exact,
     }
 }
@@ -42,7 +42,7 @@ pub fn beyond() -> Quotient
     ensures { result ≡ beyond_quotient }
 {
     Quotient {
-        rounded: Rounded::Beyond,
+        rounded: None,
         exact: false,
     }
 }
@@ -61,7 +61,7 @@ pub fn limited(minus: bool, a: u64, b: u64, limit: u64) -> Quotient
         return zero(exact);
     }
     Quotient {
-        rounded: Rounded::Whole { minus, size: q },
+        rounded: Some(Whole { minus, size: q }),
         exact,
     }
 }

@@ -1,15 +1,12 @@
 -- What a C host hands over and is told, as 64-bit numbers in the header's order. Assumes nothing.
-use Rattle.std.specs.Prelude.{List, [], ◌∷◌, ℕ, ◌-◌, ltb, ℤ, pos, negsuc, get_or}
+use Rattle.std.specs.Prelude.{List, [], ◌∷◌, ℕ, ◌-◌, ltb, ℤ, pos, negsuc, get_or, Option, Some, None, Result, Ok, Err}
 use Rattle.terms.specs.Logic.{pick}
 use Rattle.host_numbers.specs.Numbers.{bits}
-use Rattle.night_spec.specs.declared.Level.{Level}
-use Rattle.night_spec.specs.declared.Level.TheVariants as level
 use Rattle.night_spec.specs.declared.Account.{Account}
-use Rattle.night_spec.specs.declared.FileReport.{FileReport}
-use Rattle.night_spec.specs.declared.FileReport.TheVariants as report
 use Rattle.night_spec.specs.declared.Progress.{Progress}
 use Rattle.night_spec.specs.declared.Reported.{Reported}
 use Rattle.night_spec.specs.declared.Reported.TheVariants as reported
+use Rattle.terms.specs.declared.Refusal.{Refusal}
 
 -- ---- numbers with a sign, in two's complement
 
@@ -20,9 +17,9 @@ number_of u = pick (ltb u 9223372036854775808) (pos u) (negsuc (1844674407370955
 abbrev pub none : ℕ
 none = 18446744071562067968
 
-abbrev pub level_bits : Level → ℕ
-level_bits level.Nothing = none
-level_bits (level.Is x) = bits x
+abbrev pub level_bits : Option ℤ → ℕ
+level_bits None = none
+level_bits (Some x) = bits x
 
 -- ---- how far a walk has come: at, seen, files, points, missing, sum
 
@@ -52,9 +49,9 @@ end_answer c a = c ∷ a ∷ 0 ∷ 0 ∷ 1 ∷ 0 ∷ 0 ∷ none ∷ none ∷ 0 �
 abbrev pub account_answer : Account → List ℕ
 account_answer a = 0 ∷ 0 ∷ 0 ∷ 0 ∷ 0 ∷ a.points ∷ a.missing ∷ level_bits a.lowest ∷ level_bits a.highest ∷ bits a.sum ∷ level_bits a.faintest ∷ []
 
-abbrev pub file_answer : FileReport → List ℕ
-file_answer (report.Read a) = account_answer a
-file_answer (report.Refused r) = r.number ∷ r.place ∷ r.line ∷ r.column ∷ 0 ∷ 0 ∷ 0 ∷ none ∷ none ∷ 0 ∷ none ∷ []
+abbrev pub file_answer : Result Account Refusal → List ℕ
+file_answer (Ok a) = account_answer a
+file_answer (Err r) = r.number ∷ r.place ∷ r.line ∷ r.column ∷ 0 ∷ 0 ∷ 0 ∷ none ∷ none ∷ 0 ∷ none ∷ []
 
 abbrev pub step_answer : Reported → List ℕ
 step_answer (reported.File x q) = file_answer x

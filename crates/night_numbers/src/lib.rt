@@ -6,7 +6,8 @@ ghost use Rattle.night_numbers.specs.Numbers.{number_of, level_bits, progress_of
 ghost use Rattle.host_numbers.specs.Numbers.{refused_of};
 
 use host_numbers::bits_of;
-use night_spec::{Account, FileReport, Level, Progress, Totals};
+use night_spec::{Account, Progress, Totals};
+use terms::Refusal;
 
 // What stands for `none`, -2,147,483,648 for C, the mark of a missing ordinate: no ordinate and no magnitude is it.
 const NONE: u64 = 18446744071562067968;
@@ -23,12 +24,12 @@ fn number_of(u: u64) -> i64
 }
 
 // A number of the report, or the mark for `none`.
-fn level_bits(l: Level) -> u64
+fn level_bits(l: Option<i64>) -> u64
     ensures { result ≡ level_bits l }
 {
     match l {
-        Level::Nothing => NONE,
-        Level::Is(x) => bits_of(x),
+        None => NONE,
+        Some(x) => bits_of(x),
     }
 }
 
@@ -92,12 +93,12 @@ fn tell_account(a: Account, answer: &mut [u64; 11]) -> u64
 }
 
 // A file: refused, place, line, column, and 0 since the walk goes on; points, missing, lowest, highest, sum, faintest.
-pub fn tell_file(f: FileReport, answer: &mut [u64; 11]) -> u64
+pub fn tell_file(f: Result<Account, Refusal>, answer: &mut [u64; 11]) -> u64
     ensures { (answer.new ≡ file_answer f) × (result ≡ refused_of (file_answer f)) }
 {
     match f {
-        FileReport::Read(a) => tell_account(a, answer),
-        FileReport::Refused(r) => {
+        Ok(a) => tell_account(a, answer),
+        Err(r) => {
             *answer = [
                 r.number,
                 r.place as u64,

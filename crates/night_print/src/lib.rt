@@ -1,7 +1,7 @@
 // What the program of the night's report prints (02, T-11): a line for each file, the totals, and how the spool ended. What is printed is tested against stored output; nothing is claimed of it.
 #![tactic(auto)]
 
-use night_spec::{Account, FileReport, Level, Progress, Totals};
+use night_spec::{Account, Progress, Totals};
 use std::io;
 use std::io::Print;
 use terms::{Fault, Refusal};
@@ -25,13 +25,13 @@ fn print_signed(output: &impl Print, words: &[u8], x: i64) -> io::Result<()> {
 }
 
 // Words, and a number of the report after them, or `none`.
-fn print_level(output: &impl Print, words: &[u8], l: Level) -> io::Result<()> {
+fn print_level(output: &impl Print, words: &[u8], l: Option<i64>) -> io::Result<()> {
     match l {
-        Level::Nothing => {
+        None => {
             output.write_all(words)?;
             output.write_all(b"none")
         }
-        Level::Is(x) => print_signed(output, words, x),
+        Some(x) => print_signed(output, words, x),
     }
 }
 
@@ -83,7 +83,7 @@ pub fn print_file(
     spool: &[u8],
     at: usize,
     then: Progress,
-    f: FileReport,
+    f: Result<Account, Refusal>,
 ) -> io::Result<()> {
     let number = then.seen as u64;
     let to = then.at;
@@ -91,8 +91,8 @@ pub fn print_file(
     print_count(output, b" at ", at as u64)?;
     output.write_all(b": ")?;
     match f {
-        FileReport::Read(a) => print_account(output, a),
-        FileReport::Refused(r) => print_refusal(output, errors, file_in(spool, at, to), number, r),
+        Ok(a) => print_account(output, a),
+        Err(r) => print_refusal(output, errors, file_in(spool, at, to), number, r),
     }
 }
 

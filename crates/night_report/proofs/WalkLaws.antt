@@ -10,11 +10,7 @@ use Rattle.file_spec.specs.File.{read_file}
 use Rattle.file_law.specs.Stored.{stored_length}
 use Rattle.night_spec.specs.Spool.{record_at, part, spool_from, spool_of, files_of, end_of}
 use Rattle.night_spec.specs.Night.{report_as, reports_of, no_files, with_report, totals_of, left_by, night_of}
-use Rattle.night_spec.specs.declared.Spooled.TheVariants as spooled
-use Rattle.night_spec.specs.declared.FileReport.{FileReport}
 use Rattle.night_spec.specs.declared.Totals.{Totals}
-use Rattle.night_spec.specs.declared.Ending.{Ending}
-use Rattle.night_spec.specs.declared.Ending.TheVariants as ending
 use Rattle.spool_record.proofs.SpoolLaws.{file_in, spool_over, spool_stopped, spool_file}
 use Rattle.ordinate_account.specs.Bounds.{ReportIn}
 use Rattle.file_tally.specs.Says.{ReportSays}
@@ -22,6 +18,10 @@ use Rattle.file_tally.proofs.Widths.{report_in}
 use Rattle.night_totals.specs.Bounds.{TotalsIn}
 use Rattle.night_report.specs.Says.{NightSays}
 use Rattle.night_totals.proofs.TotalLaws.{plus, plus_report, plus_none, none_plus, none_in, more_in}
+use Rattle.std.specs.Prelude.{Some, None, Result, Ok, Err, ⊤}
+use Rattle.terms.specs.declared.Refusal.{Refusal}
+use Rattle.night_spec.specs.declared.Account.{Account}
+use Rattle.label_spec.specs.Parts.{span_of}
 
 -- the totals over a spool's files from a place on, with room for so many ordinates
 abbrev pub rest_totals : ℕ → ℕ → List ℕ → ℕ → Totals
@@ -40,12 +40,12 @@ pub walked_start : (s : List ℕ) (out : List ℤ) → Walked s out 0 1000 no_fi
 walked_start s out = record { high = omega arith; bounds = none_in 0; same = refl; adds = none_plus (rest_totals (length out) 1000 s 0); ends = refl; rests = refl }
 
 -- the report that was told is within its bounds
-pub told_in : {f : List ℕ} {out out' : List ℤ} {r : FileReport} → ReportSays f out out' r → ReportIn r
+pub told_in : {f : List ℕ} {out out' : List ℤ} {r : Result Account Refusal} → ReportSays f out out' r → ReportIn r
 told_in {f} {out} x = rw x.answers (report_in (length out) f)
 
 -- one file more
-pub walked_file : {s : List ℕ} {out₀ : List ℤ} {at left : ℕ} {t : Totals} {out out' : List ℤ} {a b : ℕ} {r : FileReport}
-    → Walked s out₀ at left t out → spooled.File a b ≡ record_at left s at → ReportSays (part s a b) out out' r → Walked s out₀ b (left - 1) (with_report r t) out'
+pub walked_file : {s : List ℕ} {out₀ : List ℤ} {at left : ℕ} {t : Totals} {out out' : List ℤ} {a b : ℕ} {r : Result Account Refusal}
+    → Walked s out₀ at left t out → Ok (Some (span_of a b)) ≡ record_at left s at → ReportSays (part s a b) out out' r → Walked s out₀ b (left - 1) (with_report r t) out'
 unfolding files_of end_of reports_of totals_of left_by
 walked_file {s} {out₀} {at} {left} {t} {out} {out'} {a} {b} {r} w e x =
     let sp = spool_file left s at a b e in let z = file_in left s at e in let f = part s a b in let rest = spool_from (left - 1) s b in let high = w.high in
@@ -64,7 +64,7 @@ walked_file {s} {out₀} {at} {left} {t} {out} {out'} {a} {b} {r} w e x =
     }
 
 -- no file more
-walked_end : {s : List ℕ} {out₀ : List ℤ} {at left : ℕ} {t : Totals} {out : List ℤ} (e : Ending)
+walked_end : {s : List ℕ} {out₀ : List ℤ} {at left : ℕ} {t : Totals} {out : List ℤ} (e : Result ⊤ Fault)
     → Walked s out₀ at left t out → files_of (spool_from left s at) ≡ [] → end_of (spool_from left s at) ≡ e → NightSays s out₀ out (record { totals = t; end = e })
 unfolding night_of reports_of totals_of left_by
 walked_end {s} {out₀} {at} {left} {t} {out} e w none last =
@@ -75,10 +75,10 @@ walked_end {s} {out₀} {at} {left} {t} {out} e w none last =
     record { answers = rw (T, E) refl; left = rests }
 
 module _ {s : List ℕ} {out₀ : List ℤ} {at left : ℕ} {t : Totals} {out : List ℤ} (w : Walked s out₀ at left t out) where
-  pub walked_over : spooled.Over ≡ record_at left s at → NightSays s out₀ out (record { totals = t; end = ending.Whole })
+  pub walked_over : (Ok None) ≡ record_at left s at → NightSays s out₀ out (record { totals = t; end = Ok tt })
   unfolding files_of end_of
-  walked_over e = let sp = spool_over left s at e in walked_end ending.Whole w (rw sp refl) (rw sp refl)
+  walked_over e = let sp = spool_over left s at e in walked_end (Ok tt) w (rw sp refl) (rw sp refl)
 
-  pub walked_stopped : {r : Fault} → spooled.Refused r ≡ record_at left s at → NightSays s out₀ out (record { totals = t; end = ending.Refused r })
+  pub walked_stopped : {r : Fault} → Err r ≡ record_at left s at → NightSays s out₀ out (record { totals = t; end = Err r })
   unfolding files_of end_of
-  walked_stopped {r} e = let sp = spool_stopped left s at r e in walked_end (ending.Refused r) w (rw sp refl) (rw sp refl)
+  walked_stopped {r} e = let sp = spool_stopped left s at r e in walked_end (Err r) w (rw sp refl) (rw sp refl)

@@ -6,26 +6,27 @@ use lib.IntN.{nat_abs}
 use lib.ListN.{length}
 use Rattle.night_spec.specs.Spool.{Spool, over, follow, record_at, spool_from, spool_of, files_of}
 use Rattle.night_spec.specs.Night.{report_as, reports_of, totals_of, night_of}
-use Rattle.night_spec.specs.declared.Spooled.{Spooled}
-use Rattle.night_spec.specs.declared.Spooled.TheVariants as spooled
 use Rattle.spool_record.proofs.SpoolLaws.{RecordIn, record_in_lem}
 use Rattle.file_tally.proofs.Widths.{report_in}
 use Rattle.night_totals.specs.Bounds.{TotalsIn}
 use Rattle.night_totals.proofs.TotalLaws.{none_in, wider, more_in}
+use Rattle.std.specs.Prelude.{Option, Some, None, Result, Ok, Err}
+use Rattle.label_spec.specs.declared.Span.{Span}
+use Rattle.terms.specs.declared.Fault.{Fault}
 
 -- ---- at most 1,000 files
 
-follow_most : (k : ℕ) (f : ℕ → Spool) (s : List ℕ) (x : Spooled) → ((b : ℕ) → length (files_of (f b)) ≤ k) → length (files_of (follow f s x)) ≤ suc k
+follow_most : (k : ℕ) (f : ℕ → Spool) (s : List ℕ) (x : Result (Option Span) Fault) → ((b : ℕ) → length (files_of (f b)) ≤ k) → length (files_of (follow f s x)) ≤ suc k
 unfolding files_of
-follow_most k f s spooled.Over h = omega arith
-follow_most k f s (spooled.Refused r) h = omega arith
-follow_most k f s (spooled.File a b) h = let z = h b in omega (arith, z)
+follow_most k f s (Ok None) h = omega arith
+follow_most k f s (Err r) h = omega arith
+follow_most k f s (Ok (Some x)) h = let z = h x.to in omega (arith, z)
 
-none_left : (len : ℕ) (s : List ℕ) (x : Spooled) → RecordIn len 0 x → length (files_of (follow (λ _. over) s x)) ≤ 0
+none_left : (len : ℕ) (s : List ℕ) (x : Result (Option Span) Fault) → RecordIn len 0 x → length (files_of (follow (λ _. over) s x)) ≤ 0
 unfolding files_of
-none_left len s spooled.Over h = omega arith
-none_left len s (spooled.Refused r) h = omega arith
-none_left len s (spooled.File a b) h = absurd (omega (arith, h.2))
+none_left len s (Ok None) h = omega arith
+none_left len s (Err r) h = omega arith
+none_left len s (Ok (Some x)) h = absurd (omega (arith, h.2))
 
 files_left : (left : ℕ) (s : List ℕ) (p : ℕ) → length (files_of (spool_from left s p)) ≤ left
 unfolding spool_from

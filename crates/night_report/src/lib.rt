@@ -5,9 +5,10 @@
 ghost use Rattle.night_report.specs.Says.{NightSays};
 
 use file_tally::report_file;
-use night_spec::{Ending, Night, Spooled, Totals};
+use night_spec::{Night, Totals};
 use night_totals::with_report;
 use spool::next_record;
+use label_spec::Span;
 
 // Walks a spool to its end: any bytes, any slice. The totals over its accepted files, and how it ends.
 pub fn whole_night(spool: &[u8], out: &mut [i32]) -> Night
@@ -23,19 +24,19 @@ pub fn whole_night(spool: &[u8], out: &mut [i32]) -> Night
     };
     loop {
         match next_record(spool, at, left) {
-            Spooled::Over => {
+            Ok(None) => {
                 return Night {
                     totals,
-                    end: Ending::Whole,
+                    end: Ok(()),
                 };
             }
-            Spooled::Refused(why) => {
+            Err(why) => {
                 return Night {
                     totals,
-                    end: Ending::Refused(why),
+                    end: Err(why),
                 };
             }
-            Spooled::File { from, to } => {
+            Ok(Some(Span { from, to })) => {
                 let report = report_file(&spool[from..to], out);
                 totals = with_report(totals, report);
                 at = to;

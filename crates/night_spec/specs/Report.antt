@@ -1,14 +1,11 @@
 -- 02, T-11: what the report says of one file, over the list of its ordinates. An ordinate y stands as y + 2^31, a missing one as 0. Assumes nothing.
-use Rattle.std.specs.Prelude.{List, [], ◌∷◌, ℕ, suc, ◌+◌, ltb, eqb, ℤ, pos, ◌+ℤ◌, length}
+use Rattle.std.specs.Prelude.{List, [], ◌∷◌, ℕ, suc, ◌+◌, ltb, eqb, ℤ, pos, ◌+ℤ◌, length, Option, Some, None, Result, Ok, Err}
 use Rattle.terms.specs.Logic.{pick}
 use Rattle.terms.specs.Refusals.{refusal_in}
 use Rattle.table_spec.specs.Frame.{zero_ordinate, entry_for, apart}
 use Rattle.file_spec.specs.File.{FileAnswer, refuse_file, accept_file}
-use Rattle.night_spec.specs.declared.Level.{Level}
-use Rattle.night_spec.specs.declared.Level.TheVariants as level
 use Rattle.night_spec.specs.declared.Account.{Account}
-use Rattle.night_spec.specs.declared.FileReport.{FileReport}
-use Rattle.night_spec.specs.declared.FileReport.TheVariants as report
+use Rattle.terms.specs.declared.Refusal.{Refusal}
 
 -- the ordinates that are not missing
 unfoldable pub given : List ℕ → List ℕ
@@ -52,13 +49,13 @@ sum_of [] = pos 0
 sum_of (u ∷ l) = entry_for u +ℤ sum_of l
 
 -- an ordinate, or a magnitude, as the report says it
-abbrev pub ordinate_level : Some → Level
-ordinate_level none = level.Nothing
-ordinate_level (some u) = level.Is (entry_for u)
+abbrev pub ordinate_level : Some → Option ℤ
+ordinate_level none = None
+ordinate_level (some u) = Some (entry_for u)
 
-abbrev pub size_level : Some → Level
-size_level none = level.Nothing
-size_level (some m) = level.Is (pos m)
+abbrev pub size_level : Some → Option ℤ
+size_level none = None
+size_level (some m) = Some (pos m)
 
 -- what the report says of a file with these ordinates
 unfoldable pub account_of : List ℕ → Account
@@ -72,6 +69,6 @@ account_of ys = record {
 }
 
 -- "refused (number, place), or ..": by what the reader says of the file f; a refusal has its line and column in the file too
-unfoldable pub report_of : List ℕ → FileAnswer → FileReport
-report_of f (refuse_file c a) = report.Refused (refusal_in f c a)
-report_of f (accept_file t ys) = report.Read (account_of ys)
+unfoldable pub report_of : List ℕ → FileAnswer → Result Account Refusal
+report_of f (refuse_file c a) = Err (refusal_in f c a)
+report_of f (accept_file t ys) = Ok (account_of ys)

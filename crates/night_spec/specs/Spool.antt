@@ -1,12 +1,10 @@
 -- 02, T-11: a spool, the list of its files, and how it ends. Assumes nothing.
-use Rattle.std.specs.Prelude.{Bool, List, [], ◌∷◌, ◌++◌, ℕ, zero, suc, ◌+◌, ◌-◌, ◌*◌, ◌/◌, ◌%◌, ◌<◌, ltb, leb, eqb, length, get_or, take, drop}
+use Rattle.std.specs.Prelude.{Bool, List, [], ◌∷◌, ◌++◌, ℕ, zero, suc, ◌+◌, ◌-◌, ◌*◌, ◌/◌, ◌%◌, ◌<◌, ltb, leb, eqb, length, get_or, take, drop, Option, Some, None, Result, Ok, Err, ⊤}
 use Rattle.terms.specs.Logic.{pick, both}
 use Rattle.terms.specs.Refusals.{fault_at}
 use Rattle.terms.specs.declared.Fault.{Fault}
-use Rattle.night_spec.specs.declared.Spooled.{Spooled}
-use Rattle.night_spec.specs.declared.Spooled.TheVariants as spooled
-use Rattle.night_spec.specs.declared.Ending.{Ending}
-use Rattle.night_spec.specs.declared.Ending.TheVariants as ending
+use Rattle.label_spec.specs.declared.Span.{Span}
+use Rattle.label_spec.specs.Parts.{span_of}
 
 -- "At most 1,000 files"
 abbrev pub most_files : ℕ
@@ -24,17 +22,17 @@ marked s p = both (eqb (get_or s p 0) 74) (eqb (get_or s (p + 1) 0) 68)
 abbrev pub length_at : List ℕ → ℕ → ℕ
 length_at s p = get_or s (p + 2) 0 * 65536 + get_or s (p + 3) 0 * 256 + get_or s (p + 4) 0
 
-abbrev pub refused_at : ℕ → ℕ → Spooled
-refused_at c p = spooled.Refused (fault_at c p)
+abbrev pub refused_at : ℕ → ℕ → Result (Option Span) Fault
+refused_at c p = Err (fault_at c p)
 
 -- what stands at a place, where so many files may still come: "36 file 1,001, then 35 under five bytes left, 34 bad mark, 35 length past the end"
-unfoldable pub record_at : ℕ → List ℕ → ℕ → Spooled
+unfoldable pub record_at : ℕ → List ℕ → ℕ → Result (Option Span) Fault
 record_at left s p =
-    pick (leb (length s) p) spooled.Over
+    pick (leb (length s) p) (Ok None)
     (pick (eqb left 0) (refused_at 36 p)
     (pick (ltb (length s - p) mark_length) (refused_at 35 p)
     (pick (marked s p)
-    (pick (leb (length_at s p) (length s - p - mark_length)) (spooled.File (p + mark_length) (p + mark_length + length_at s p)) (refused_at 35 p))
+    (pick (leb (length_at s p) (length s - p - mark_length)) (Ok (Some (span_of (p + mark_length) (p + mark_length + length_at s p)))) (refused_at 35 p))
     (refused_at 34 p))))
 
 -- a spool: its files, one after the other, and its end
@@ -48,10 +46,10 @@ abbrev pub part : List ℕ → ℕ → ℕ → List ℕ
 part s a b = take (b - a) (drop a s)
 
 -- what follows a record
-abbrev pub follow : (ℕ → Spool) → List ℕ → Spooled → Spool
-follow f s spooled.Over = over
-follow f s (spooled.Refused r) = stopped r
-follow f s (spooled.File a b) = file (part s a b) (f b)
+abbrev pub follow : (ℕ → Spool) → List ℕ → Result (Option Span) Fault → Spool
+follow f s (Ok None) = over
+follow f s (Err r) = stopped r
+follow f s (Ok (Some x)) = file (part s x.from x.to) (f x.to)
 
 -- a spool from a place on
 unfoldable pub spool_from : ℕ → List ℕ → ℕ → Spool
@@ -68,9 +66,9 @@ files_of (stopped r) = []
 files_of (file f rest) = f ∷ files_of rest
 
 -- and how it ends
-unfoldable pub end_of : Spool → Ending
-end_of over = ending.Whole
-end_of (stopped r) = ending.Refused r
+unfoldable pub end_of : Spool → Result ⊤ Fault
+end_of over = Ok tt
+end_of (stopped r) = Err r
 end_of (file f rest) = end_of rest
 
 -- ---- from files to a spool

@@ -13,14 +13,16 @@ use Rattle.table_spec.specs.Frame.{most_points}
 use Rattle.night_spec.specs.Spool.{most_files, part}
 use Rattle.night_spec.specs.Night.{report_as, with_report}
 use Rattle.night_spec.specs.Steps.{largest_sum, totals_legal, walk_legal, standing}
-use Rattle.night_spec.specs.declared.Spooled.TheVariants as spooled
-use Rattle.night_spec.specs.declared.FileReport.{FileReport}
 use Rattle.night_spec.specs.declared.Totals.{Totals}
 use Rattle.night_spec.specs.declared.Progress.{Progress}
 use Rattle.night_spec.specs.declared.Reported.TheVariants as reported
 use Rattle.file_tally.specs.Says.{ReportSays}
 use Rattle.night_totals.specs.Bounds.{TotalsIn}
 use Rattle.night_step.specs.Says.{NextSays}
+use Rattle.std.specs.Prelude.{Some, None, Result, Ok, Err}
+use Rattle.terms.specs.declared.Refusal.{Refusal}
+use Rattle.night_spec.specs.declared.Account.{Account}
+use Rattle.label_spec.specs.Parts.{span_of}
 
 -- ---- what a walk can have come to
 
@@ -60,13 +62,13 @@ module _ {s : List ℕ} {p : Progress} {out : List ℤ} where
   next_strange l = record { answers = rw l refl; left = rw l refl }
 
   module _ (l : walk_legal p ≡ true) where
-    pub next_over : spooled.Over ≡ standing s p → NextSays s p out out (reported.Over p.totals)
+    pub next_over : (Ok None) ≡ standing s p → NextSays s p out out (reported.Over p.totals)
     next_over e = record { answers = rw (l, sym e) refl; left = rw (l, sym e) refl }
 
-    pub next_stopped : {r : Fault} → spooled.Refused r ≡ standing s p → NextSays s p out out (reported.Refused r p.totals)
+    pub next_stopped : {r : Fault} → Err r ≡ standing s p → NextSays s p out out (reported.Refused r p.totals)
     next_stopped e = record { answers = rw (l, sym e) refl; left = rw (l, sym e) refl }
 
-    pub next_file : {out' : List ℤ} {a b : ℕ} {q : FileReport} {t : Totals} → spooled.File a b ≡ standing s p → ReportSays (part s a b) out out' q → t ≡ with_report q p.totals
+    pub next_file : {out' : List ℤ} {a b : ℕ} {q : Result Account Refusal} {t : Totals} → Ok (Some (span_of a b)) ≡ standing s p → ReportSays (part s a b) out out' q → t ≡ with_report q p.totals
         → NextSays s p out out' (reported.File q (record { at = b; seen = suc p.seen; totals = t }))
     next_file {out'} {a} {b} {q} {t} e x h =
         let k = x.answers in let m : t ≡ with_report (report_as (length out) (part s a b)) p.totals = h ∙ ap (λ y. with_report y p.totals) k in

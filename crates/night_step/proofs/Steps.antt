@@ -7,12 +7,7 @@ use lib.ListN.{length}
 use Rattle.night_spec.specs.Spool.{most_files, record_at, part, Spool, spool_from, spool_of, files_of, end_of, spool_for, Spoolable}
 use Rattle.night_spec.specs.Night.{report_as, reports_of, with_report, totals_of, night_of}
 use Rattle.night_spec.specs.Steps.{no_progress, step_of, answer_of, Goes, over_at, stopped_at, file_at}
-use Rattle.night_spec.specs.declared.Spooled.{Spooled}
-use Rattle.night_spec.specs.declared.Spooled.TheVariants as spooled
-use Rattle.night_spec.specs.declared.FileReport.{FileReport}
 use Rattle.night_spec.specs.declared.Totals.{Totals}
-use Rattle.night_spec.specs.declared.Ending.{Ending}
-use Rattle.night_spec.specs.declared.Ending.TheVariants as ending
 use Rattle.night_spec.specs.declared.Progress.{Progress}
 use Rattle.spool_record.proofs.Files.{spooled_back}
 use Rattle.spool_record.proofs.SpoolLaws.{file_in, spool_over, spool_stopped, spool_file}
@@ -20,10 +15,15 @@ use Rattle.file_tally.proofs.Widths.{report_in}
 use Rattle.night_totals.specs.Bounds.{TotalsIn}
 use Rattle.night_totals.proofs.TotalLaws.{plus, plus_report, plus_none, none_plus, none_in, more_in}
 use Rattle.night_step.proofs.StepLaws.{in_legal}
+use Rattle.std.specs.Prelude.{Option, Some, None, Result, Ok, Err, ⊤}
+use Rattle.label_spec.specs.declared.Span.{Span}
+use Rattle.terms.specs.declared.Fault.{Fault}
+use Rattle.terms.specs.declared.Refusal.{Refusal}
+use Rattle.night_spec.specs.declared.Account.{Account}
 
 module _ (space : ℕ) (s : List ℕ) where
   -- what is to be told of a spool from there on
-  abbrev Says : Progress → List FileReport → Totals → Ending → Type 0
+  abbrev Says : Progress → List (Result Account Refusal) → Totals → Result ⊤ Fault → Type 0
   Says p rs t e = Goes space s p rs (record { totals = t; end = e })
 
   abbrev Tells : Progress → Spool → Type 0
@@ -36,18 +36,18 @@ module _ (space : ℕ) (s : List ℕ) where
 
   module _ (left : ℕ) (p : Progress) (e : p.seen + left ≡ most_files) (h : TotalsIn p.seen p.totals) where
     tells_step : ((q : Progress) → 0 < left → q.seen + (left - 1) ≡ most_files → TotalsIn q.seen q.totals → Tells q (spool_from (left - 1) s q.at))
-        → (x : Spooled) → x ≡ record_at left s p.at → Tells p (spool_from left s p.at)
+        → (x : Result (Option Span) Fault) → x ≡ record_at left s p.at → Tells p (spool_from left s p.at)
     unfolding files_of end_of reports_of totals_of
-    tells_step ih spooled.Over g =
+    tells_step ih (Ok None) g =
         rw (spool_over left s p.at g)
-        (subst (λ t. Says p [] t ending.Whole) (sym (plus_none p.totals)) (over_at (answer_is left p e h ∙ ap (step_of space s p) (sym g))))
-    tells_step ih (spooled.Refused r) g =
+        (subst (λ t. Says p [] t (Ok tt)) (sym (plus_none p.totals)) (over_at (answer_is left p e h ∙ ap (step_of space s p) (sym g))))
+    tells_step ih (Err r) g =
         rw (spool_stopped left s p.at r g)
-        (subst (λ t. Says p [] t (ending.Refused r)) (sym (plus_none p.totals)) (stopped_at (answer_is left p e h ∙ ap (step_of space s p) (sym g))))
-    tells_step ih (spooled.File a b) g =
-        let f = part s a b in let r = report_as space f in let rest = spool_from (left - 1) s b in let z = file_in left s p.at g in
-        let q : Progress = record { at = b; seen = suc p.seen; totals = with_report r p.totals } in
-        rw (spool_file left s p.at a b g)
+        (subst (λ t. Says p [] t (Err r)) (sym (plus_none p.totals)) (stopped_at (answer_is left p e h ∙ ap (step_of space s p) (sym g))))
+    tells_step ih (Ok (Some x)) g =
+        let f = part s x.from x.to in let r = report_as space f in let rest = spool_from (left - 1) s x.to in let z = file_in left s p.at g in
+        let q : Progress = record { at = x.to; seen = suc p.seen; totals = with_report r p.totals } in
+        rw (spool_file left s p.at x.from x.to g)
         (subst (λ t. Says p (r ∷ reports_of space (files_of rest)) t (end_of rest)) (plus_report r p.totals (totals_of (reports_of space (files_of rest))))
         (file_at (answer_is left p e h ∙ ap (step_of space s p) (sym g)) (ih q z.2 (omega (arith, e, z.2)) (more_in r h (report_in space f)))))
 
@@ -65,6 +65,6 @@ module _ (space : ℕ) (s : List ℕ) where
       subst (λ t. Says no_progress all t (end_of (spool_of s))) (none_plus (totals_of all)) (tells most_files no_progress (omega arith) (none_in 0))
 
 -- of a spool that was made of files: the totals over those files, and that it is whole
-pub night_of_files : (space : ℕ) (fs : List (List ℕ)) → length fs ≤ most_files → Spoolable fs → night_of space (spool_for fs) ≡ record { totals = totals_of (reports_of space fs); end = ending.Whole }
+pub night_of_files : (space : ℕ) (fs : List (List ℕ)) → length fs ≤ most_files → Spoolable fs → night_of space (spool_for fs) ≡ record { totals = totals_of (reports_of space fs); end = Ok tt }
 unfolding night_of
 night_of_files space fs h g = let z = spooled_back fs h g in rw (z.0, z.1) refl

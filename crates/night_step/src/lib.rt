@@ -8,21 +8,23 @@ ghost use Rattle.night_totals.specs.Bounds.{TotalsIn};
 ghost use Rattle.ordinate_account.specs.Bounds.{ReportIn};
 
 use file_tally::report_file;
-use night_spec::{FileReport, Progress, Reported, Spooled, Totals};
+use night_spec::{Account, Progress, Reported, Totals};
 use night_totals::{walk_legal, with_report};
 use spool::next_record;
+use label_spec::Span;
+use terms::Refusal;
 
 // A report, and the totals with it. A report is no value that can be used twice, so it is handed back.
-fn counted(t: Totals, f: FileReport) -> (FileReport, Totals)
+fn counted(t: Totals, f: Result<Account, Refusal>) -> (Result<Account, Refusal>, Totals)
     requires { TotalsIn 1000 t × ReportIn f }
     ensures same { result.0 ≡ f }
     ensures totals { result.1 ≡ with_report f t }
 {
     match f {
-        FileReport::Refused(why) => (FileReport::Refused(why), t),
-        FileReport::Read(a) => {
-            let more = with_report(t, FileReport::Read(a));
-            (FileReport::Read(a), more)
+        Err(why) => (Err(why), t),
+        Ok(a) => {
+            let more = with_report(t, Ok(a));
+            (Ok(a), more)
         }
     }
 }
@@ -39,9 +41,9 @@ pub fn report_next(spool: &[u8], p: Progress, out: &mut [i32]) -> Reported
     }
     let left = 1000 - seen;
     match next_record(spool, at, left) {
-        Spooled::Over => Reported::Over(totals),
-        Spooled::Refused(why) => Reported::Refused { why, totals },
-        Spooled::File { from, to } => {
+        Ok(None) => Reported::Over(totals),
+        Err(why) => Reported::Refused { why, totals },
+        Ok(Some(Span { from, to })) => {
             let report = report_file(&spool[from..to], out);
             let (report, more) = counted(totals, report);
             let next = seen + 1;

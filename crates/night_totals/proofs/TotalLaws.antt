@@ -7,22 +7,22 @@ use mir.Syntax.{w64}
 use mir.Val.{SFits}
 use Rattle.night_spec.specs.Night.{no_files, with_report}
 use Rattle.night_spec.specs.declared.Account.{Account}
-use Rattle.night_spec.specs.declared.FileReport.{FileReport}
-use Rattle.night_spec.specs.declared.FileReport.TheVariants as report
 use Rattle.night_spec.specs.declared.Totals.{Totals}
 use Rattle.ordinate_account.specs.Bounds.{AccountIn, ReportIn}
 use Rattle.night_totals.specs.Bounds.{TotalsIn}
 use Rattle.night_totals.proofs.SizeLaws.{size_add, size_fits}
+use Rattle.std.specs.Prelude.{Result, Ok, Err}
+use Rattle.terms.specs.declared.Refusal.{Refusal}
 
 -- ---- in any order
 
 abbrev pub plus : Totals → Totals → Totals
 plus a b = record { files = a.files + b.files; points = a.points + b.points; missing = a.missing + b.missing; sum = a.sum +ℤ b.sum }
 
-pub plus_report : (r : FileReport) (a b : Totals) → plus (with_report r a) b ≡ plus a (with_report r b)
+pub plus_report : (r : Result Account Refusal) (a b : Totals) → plus (with_report r a) b ≡ plus a (with_report r b)
 unfolding with_report
-plus_report (report.Refused x) a b = refl
-plus_report (report.Read x) a b =
+plus_report (Err x) a b = refl
+plus_report (Ok x) a b =
     let w : suc a.files + b.files ≡ a.files + suc b.files = omega arith in
     let p : x.points + a.points + b.points ≡ a.points + (x.points + b.points) = omega arith in
     let m : x.missing + a.missing + b.missing ≡ a.missing + (x.missing + b.missing) = omega arith in
@@ -47,10 +47,10 @@ none_in k = record { files = omega arith; points = omega arith; missing = omega 
 pub wider : {k m : ℕ} {t : Totals} → k ≤ m → TotalsIn k t → TotalsIn m t
 wider l h = record { files = omega (arith, h.files); points = omega (arith, h.points); missing = h.missing; sum = omega (arith, h.sum) }
 
-pub more_in : {k : ℕ} (r : FileReport) {t : Totals} → TotalsIn k t → ReportIn r → TotalsIn (suc k) (with_report r t)
+pub more_in : {k : ℕ} (r : Result Account Refusal) {t : Totals} → TotalsIn k t → ReportIn r → TotalsIn (suc k) (with_report r t)
 unfolding with_report
-more_in (report.Refused x) h g = wider (omega arith) h
-more_in (report.Read a) {t} h g =
+more_in (Err x) h g = wider (omega arith) h
+more_in (Ok a) {t} h g =
     let s = size_add a.sum t.sum in
     record { files = omega (arith, h.files); points = omega (arith, h.points, g.points); missing = omega (arith, h.missing, g.missing); sum = omega (arith, s, h.sum, g.sum) }
 

@@ -7,7 +7,8 @@ ghost use Rattle.night_spec.specs.Steps.{no_progress, totals_legal, walk_legal};
 ghost use Rattle.ordinate_account.specs.Bounds.{AccountIn, ReportIn};
 ghost use Rattle.night_totals.specs.Bounds.{TotalsIn};
 
-use night_spec::{Account, FileReport, Progress, Totals};
+use night_spec::{Account, Progress, Totals};
+use terms::Refusal;
 
 // The magnitude of a number with a sign.
 pub fn size_of(x: i64) -> u64
@@ -38,13 +39,13 @@ fn with_file(t: Totals, a: Account) -> Totals
 }
 
 // One file more; a refused one adds nothing.
-pub fn with_report(t: Totals, f: FileReport) -> Totals
+pub fn with_report(t: Totals, f: Result<Account, Refusal>) -> Totals
     requires { TotalsIn 1000 t × ReportIn f }
     ensures { result ≡ with_report f t }
 {
     match f {
-        FileReport::Refused(_) => t,
-        FileReport::Read(a) => with_file(t, a),
+        Err(_) => t,
+        Ok(a) => with_file(t, a),
     }
 }
 

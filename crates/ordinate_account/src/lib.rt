@@ -8,7 +8,7 @@ ghost use Rattle.night_spec.specs.Report.{account_of};
 ghost use Rattle.ordinate_tally.specs.Tally.{Bounded};
 ghost use Rattle.ordinate_account.specs.Account.{level_from, account_from};
 
-use night_spec::{Account, Level};
+use night_spec::Account;
 use ordinate_tally::{Tally, tally_up};
 
 // A sum of so many ordinates, each as y + 2^31, as the sum of the ordinates.
@@ -23,14 +23,14 @@ fn lowered(raised: u64, given: u64) -> i64
 }
 
 // A number of the report, of one ordinate or, for a magnitude, of none; 0 for `none`.
-fn level_of(raised: u64, given: u64) -> Level
+fn level_of(raised: u64, given: u64) -> Option<i64>
     requires { (raised < 4294967296) × (given < 2) }
     ensures { result ≡ level_from raised given }
 {
     if raised == 0 {
-        return Level::Nothing;
+        return None;
     }
-    Level::Is(lowered(raised, given))
+    Some(lowered(raised, given))
 }
 
 // What the report says of so many points that come to this.

@@ -1,8 +1,7 @@
 -- All before the place of a refusal can stay, in the terms of the public reader's outcome, for every legal frame (01, "Refusal numbers" and "The frame of a table"). Assumes nothing.
-use Rattle.std.specs.Prelude.{◌≡◌, refl, true, List, ℕ, ◌≤◌, ℤ, length, take}
+use Rattle.std.specs.Prelude.{◌≡◌, refl, true, List, ℕ, ◌≤◌, ℤ, length, take, Err}
 use Rattle.std.proofs.Common.{sym, ◌∙◌, arith}
 use Rattle.terms.specs.declared.Refusal.{Refusal}
-use Rattle.terms.specs.declared.TableRead.TheVariants.{Refused}
 use Rattle.table_spec.specs.Frame.{abscissa, frame_legal, nearest}
 use Rattle.table_spec.specs.Numerals.{head_text}
 use Rattle.table_spec.specs.Reading.{refuse, read, read_table}
@@ -41,7 +40,7 @@ module _ (f l : ℤ) (n : ℕ) where
       }
 
   -- 1 and 2 aside, the frame is legal, and it is the body that is refused
-  refused_body : (body : List ℕ) (out out' : List ℤ) (r : Refusal) → TableSays f l n body out out' (Refused r) → 3 ≤ r.number
+  refused_body : (body : List ℕ) (out out' : List ℤ) (r : Refusal) → TableSays f l n body out out' (Err r) → 3 ≤ r.number
       → Writable (Ruled f l n) × (read (Ruled f l n) body ≡ refuse r.number r.place)
   refused_body body out out' r says from-3 =
       let e = refuses_so f l n body (length out) r (read_table f l n body (length out)) refl says.answers in
@@ -50,10 +49,10 @@ module _ (f l : ℤ) (n : ℕ) where
 
   -- THE THEOREM. A body is refused with a number from 3 on. Then some table under the same frame begins with all its bytes before the place; or they are one of the two exceptions,
   -- and no table begins with them
-  pub before_can_stay : (body : List ℕ) (out out' : List ℤ) (r : Refusal) → TableSays f l n body out out' (Refused r) → 3 ≤ r.number
+  pub before_can_stay : (body : List ℕ) (out out' : List ℤ) (r : Refusal) → TableSays f l n body out out' (Err r) → 3 ≤ r.number
       → Before (Ruled f l n) r.number (take r.place body)
   before_can_stay body out out' r says from-3 = let z = refused_body body out out' r says from-3 in before_place (Ruled f l n) z.0 body r.number r.place z.1
 
   -- with 4, 6, 7, 12, 13 and 16 there is no exception
-  pub all_can_stay : (body : List ℕ) (out out' : List ℤ) (r : Refusal) → TableSays f l n body out out' (Refused r) → Elsewhere r.number → CanStay (Ruled f l n) (take r.place body)
+  pub all_can_stay : (body : List ℕ) (out out' : List ℤ) (r : Refusal) → TableSays f l n body out out' (Err r) → Elsewhere r.number → CanStay (Ruled f l n) (take r.place body)
   all_can_stay body out out' r says m = let z = refused_body body out out' r says (from_3_on m) in all_stays (Ruled f l n) z.0 body r.number r.place z.1 m

@@ -1,6 +1,6 @@
 -- THE THEOREM: with what stands at the place of a refusal nothing can be right. In what a body says, and in the terms of the public reader's outcome. Assumes nothing.
 -- 01, "Refusal numbers": "Reading goes left to right; the first fault decides". So no text that begins with the same bytes, as far as that fault shows, is a table.
-use Rattle.std.specs.Prelude.{◌≡◌, Bool, List, ◌∷◌, ◌++◌, ℕ, ◌+◌, ◌≤◌, ◌<◌, leb, ℤ}
+use Rattle.std.specs.Prelude.{◌≡◌, Bool, List, ◌∷◌, ◌++◌, ℕ, ◌+◌, ◌≤◌, ◌<◌, leb, ℤ, Result, Ok, Err}
 use Rattle.std.proofs.Math.Path.{refl}
 use Rattle.std.proofs.Common.{sym, ◌∙◌, subst}
 use Rattle.std.proofs.Math.Bool.{true, false}
@@ -11,8 +11,6 @@ use borrow.Author.Tests.{eqb-true, eqb-false}
 use Rattle.terms.specs.Logic.{pick, by_case, no_way}
 use Rattle.terms.specs.Refusals.{refusal_in}
 use Rattle.terms.specs.declared.Refusal.{Refusal}
-use Rattle.terms.specs.declared.TableRead.{TableRead}
-use Rattle.terms.specs.declared.TableRead.TheVariants.{Accepted, Refused}
 use Rattle.alphabet_spec.specs.Digits.{within}
 use Rattle.table_spec.specs.Frame.{Rules, rules, abscissa}
 use Rattle.table_spec.specs.Values.{Form, Own, Spot, first, after, last_or, index}
@@ -164,18 +162,18 @@ module _ (f l : ℤ) (n : ℕ) where
   abbrev pub Ruled : Rules
   Ruled = rules (abscissa f) (abscissa l) n
 
-  abbrev Refusing : TableRead → Type 0
-  Refusing (Accepted k) = ⊥
-  Refusing (Refused r) = Unit {0}
+  abbrev Refusing : Result ℕ Refusal → Type 0
+  Refusing (Ok k) = ⊥
+  Refusing (Err r) = Unit {0}
 
   -- what was answered is what reading the table says
-  pub refuses_so : (body : List ℕ) (room : ℕ) (r : Refusal) (a : Answer) → read_table f l n body room ≡ a → Refused r ≡ told n body a → read_table f l n body room ≡ refuse r.number r.place
+  pub refuses_so : (body : List ℕ) (room : ℕ) (r : Refusal) (a : Answer) → read_table f l n body room ≡ a → Err r ≡ told n body a → read_table f l n body room ≡ refuse r.number r.place
   refuses_so body room r (refuse c b) e h = let g : r ≡ refusal_in body c b = cc in rw g e
   refuses_so body room r (accept ys) e h = absurd (subst Refusing h tt)
 
   -- THE THEOREM. A body that begins with the bytes x and y is refused with a number from 3 on, and these bytes decide it. Then no text that begins with them is a table: under the
   -- same frame none spells any list
-  pub none_right : (x s : List ℕ) (y : ℕ) (out out' : List ℤ) (r : Refusal) → TableSays f l n (x ++ y ∷ s) out out' (Refused r) → 3 ≤ r.number → Decided x y r.number r.place
+  pub none_right : (x s : List ℕ) (y : ℕ) (out out' : List ℤ) (r : Refusal) → TableSays f l n (x ++ y ∷ s) out out' (Err r) → 3 ≤ r.number → Decided x y r.number r.place
       → (t ys : List ℕ) → Spells Ruled ys (x ++ y ∷ t) → ⊥
   none_right x s y out out' r says from-3 d t ys =
       let body = x ++ y ∷ s in
@@ -184,7 +182,7 @@ module _ (f l : ℤ) (n : ℕ) where
       nothing_goes_on Ruled x s t y r.number r.place (sym (allowed_read f l n body (length out) a) ∙ e) d ys
 
   -- and the reader accepts none, whatever slice is lent
-  pub none_accepted : (x s : List ℕ) (y : ℕ) (out out' : List ℤ) (r : Refusal) → TableSays f l n (x ++ y ∷ s) out out' (Refused r) → 3 ≤ r.number → Decided x y r.number r.place
-      → (t : List ℕ) (lent left : List ℤ) (k : ℕ) → TableSays f l n (x ++ y ∷ t) lent left (Accepted k) → ⊥
+  pub none_accepted : (x s : List ℕ) (y : ℕ) (out out' : List ℤ) (r : Refusal) → TableSays f l n (x ++ y ∷ s) out out' (Err r) → 3 ≤ r.number → Decided x y r.number r.place
+      → (t : List ℕ) (lent left : List ℤ) (k : ℕ) → TableSays f l n (x ++ y ∷ t) lent left (Ok k) → ⊥
   none_accepted x s y out out' r says from-3 d t lent left k z =
       let h = promise f l n (x ++ y ∷ t) lent left z in none_right x s y out out' r says from-3 d t h.list h.spelled

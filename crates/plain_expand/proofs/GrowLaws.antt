@@ -11,7 +11,6 @@ use Rattle.table_spec.specs.Values.{Value, Form, By, is_dif, after, last_or}
 use Rattle.table_spec.specs.Reading.{Tokens, fault, value}
 use Rattle.table_lines.specs.Seen.{behind, here}
 use Rattle.table_lines.specs.Ends.{Blanked, Ended}
-use Rattle.table_lines.specs.declared.Ending.TheVariants as ending
 use Rattle.table_numbers.specs.Numbers.{Token}
 use Rattle.table_ordinates.proofs.Moves.{copies_length}
 use Rattle.table_value.proofs.Turns.{stored_then}
@@ -21,28 +20,28 @@ use Rattle.plain_law.specs.Within.{beyond}
 use Rattle.plain_law.specs.Growing.{hold, fault_of, Grown, grown_none, grown_then, value_adds, value_over}
 use Rattle.plain_values.specs.Means.{form_of, points_of, Means}
 use Rattle.plain_values.specs.declared.Points.{Points}
-use Rattle.plain_values.specs.declared.Meant.TheVariants as meant
 use Rattle.plain_expand.specs.Grows.{NextSays, Stands, rest_of, ExpandSays}
 use Rattle.plain_expand.specs.declared.Grows.{Grows}
-use Rattle.plain_expand.specs.declared.Next.TheVariants as next
-use Rattle.plain_expand.specs.declared.Expanded.TheVariants as expanded
+use Rattle.std.specs.Prelude.{Some, Ok, Err}
+use Rattle.plain_expand.specs.declared.Next.{Next}
+use Rattle.terms.specs.Refusals.{fault_at}
 
 -- ---- what stands next
 
 module _ (s : List ℕ) (from at q : ℕ) (f : Form) (b : Blanked s from at) where
-  pub next_end : (j : ℕ) → Ended s at (ending.Next j) → NextSays s from q f (next.End j)
+  pub next_end : (j : ℕ) → Ended s at (Some j) → NextSays s from q f (Ok (Next.End j))
   next_end j h = let x = b.low in let y = h.low in (omega arith, h.high, b.within ∙ h.within (behind s at))
 
-  pub next_fault : (c a : ℕ) → here s at ≡ fault c a → NextSays s from q f (next.Bad c a)
+  pub next_fault : (c a : ℕ) → here s at ≡ fault c a → NextSays s from q f (Err (fault_at c a))
   unfolding values
   next_fault c a h = let z = b.within ∙ h in (rw z refl, rw z refl)
 
   module _ {x : Value} {j : ℕ} (t : Token s at x j) where
-    pub next_not : (c : ℕ) → Means q f x (meant.Not c) → NextSays s from q f (next.Bad c at)
+    pub next_not : (c : ℕ) → Means q f x (Err c) → NextSays s from q f (Err (fault_at c at))
     unfolding values
     next_not c h = let z = b.within ∙ t.law in (rw (z, h) refl, rw z refl)
 
-    pub next_gives : (p : Points) → Means q f x (meant.Points p) → NextSays s from q f (next.Gives p at j)
+    pub next_gives : (p : Points) → Means q f x (Ok p) → NextSays s from q f (Ok (Next.Gives p at j))
     next_gives p h = let l = b.low in let g = t.low in (omega arith, t.high, h.0, (x, b.within ∙ t.law, h.1))
 
 -- ---- how a row grows
@@ -67,12 +66,12 @@ last_append p [] vs = refl
 last_append p (u ∷ us) vs = last_append u us vs
 
 module _ (N : ℕ) (s : List ℕ) (c : Grows) (out mid : List ℤ) (r : Grows) (g : Growing N s c out mid r) where
-  module _ (p : Points) (a j : ℕ) (h : NextSays s r.at r.q (form_of r.form) (next.Gives p a j)) where
+  module _ (p : Points) (a j : ℕ) (h : NextSays s r.at r.q (form_of r.form) (Ok (Next.Gives p a j))) where
     counted : length (points_of p) ≡ p.n
     counted = copies_length p.n (By p.minus p.d) p.q
 
     -- 11
-    pub grow_over : N < r.k + p.n → ExpandSays N s c out mid (expanded.Bad 11 a)
+    pub grow_over : N < r.k + p.n → ExpandSays N s c out mid (Err (fault_at 11 a))
     grow_over l =
         let n = counted in
         g.grown.fault
@@ -104,11 +103,11 @@ module _ (N : ℕ) (s : List ℕ) (c : Grows) (out mid : List ℤ) (r : Grows) (
         }
 
   -- the fault of a value, or of what is no value
-  pub grow_bad : (n a : ℕ) → NextSays s r.at r.q (form_of r.form) (next.Bad n a) → ExpandSays N s c out mid (expanded.Bad n a)
+  pub grow_bad : (n a : ℕ) → NextSays s r.at r.q (form_of r.form) (Err (fault_at n a)) → ExpandSays N s c out mid (Err (fault_at n a))
   grow_bad n a h = g.grown.fault ∙ ap (λ (q : Row). fault_of (hold q (N - r.k))) h.0
 
   -- the line's end
-  pub grow_end : (j : ℕ) → NextSays s r.at r.q (form_of r.form) (next.End j) → ExpandSays N s c out mid (expanded.Done r j)
+  pub grow_end : (j : ℕ) → NextSays s r.at r.q (form_of r.form) (Ok (Next.End j)) → ExpandSays N s c out mid (Ok (r, j))
   unfolding values
   grow_end j h =
       let i = g.low in let l = h.0 in

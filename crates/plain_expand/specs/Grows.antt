@@ -1,5 +1,5 @@
 -- What stands next on a line, and how a row grows by it (02, T-14). Assumes nothing.
-use Rattle.std.specs.Prelude.{◌≡◌, false, List, map, ℕ, ◌+◌, ◌-◌, ◌<◌, ◌≤◌, ℤ, length}
+use Rattle.std.specs.Prelude.{◌≡◌, false, List, map, ℕ, ◌+◌, ◌-◌, ◌<◌, ◌≤◌, ℤ, length, Result, Ok, Err}
 use Rattle.std.proofs.lemmas.List.Edits.{sets}
 use Rattle.table_spec.specs.Frame.{entry_for}
 use Rattle.table_spec.specs.Values.{Value, Form, is_dif, after, last_or}
@@ -11,16 +11,14 @@ use Rattle.plain_law.specs.Within.{beyond}
 use Rattle.plain_law.specs.Growing.{hold, fault_of}
 use Rattle.plain_values.specs.Means.{form_of, Right, Fits, Adds}
 use Rattle.plain_expand.specs.declared.Grows.{Grows}
+use Rattle.terms.specs.declared.Fault.{Fault}
 use Rattle.plain_expand.specs.declared.Next.{Next}
-use Rattle.plain_expand.specs.declared.Next.TheVariants as next
-use Rattle.plain_expand.specs.declared.Expanded.{Expanded}
-use Rattle.plain_expand.specs.declared.Expanded.TheVariants as expanded
 
 -- what stands next on a line
-abbrev pub NextSays : List ℕ → ℕ → ℕ → Form → Next → Type 0
-NextSays s at q f (next.End j) = (at ≤ j) × (j ≤ length s) × (here s at ≡ line (seen s j fresh))
-NextSays s at q f (next.Bad c a) = (values (here s at) (after f) q ≡ bad c a) × (bare (here s at) ≡ false)
-NextSays s at q f (next.Gives p a j) = (at < j) × (j ≤ length s) × Fits p × ((x : Value) × (here s at ≡ value a x (here s j)) × Adds q f x p)
+abbrev pub NextSays : List ℕ → ℕ → ℕ → Form → Result Next Fault → Type 0
+NextSays s at q f (Ok (Next.End j)) = (at ≤ j) × (j ≤ length s) × (here s at ≡ line (seen s j fresh))
+NextSays s at q f (Err x) = (values (here s at) (after f) q ≡ bad x.number x.place) × (bare (here s at) ≡ false)
+NextSays s at q f (Ok (Next.Gives p a j)) = (at < j) × (j ≤ length s) × Fits p × ((x : Value) × (here s at ≡ value a x (here s j)) × Adds q f x p)
 
 -- a row that grows, right for the text, with at most N points
 pub record Stands (N : ℕ) (s : List ℕ) (r : Grows) : Type 0 where
@@ -43,10 +41,10 @@ pub record Done (N : ℕ) (s : List ℕ) (c : Grows) (out out' : List ℤ) (r : 
   pub beyond : beyond (here s c.at) ≡ seen s j fresh
   pub laid : out' ≡ sets out c.k (map entry_for (ordinates (rest_of N s c)))
 
-abbrev pub ExpandSays : ℕ → List ℕ → Grows → List ℤ → List ℤ → Expanded → Type 0
-ExpandSays N s c out out' (expanded.Done r j) = (j ≤ length s) × (c.at ≤ j) × Stands N s r × Done N s c out out' r j
-ExpandSays N s c out out' (expanded.Bad n a) = fault_of (rest_of N s c) ≡ wrong n a
+abbrev pub ExpandSays : ℕ → List ℕ → Grows → List ℤ → List ℤ → Result (Grows × ℕ) Fault → Type 0
+ExpandSays N s c out out' (Ok (r, j)) = (j ≤ length s) × (c.at ≤ j) × Stands N s r × Done N s c out out' r j
+ExpandSays N s c out out' (Err x) = fault_of (rest_of N s c) ≡ wrong x.number x.place
 
 -- what expanding the rest of a row ensures
-pub record Expands (N : ℕ) (s : List ℕ) (c : Grows) (out out' : List ℤ) (r : Expanded) : Type 0 where
+pub record Expands (N : ℕ) (s : List ℕ) (c : Grows) (out out' : List ℤ) (r : Result (Grows × ℕ) Fault) : Type 0 where
   pub says : ExpandSays N s c out out' r

@@ -8,18 +8,18 @@ ghost use Rattle.table_spec.specs.Reading.{read_lines, read, stored};
 ghost use Rattle.table_pass.specs.Rows.{frame_rules, PassSays};
 ghost use Rattle.table_read.specs.Answers.{told_first, Accepts, TableSays};
 
-use frame::{Frame, Framed};
+use frame::Frame;
 use plain_rows::plain_line;
 use table_lengths::long_line;
 use table_lines::{Start, row_start};
-use table_pass::{Passed, finish};
-use table_read::{Checked, sooner};
-use table_values::{LineRead, Row};
-use terms::{Fault, TableRead};
+use table_pass::finish;
+use table_read::sooner;
+use table_values::Row;
+use terms::{Fault, Reason, Refusal};
 use text::refusal_in;
 
 // The rows of a body, one after another: 3, what each row says, and at the end 12 or 13. Each is laid as far as there is room.
-fn rows(s: &[u8], fr: Frame, out: &mut [i32]) -> Passed
+fn rows(s: &[u8], fr: Frame, out: &mut [i32]) -> Result<(), Fault>
     requires { Sound fr }
     ensures { PassSays (frame_rules fr) s.now out.old out.new result }
 {
@@ -36,13 +36,13 @@ fn rows(s: &[u8], fr: Frame, out: &mut [i32]) -> Passed
                 return finish(fr.points, s.len(), r.k, r.dif);
             }
             Start::Bad(j) => {
-                return Passed::Refused(3, j);
+                return Err(Fault::new(Reason::StrayByte, j));
             }
             Start::Head(j, e) => match plain_line(s, fr, out, r, j, e) {
-                LineRead::Refused(n, p) => {
-                    return Passed::Refused(n, p);
+                Err(fault) => {
+                    return Err(Fault::new(n, p));
                 }
-                LineRead::Next(next) => {
+                Ok(next) => {
                     r = next;
                 }
             },
@@ -51,19 +51,19 @@ fn rows(s: &[u8], fr: Frame, out: &mut [i32]) -> Passed
 }
 
 // The rows are checked: nothing lent is written to, since the only room is one ordinate of our own.
-fn check_rows(body: &[u8], fr: Frame) -> Checked
+fn check_rows(body: &[u8], fr: Frame) -> Result<i32, Fault>
     requires { Sound fr }
     ensures { result ≡ told_first (read_lines (frame_rules fr) body.now) }
 {
     let mut one = [0i32; 1];
     match rows(body, fr, &mut one) {
-        Passed::Refused(n, p) => Checked::Refused(Fault::new(n, p)),
-        Passed::All => Checked::First(one[0]),
+        Err(fault) => Err(Fault::new(n, p)),
+        Ok(()) => Ok(one[0]),
     }
 }
 
 // A line over 80 bytes is refused before it is expanded (02, T-06): 16, unless a fault stands before that line.
-fn check_body(body: &[u8], fr: Frame) -> Checked
+fn check_body(body: &[u8], fr: Frame) -> Result<i32, Fault>
     requires { Sound fr }
     ensures { result ≡ told_first (read (frame_rules fr) body.now) }
 {
@@ -81,23 +81,23 @@ fn lay_rows(body: &[u8], fr: Frame, out: &mut [i32])
 }
 
 // Reads a table in the plain way: any F, L and N, any body, any slice. The same answer, and the same entries of the slice, as `table_read::read_table` gives: `engines_agree`.
-pub fn read_plain(first: i64, last: i64, points: usize, body: &[u8], out: &mut [i32]) -> TableRead
+pub fn read_plain(first: i64, last: i64, points: usize, body: &[u8], out: &mut [i32]) -> Result<usize, Refusal>
     ensures { TableSays first last points body.now out.old out.new result }
 {
     if body.len() > Frame::LONGEST_BODY {
-        return TableRead::Refused(refusal_in(body, 1, 0));
+        return Err(refusal_in(body, 1, 0));
     }
     match Frame::new(first, last, points) {
-        Framed::Outside => TableRead::Refused(refusal_in(body, 1, 0)),
-        Framed::Legal(fr) => {
+        None => Err(refusal_in(body, 1, 0)),
+        Some(fr) => {
             if out.len() < points {
-                return TableRead::Refused(refusal_in(body, 2, 0));
+                return Err(refusal_in(body, 2, 0));
             }
             match check_body(body, fr) {
-                Checked::Refused(f) => TableRead::Refused(refusal_in(body, f.number, f.place)),
-                Checked::First(_) => {
+                Err(f) => Err(refusal_in(body, f.number, f.place)),
+                Ok(_) => {
                     lay_rows(body, fr, out);
-                    TableRead::Accepted(points)
+                    Ok(points)
                 }
             }
         }

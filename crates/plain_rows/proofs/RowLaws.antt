@@ -31,9 +31,10 @@ use Rattle.plain_values.specs.declared.Form.{Form as Kept}
 use Rattle.plain_values.specs.declared.Form.TheVariants as form
 use Rattle.plain_values.specs.declared.Points.{Points}
 use Rattle.plain_expand.specs.declared.Grows.{Grows}
-use Rattle.plain_expand.specs.declared.Next.TheVariants as next
-use Rattle.plain_expand.specs.declared.Expanded.{Expanded}
-use Rattle.plain_expand.specs.declared.Expanded.TheVariants as expanded
+use Rattle.std.specs.Prelude.{Result, Ok, Err}
+use Rattle.terms.specs.declared.Fault.{Fault}
+use Rattle.plain_expand.specs.declared.Next.{Next}
+use Rattle.terms.specs.Refusals.{fault_at}
 
 here_within : (s : List ℕ) (b : ℕ) → Within (here s b)
 unfolding seen
@@ -71,15 +72,15 @@ module _ (fr : Frame) (s : List ℕ) (r : Row) (at : ℕ) {h u j : ℕ} (t : Top
       (λ _ e p w b. told (refuse n a) p w b (g p w b) ∙ rw e refl) (λ _ e p w b. told (refuse n a) p w b (g p w b) ∙ rw e refl) refl)
 
   -- 7
-  pub bare_line : {i : ℕ} → NextSays s j 0 (Dup false) (next.End i) → (pb : Bool) → pb ≡ ok → (out out' : List ℤ) → LineSays (frame_rules fr) s r at out out' (after_head pb at 7 at)
+  pub bare_line : {i : ℕ} → NextSays s j 0 (Dup false) (Ok (Next.End i)) → (pb : Bool) → pb ≡ ok → (out out' : List ℤ) → LineSays (frame_rules fr) s r at out out' (after_head pb at 7 at)
   bare_line {i} g = refused_line 7 at (λ p w b. rw g.2 (row_bare (frame_rules fr) at h u r.k p w few (seen s i fresh)))
 
   -- the fault of the first value
-  pub bad_line : {n a : ℕ} → NextSays s j 0 (Dup false) (next.Bad n a) → (pb : Bool) → pb ≡ ok → (out out' : List ℤ) → LineSays (frame_rules fr) s r at out out' (after_head pb at n a)
+  pub bad_line : {n a : ℕ} → NextSays s j 0 (Dup false) (Err (fault_at n a)) → (pb : Bool) → pb ≡ ok → (out out' : List ℤ) → LineSays (frame_rules fr) s r at out out' (after_head pb at n a)
   bad_line {n} {a} g =
       refused_line n a (λ p w b. row_says (frame_rules fr) at h u (here s j) (here_within s j) r.k p w few ∙ rw (g.1, values_first (here s j), g.0) refl)
 
-  module _ {p₀ : Points} {a b : ℕ} (g : NextSays s j 0 (Dup false) (next.Gives p₀ a b)) where
+  module _ {p₀ : Points} {a b : ℕ} (g : NextSays s j 0 (Dup false) (Ok (Next.Gives p₀ a b))) where
     -- the form of the first value
     abbrev f₀ : Form
     f₀ = form_of p₀.form
@@ -95,7 +96,7 @@ module _ (fr : Frame) (s : List ℕ) (r : Row) (at : ℕ) {h u j : ℕ} (t : Top
     further k p = after_row (frame_rules fr) (beyond_line (frame_rules fr) (here s b)) (rest_of fr.points s (start k)) k p
 
     -- the rest of the row, as it was expanded
-    further_bad : (k p n c : ℕ) (out out' : List ℤ) → ExpandSays fr.points s (start k) out out' (expanded.Bad n c) → further k p ≡ refuse n c
+    further_bad : (k p n c : ℕ) (out out' : List ℤ) → ExpandSays fr.points s (start k) out out' (Err (fault_at n c)) → further k p ≡ refuse n c
     further_bad k p n c out out' e = rw e refl
 
     further_done : (k i : ℕ) (c : Grows) {out out' : List ℤ} → Done fr.points s (start k) out out' c i
@@ -124,12 +125,12 @@ module _ (fr : Frame) (s : List ℕ) (r : Row) (at : ℕ) {h u j : ℕ} (t : Top
           let l : 0 < p₀.last = rw o z.1 in
           subst (λ (i : ℕ). Says p w (further r.k i)) e (rw (lt-ltb 0 p₀.last l, eq-eqb p₀.last p (sym e)) at (checked_says p w y))
 
-      pub equal_line : p₀.last ≡ r.q → (rest : Expanded) (out out' : List ℤ) → Expands fr.points s (start r.k) out out' rest → (pb : Bool) → pb ≡ ok
+      pub equal_line : p₀.last ≡ r.q → (rest : Result (Grows × ℕ) Fault) (out out' : List ℤ) → Expands fr.points s (start r.k) out out' rest → (pb : Bool) → pb ≡ ok
           → LineSays (frame_rules fr) s r at out out' (after_rest pb at rest)
-      equal_line o (expanded.Bad n c) out out' x pb z =
-          refused_line n c (λ p w y. subst (λ (i : Answer). Says p w i) (further_bad r.k p₀.last n c out out' x.says) (equal_says o p w y)) pb z out out'
-      equal_line o (expanded.Done c i) out out' x pb z =
-          rw z (by_case (λ y. ok ≡ y → LineSays (frame_rules fr) s r at out out' (after_rest y at (expanded.Done c i))) ok
+      equal_line o (Err t) out out' x pb z =
+          refused_line t.number t.place (λ p w y. subst (λ (i : Answer). Says p w i) (further_bad r.k p₀.last t.number t.place out out' x.says) (equal_says o p w y)) pb z out out'
+      equal_line o (Ok (c, i)) out out' x pb z =
+          rw z (by_case (λ y. ok ≡ y → LineSays (frame_rules fr) s r at out out' (after_rest y at (Ok (c, i)))) ok
           (λ _ e. let l = t.low in let m = g.0 in let n = x.says.1 in let v = x.says.3 in (
             omega arith,
             record { high = x.says.0; small = x.says.2.small; few = x.says.2.few },
@@ -159,13 +160,13 @@ module _ (fr : Frame) (s : List ℕ) (r : Row) (at : ℕ) {h u j : ℕ} (t : Top
       more_says : r.k < fr.points → (p : ℕ) (w : Spot) → Between r p w → Says p w (push (p₀.last ∷ []) (further (r.k + 1) p₀.last))
       more_says l p w y = rw (lt-ltb r.k fr.points l) at (opened_says p w y)
 
-      pub more_line : r.k < fr.points → (rest : Expanded) (out mid out' : List ℤ) → mid ≡ set out r.k (entry_for p₀.last) → Expands fr.points s (start (r.k + 1)) mid out' rest
+      pub more_line : r.k < fr.points → (rest : Result (Grows × ℕ) Fault) (out mid out' : List ℤ) → mid ≡ set out r.k (entry_for p₀.last) → Expands fr.points s (start (r.k + 1)) mid out' rest
           → (pb : Bool) → pb ≡ ok → LineSays (frame_rules fr) s r at out out' (after_rest pb at rest)
       unfolding push
-      more_line l (expanded.Bad n c) out mid out' q x pb z =
-          refused_line n c (λ p w y. subst (λ (i : Answer). Says p w (push (p₀.last ∷ []) i)) (further_bad (r.k + 1) p₀.last n c mid out' x.says) (more_says l p w y)) pb z out out'
-      more_line l (expanded.Done c i) out mid out' q x pb z =
-          rw z (by_case (λ y. ok ≡ y → LineSays (frame_rules fr) s r at out out' (after_rest y at (expanded.Done c i))) ok
+      more_line l (Err t) out mid out' q x pb z =
+          refused_line t.number t.place (λ p w y. subst (λ (i : Answer). Says p w (push (p₀.last ∷ []) i)) (further_bad (r.k + 1) p₀.last t.number t.place mid out' x.says) (more_says l p w y)) pb z out out'
+      more_line l (Ok (c, i)) out mid out' q x pb z =
+          rw z (by_case (λ y. ok ≡ y → LineSays (frame_rules fr) s r at out out' (after_rest y at (Ok (c, i)))) ok
           (λ _ e. let lo = t.low in let m = g.0 in let n = x.says.1 in let v = x.says.3 in let count = v.count in
           let us = ordinates (rest_of fr.points s (start (r.k + 1))) in (
             omega arith,

@@ -1,31 +1,28 @@
 -- What a line did, by the check of its head and the rest of its row, and what the code keeps of its front (02, T-14). Assumes nothing.
-use Rattle.std.specs.Prelude.{◌≡◌, Bool, false, List, ℕ}
+use Rattle.std.specs.Prelude.{◌≡◌, Bool, false, List, ℕ, Result, Ok, Err}
 use Rattle.terms.specs.Logic.{pick}
 use Rattle.table_spec.specs.Frame.{passes}
 use Rattle.table_spec.specs.Values.{Dup, is_dif, index}
 use Rattle.table_lines.specs.Heads.{Topped}
 use Rattle.frame.specs.declared.Frame.{Frame}
-use Rattle.table_values.specs.declared.Row.{Row as Between}
-use Rattle.table_values.specs.declared.LineRead.{LineRead}
-use Rattle.table_values.specs.declared.LineRead.TheVariants as linewise
+use Rattle.table_values.specs.declared.Row.{Row as Between, Row}
 use Rattle.plain_spec.specs.Rows.{values}
 use Rattle.plain_values.specs.Means.{form_of}
 use Rattle.plain_rows.specs.declared.Front.{Front}
 use Rattle.plain_expand.specs.declared.Grows.{Grows}
-use Rattle.plain_expand.specs.declared.Next.{Next}
-use Rattle.plain_expand.specs.declared.Next.TheVariants as next
-use Rattle.plain_expand.specs.declared.Expanded.{Expanded}
-use Rattle.plain_expand.specs.declared.Expanded.TheVariants as expanded
 use Rattle.plain_expand.specs.Grows.{NextSays}
+use Rattle.terms.specs.declared.Fault.{Fault}
+use Rattle.plain_expand.specs.declared.Next.{Next}
+use Rattle.terms.specs.Refusals.{fault_at}
 
 -- a line's refusal, after the check of its head
-abbrev pub after_head : Bool → ℕ → ℕ → ℕ → LineRead
-after_head passes at n a = pick passes (linewise.Refused n a) (linewise.Refused 6 at)
+abbrev pub after_head : Bool → ℕ → ℕ → ℕ → Result Row Fault
+after_head passes at n a = pick passes (Err (fault_at n a)) (Err (fault_at 6 at))
 
 -- what a line did
-abbrev pub after_rest : Bool → ℕ → Expanded → LineRead
-after_rest passes at (expanded.Bad n a) = after_head passes at n a
-after_rest passes at (expanded.Done g j) = pick passes (linewise.Next (record { at = j; k = g.k; q = g.q; dif = is_dif (form_of g.form) })) (linewise.Refused 6 at)
+abbrev pub after_rest : Bool → ℕ → Result (Grows × ℕ) Fault → Result Row Fault
+after_rest passes at (Err x) = after_head passes at x.number x.place
+after_rest passes at (Ok (g, j)) = pick passes (Ok (record { at = j; k = g.k; q = g.q; dif = is_dif (form_of g.form) })) (Err (fault_at 6 at))
 
 -- a row from its first ordinate on, which is the k-th point
 abbrev pub start_of : Front → ℕ → Grows
@@ -38,4 +35,4 @@ pub record Fronts (fr : Frame) (s : List ℕ) (r : Between) (f : Front) : Type 0
   pub values : ℕ
   pub head : Topped s f.at abscissa unit values
   pub passing : f.passes ≡ passes fr.first fr.last fr.points abscissa unit (index r.dif r.k)
-  pub first : NextSays s values 0 (Dup false) (next.Gives f.p f.a f.b)
+  pub first : NextSays s values 0 (Dup false) (Ok (Next.Gives f.p f.a f.b))

@@ -9,12 +9,13 @@ ghost use Rattle.table_pass.specs.Rows.{frame_rules, Rests, LineSays};
 ghost use Rattle.plain_rows.specs.Rows.{after_head, after_rest, start_of, Fronts};
 
 use frame::Frame;
-use plain_expand::{Expanded, Grows, Next, expand, next_value};
+use plain_expand::{Grows, Next, expand, next_value};
 use plain_values::{Form, Points, is_dif};
-use table_lines::{HeadRead, head};
+use table_lines::{Head, head};
 use table_ordinates::put;
 use table_pass::index_of;
-use table_values::{LineRead, Row};
+use table_values::Row;
+use terms::{Fault, Reason};
 
 // The front of a row: the place of its head, and whether the head passes; what its first value stands for, its place and the place after it.
 #[derive(Clone, Copy)]
@@ -29,27 +30,27 @@ pub struct Front {
 // ---- 1. its row is checked
 
 // A fault of a row, if its head passes: else 6, at the head.
-fn refused(passes: bool, at: usize, n: u64, a: usize) -> LineRead
+fn refused(passes: bool, at: usize, n: u64, a: usize) -> Result<Row, Fault>
     ensures { result ≡ after_head passes at n a }
 {
     if passes {
-        return LineRead::Refused(n, a);
+        return Err(Fault::new(n, a));
     }
-    LineRead::Refused(6, at)
+    Err(Fault::new(Reason::WrongHead, at))
 }
 
 // What a line did, by the check of its head and the rest of its row.
-fn checked(passes: bool, at: usize, rest: Expanded) -> LineRead
+fn checked(passes: bool, at: usize, rest: Result<(Grows, usize), Fault>) -> Result<Row, Fault>
     ensures { result ≡ after_rest passes at rest }
 {
     match rest {
-        Expanded::Bad(n, a) => refused(passes, at, n, a),
-        Expanded::Done(g, next) => {
+        Err(fault) => refused(passes, at, n, a),
+        Ok((g, next)) => {
             if !passes {
-                return LineRead::Refused(6, at);
+                return Err(Fault::new(Reason::WrongHead, at));
             }
             let form = g.form;
-            LineRead::Next(Row {
+            Ok(Row {
                 at: next,
                 k: g.k,
                 q: g.q,
@@ -76,7 +77,7 @@ fn row_from(f: Front, k: usize) -> Grows
 }
 
 // A check line (01, "Checks"): its first ordinate must equal the last point, or 10; it is no point itself, so it is not laid.
-fn check_row(s: &[u8], fr: Frame, out: &mut [i32], r: Row, f: Front) -> LineRead
+fn check_row(s: &[u8], fr: Frame, out: &mut [i32], r: Row, f: Front) -> Result<Row, Fault>
     requires { Sound fr × Rests fr.points s.now r × Fronts fr s.now r f × (r.dif ≡ true) }
     ensures { LineSays (frame_rules fr) s.now r f.at out.old out.new result }
 {
@@ -89,7 +90,7 @@ fn check_row(s: &[u8], fr: Frame, out: &mut [i32], r: Row, f: Front) -> LineRead
 }
 
 // Another line: its first ordinate is a point too, or 11.
-fn new_row(s: &[u8], fr: Frame, out: &mut [i32], r: Row, f: Front) -> LineRead
+fn new_row(s: &[u8], fr: Frame, out: &mut [i32], r: Row, f: Front) -> Result<Row, Fault>
     requires { Sound fr × Rests fr.points s.now r × Fronts fr s.now r f × (r.dif ≡ false) }
     ensures { LineSays (frame_rules fr) s.now r f.at out.old out.new result }
 {
@@ -106,20 +107,20 @@ fn new_row(s: &[u8], fr: Frame, out: &mut [i32], r: Row, f: Front) -> LineRead
 
 // A line whose head stands at a place with the entry e: 4; then it is expanded to its row, and the row is checked: 6, 7, 10, 11 and its own faults. By itself a line begins as after a DUP that is not
 // DIF: neither a difference nor a DUP can stand first.
-pub fn plain_line(s: &[u8], fr: Frame, out: &mut [i32], r: Row, at: usize, e: u64) -> LineRead
+pub fn plain_line(s: &[u8], fr: Frame, out: &mut [i32], r: Row, at: usize, e: u64) -> Result<Row, Fault>
     requires { Sound fr × Rests fr.points s.now r × LineOpens s.now at e }
     ensures { LineSays (frame_rules fr) s.now r at out.old out.new result }
 {
     let dif = r.dif;
     let k = r.k;
     match head(s, at, e) {
-        HeadRead::NoHead => LineRead::Refused(4, at),
-        HeadRead::Abscissa(h, unit, j) => {
+        None => Err(Fault::new(Reason::NoHead, at)),
+        Some(Head { abscissa: h, unit, at: j }) => {
             let passes = fr.passes(h, unit, index_of(dif, k));
             match next_value(s, j, 0, Form::Dup(false)) {
-                Next::End(_) => refused(passes, at, 7, at),
-                Next::Bad(c, a) => refused(passes, at, c, a),
-                Next::Gives(p, a, b) => {
+                Ok(Next::End(_)) => refused(passes, at, 7, at),
+                Err(fault) => refused(passes, at, c, a),
+                Ok(Next::Gives(p, a, b)) => {
                     let f = Front {
                         at,
                         passes,

@@ -15,23 +15,24 @@ use Rattle.table_value.specs.States.{own as codes-own, gap as codes-gap, going}
 use Rattle.table_value.proofs.Meanings.{dup_same, Repeats, dup_out, dup_steps}
 use Rattle.plain_values.specs.Means.{Means, After, Anywhere, missing_one, same_again}
 use Rattle.plain_values.specs.declared.Form.TheVariants as form
-use Rattle.plain_values.specs.declared.Meant.TheVariants as meant
+use Rattle.std.specs.Prelude.{Ok, Err}
+use Rattle.terms.specs.declared.Reason.{Reason}
 
 -- ---- what a value stands for
 
-pub own_not : (m : Bool) (v : ℕ) → 2147483647 < v → Anywhere (own m v) (meant.Not 9)
+pub own_not : (m : Bool) (v : ℕ) → 2147483647 < v → Anywhere (own m v) (Err Reason.OutOfRange)
 unfolding says
 own_not m v l q f = rw (lt-leb v 2147483647 l) refl
 
 pub own_is : (m : Bool) (v u : ℕ) → v ≤ 2147483647 → u ≡ moved m v 2147483648
-    → Anywhere (own m v) (meant.Points (record { q = 2147483648; minus = m; d = v; n = 1; last = u; form = form.Own }))
+    → Anywhere (own m v) (Ok (record { q = 2147483648; minus = m; d = v; n = 1; last = u; form = form.Own }))
 unfolding says
 own_is m v u l e q f = (
   record { some = omega arith; few = omega arith; small = omega arith; end = rw e (own_small m v l); reach = own_reach m v l; right = tt },
   record { is = rw (le-leb v 2147483647 l) refl; last = sym e },
 )
 
-pub gap_is : (q : ℕ) → After q gap (meant.Points missing_one)
+pub gap_is : (q : ℕ) → After q gap (Ok missing_one)
 unfolding says
 gap_is q f = (
   record { some = omega arith; few = omega arith; small = omega arith; end = omega arith; reach = omega arith; right = tt },
@@ -39,16 +40,16 @@ gap_is q f = (
 )
 
 module _ (q : ℕ) (m : Bool) (v : ℕ) where
-  pub dif_8 : q ≡ 0 → After q (by m v) (meant.Not 8)
+  pub dif_8 : q ≡ 0 → After q (by m v) (Err Reason.Misplaced)
   unfolding says
   dif_8 z f = rw (eq-eqb q 0 z) refl
 
-  pub dif_9 : (q ≡ 0 → ⊥) → shifted_to m v q ≡ 0 → After q (by m v) (meant.Not 9)
+  pub dif_9 : (q ≡ 0 → ⊥) → shifted_to m v q ≡ 0 → After q (by m v) (Err Reason.OutOfRange)
   unfolding says
   dif_9 z o f = rw (ne_eqb q 0 z, shift_none m v q o) refl
 
   pub dif_is : (u : ℕ) → q < 4294967296 → v < 10000000000 → (q ≡ 0 → ⊥) → u ≡ shifted_to m v q → (u ≡ 0 → ⊥)
-      → After q (by m v) (meant.Points (record { q = q; minus = m; d = v; n = 1; last = u; form = form.Dif m v }))
+      → After q (by m v) (Ok (record { q = q; minus = m; d = v; n = 1; last = u; form = form.Dif m v }))
   unfolding says
   dif_is u hq hv z g o f =
       let x = shift_some m v q u g o in let y : v * 1 ≡ v = mul-one v in (
@@ -56,11 +57,11 @@ module _ (q : ℕ) (m : Bool) (v : ℕ) where
         record { is = rw (ne_eqb q 0 z, x.inside) refl; last = sym x.is },
       )
 
-pub dup_few : (q : ℕ) (f : Form) (v : ℕ) → v < 2 → Means q f (times v) (meant.Not 8)
+pub dup_few : (q : ℕ) (f : Form) (v : ℕ) → v < 2 → Means q f (times v) (Err Reason.Misplaced)
 unfolding says
 dup_few q f v l = rw (lt-ltb v 2 l) refl
 
-pub dup_dup : (q : ℕ) (b : Bool) (v : ℕ) → Means q (Dup b) (times v) (meant.Not 8)
+pub dup_dup : (q : ℕ) (b : Bool) (v : ℕ) → Means q (Dup b) (times v) (Err Reason.Misplaced)
 unfolding says again
 dup_dup q b v = by_case (λ t. pick t (refuses 8) (refuses 8) ≡ refuses 8) (ltb v 2) (λ _. refl) (λ _. refl)
 
@@ -81,10 +82,10 @@ module _ (q n : ℕ) (hq : q < 4294967296) (l : 1 ≤ n) (b : n < 100000) where
     steps : Repeats m d n q (after (By m d)) q
     steps = record { spot = refl; before = refl; some = o }
 
-    pub step_9 : shifted_to m (d * n) q ≡ 0 → Means q (By m d) (times (n + 1)) (meant.Not 9)
+    pub step_9 : shifted_to m (d * n) q ≡ 0 → Means q (By m d) (times (n + 1)) (Err Reason.OutOfRange)
     step_9 z = dup_out n l hq steps z
 
-    pub step_is : (u : ℕ) → u ≡ shifted_to m (d * n) q → (u ≡ 0 → ⊥) → Means q (By m d) (times (n + 1)) (meant.Points (record { q = q; minus = m; d = d; n = n; last = u; form = form.Dup true }))
+    pub step_is : (u : ℕ) → u ≡ shifted_to m (d * n) q → (u ≡ 0 → ⊥) → Means q (By m d) (times (n + 1)) (Ok (record { q = q; minus = m; d = d; n = n; last = u; form = form.Dup true }))
     step_is u g z =
         let x = shift_some m (d * n) q u g z in (
           record { some = l; few = b; small = hq; end = x.high; reach = reaches m d n q x.inside; right = λ _. x.low },

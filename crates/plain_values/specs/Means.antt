@@ -1,13 +1,13 @@
 -- What a value stands for, as the plain engine keeps it: so many steps of a difference from an ordinate (01, "Meaning"). Assumes nothing.
-use Rattle.std.specs.Prelude.{◌≡◌, true, false, List, ℕ, ◌<◌, ◌≤◌}
+use Rattle.std.specs.Prelude.{◌≡◌, true, false, List, ℕ, ◌<◌, ◌≤◌, Result, Ok, Err}
 use Rattle.table_spec.specs.Values.{Value, Form, Own, Gap, By, Dup, after, copies, last_or}
 use Rattle.table_spec.specs.Reading.{adds, refuses, says}
 use Rattle.table_ordinates.specs.Reach.{Reaches}
 use Rattle.plain_values.specs.declared.Form.{Form as Kept}
 use Rattle.plain_values.specs.declared.Form.TheVariants as form
 use Rattle.plain_values.specs.declared.Points.{Points}
-use Rattle.plain_values.specs.declared.Meant.{Meant}
-use Rattle.plain_values.specs.declared.Meant.TheVariants as meant
+use Rattle.terms.specs.declared.Reason.{Reason}
+use Rattle.terms.specs.Refusals.{reason_number}
 
 -- the form that the code keeps
 abbrev pub form_of : Kept → Form
@@ -41,15 +41,15 @@ pub record Adds (q : ℕ) (f : Form) (x : Value) (p : Points) : Type 0 where
   pub is : says (after f) q x ≡ adds (points_of p) (form_of p.form)
   pub last : last_or q (points_of p) ≡ p.last
 
-abbrev pub Means : ℕ → Form → Value → Meant → Type 0
-Means q f x (meant.Points p) = Fits p × Adds q f x p
-Means q f x (meant.Not c) = says (after f) q x ≡ refuses c
+abbrev pub Means : ℕ → Form → Value → Result Points Reason → Type 0
+Means q f x (Ok p) = Fits p × Adds q f x p
+Means q f x (Err y) = says (after f) q x ≡ refuses (reason_number y)
 
 -- whatever the form before it, and whatever stands before it
-abbrev pub After : ℕ → Value → Meant → Type 0
+abbrev pub After : ℕ → Value → Result Points Reason → Type 0
 After q x r = (f : Form) → Means q f x r
 
-abbrev pub Anywhere : Value → Meant → Type 0
+abbrev pub Anywhere : Value → Result Points Reason → Type 0
 Anywhere x r = (q : ℕ) → After q x r
 
 -- a missing ordinate
@@ -57,5 +57,5 @@ abbrev pub missing_one : Points
 missing_one = record { q = 0; minus = false; d = 0; n = 1; last = 0; form = form.Missing }
 
 -- n further copies of the ordinate q
-abbrev pub same_again : ℕ → ℕ → Meant
-same_again q n = meant.Points (record { q = q; minus = false; d = 0; n = n; last = q; form = form.Dup false })
+abbrev pub same_again : ℕ → ℕ → Result Points Reason
+same_again q n = Ok (record { q = q; minus = false; d = 0; n = n; last = q; form = form.Dup false })

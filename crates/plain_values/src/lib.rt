@@ -9,6 +9,7 @@ ghost use Rattle.plain_values.specs.Means.{form_of, Right, Means, After, Anywher
 use alphabet::{DIF, DIF_MINUS, KIND};
 use signed::ZERO_ORDINATE;
 use table_ordinates::{moved_by, shifted};
+use terms::Reason;
 
 // The form of the value before (01, "A DUP has the form of what it repeats"): an ordinate of its own; a missing one; a difference, minus or not, and its size; or a DUP, of a difference or not.
 #[derive(Clone, Copy)]
@@ -28,13 +29,6 @@ pub struct Points {
     pub n: usize,
     pub last: u64,
     pub form: Form,
-}
-
-// What a value stands for, or a refusal number.
-#[derive(Drop)]
-pub enum Meant {
-    Points(Points),
-    Not(u64),
 }
 
 // Is a form DIF?
@@ -64,14 +58,14 @@ pub fn missing_point() -> Points
 }
 
 // An ordinate of its own: one step of its size from 0.
-fn own_points(minus: bool, v: u64) -> Meant
+fn own_points(minus: bool, v: u64) -> Result<Points, Reason>
     ensures { Anywhere (own minus v) result }
 {
     if v > 2147483647 {
-        return Meant::Not(9);
+        return Err(Reason::OutOfRange);
     }
     let last = moved_by(ZERO_ORDINATE, minus, v);
-    Meant::Points(Points {
+    Ok(Points {
         q: ZERO_ORDINATE,
         minus,
         d: v,
@@ -82,18 +76,18 @@ fn own_points(minus: bool, v: u64) -> Meant
 }
 
 // A difference after the ordinate q: none after a missing one.
-fn dif_points(q: u64, minus: bool, v: u64) -> Meant
+fn dif_points(q: u64, minus: bool, v: u64) -> Result<Points, Reason>
     requires { (q < 4294967296) × (v < 10000000000) }
     ensures { After q (by minus v) result }
 {
     if q == 0 {
-        return Meant::Not(8);
+        return Err(Reason::Misplaced);
     }
     let last = shifted(q, minus, v);
     if last == 0 {
-        return Meant::Not(9);
+        return Err(Reason::OutOfRange);
     }
-    Meant::Points(Points {
+    Ok(Points {
         q,
         minus,
         d: v,
@@ -104,10 +98,10 @@ fn dif_points(q: u64, minus: bool, v: u64) -> Meant
 }
 
 // The ordinate q again, n times.
-fn same_points(q: u64, n: usize) -> Meant
+fn same_points(q: u64, n: usize) -> Result<Points, Reason>
     ensures { result ≡ same_again q n }
 {
-    Meant::Points(Points {
+    Ok(Points {
         q,
         minus: false,
         d: 0,
@@ -118,16 +112,16 @@ fn same_points(q: u64, n: usize) -> Meant
 }
 
 // n further steps of a difference from the ordinate q: the difference is repeated, not the ordinate. All of them are in range if the last one is.
-fn step_points(q: u64, minus: bool, d: u64, n: usize) -> Meant
+fn step_points(q: u64, minus: bool, d: u64, n: usize) -> Result<Points, Reason>
     requires { (0 < q) × (q < 4294967296) × (d < 10000000000) × (1 ≤ n) × (n < 100000) }
     ensures { Means q (By minus d) (times (n + 1)) result }
 {
     let far = d * n as u64;
     let last = shifted(q, minus, far);
     if last == 0 {
-        return Meant::Not(9);
+        return Err(Reason::OutOfRange);
     }
-    Meant::Points(Points {
+    Ok(Points {
         q,
         minus,
         d,
@@ -138,24 +132,24 @@ fn step_points(q: u64, minus: bool, d: u64, n: usize) -> Meant
 }
 
 // A DUP with the count v, after a value of the form whose ordinate is q (01, "c is at least 2"; "DUP does not follow DUP").
-fn dup_points(q: u64, form: Form, v: u64) -> Meant
+fn dup_points(q: u64, form: Form, v: u64) -> Result<Points, Reason>
     requires { (q < 4294967296) × Right form q × (v < 100000) }
     ensures { Means q (form_of form) (times v) result }
 {
     if v < 2 {
-        return Meant::Not(8);
+        return Err(Reason::Misplaced);
     }
     let n = (v - 1) as usize;
     match form {
         Form::Own => same_points(q, n),
         Form::Missing => same_points(q, n),
         Form::Dif(minus, d) => step_points(q, minus, d, n),
-        Form::Dup(_) => Meant::Not(8),
+        Form::Dup(_) => Err(Reason::Misplaced),
     }
 }
 
 // The value whose first byte has the entry e and whose number is v, after a value of the form whose ordinate is q.
-pub fn stands_for(q: u64, form: Form, e: u64, v: u64) -> Meant
+pub fn stands_for(q: u64, form: Form, e: u64, v: u64) -> Result<Points, Reason>
     requires { (q < 4294967296) × Right form q × (e < 160) × (e < 96 ⊎ 128 ≤ e) × (v < below e) }
     ensures { Means q (form_of form) (value_at e v) result }
 {

@@ -5,22 +5,22 @@ ghost use Rattle.std.specs.Prelude.{◌≡◌, length};
 ghost use Rattle.profile_check.specs.Post.{Checks};
 
 use file_check::check_part;
-use file_tabled::Tabled;
-use label_spec::Labelled;
-use profile_judged::{Checked, check_records};
+use profile_judged::{PageFault, check_records};
+use label_spec::Places;
+use file_tabled::TablePlace;
 
 // What a profile says, with room for so many ordinates: all that the plain reader refuses, then 30 and 31. The numbers that show its fifteen texts are left in `places`.
-pub fn check_profile(file: &[u8], page: &[u8], room: usize, places: &mut [u64]) -> Checked
+pub fn check_profile(file: &[u8], page: &[u8], room: usize, places: &mut [u64]) -> Result<TablePlace, PageFault>
     requires { length places.old ≡ 45 }
     ensures { Checks file.now page.now room places.new result }
 {
     match label_walk::labels(file) {
-        Labelled::Refused(fault) => Checked::Refused { page: false, fault },
-        Labelled::Places { title: _, eq, end } => {
+        Err(fault) => Err(PageFault { page: false, fault }),
+        Ok(Places { title: _, eq, end }) => {
             let start = eq + 1;
             match check_part(file, room, start, end) {
-                Tabled::Refused(fault) => Checked::Refused { page: false, fault },
-                Tabled::At(k) => check_records(file, start, end, page, places, k),
+                Err(fault) => Err(PageFault { page: false, fault }),
+                Ok(k) => check_records(file, start, end, page, places, k),
             }
         }
     }

@@ -7,27 +7,28 @@ use native.Mathlib.Omega.{arith}
 use lib.ListN.{length}
 use Rattle.label_spec.specs.Labels.{from}
 use Rattle.label_spec.specs.Records.{record_of}
-use Rattle.label_spec.specs.declared.Found.{Found}
 use Rattle.label.specs.Answers.{found_in}
 use Rattle.label_page.specs.Post.{FindsFrom}
-use Rattle.profile_spec.specs.declared.Located.{Located}
 use Rattle.profile_spec.specs.Profile.{on_page, placed, located}
 use Rattle.profile_find.specs.Post.{Locates}
+use Rattle.std.specs.Prelude.{Option, Some, None}
+use Rattle.label_spec.specs.declared.Span.{Span}
+use Rattle.label_spec.specs.Parts.{span_of}
 
 -- ---- `find_named`
 
 module _ (s : List ℕ) (start stop : ℕ) (p w : List ℕ) where
-  abbrev InFile : Found → Type 0
+  abbrev InFile : Option Span → Type 0
   InFile r = (r ≡ record_of (length s) stop w (from s start false)) × found_in start (length s) r
 
-  pub named_file : (a b : ℕ) → InFile (Found.Text a b) → Locates s start stop p w (Located.At (record { page = false; from = a; to = b }))
+  pub named_file : (a b : ℕ) → InFile (Some (span_of a b)) → Locates s start stop p w (Some (record { page = false; from = a; to = b }))
   named_file a b x = record { is = (unfold located placed in rw (← x.0) refl); inside = (x.1.1, x.1.2) }
 
-  module _ (x : InFile Found.Absent) where
-    pub named_page : (a b : ℕ) → FindsFrom p 0 (length p) w (Found.Text a b) → Locates s start stop p w (Located.At (record { page = true; from = a; to = b }))
+  module _ (x : InFile None) where
+    pub named_page : (a b : ℕ) → FindsFrom p 0 (length p) w (Some (span_of a b)) → Locates s start stop p w (Some (record { page = true; from = a; to = b }))
     named_page a b y = record { is = (unfold located placed on_page in rw (← x.0, ← y.0) refl); inside = (y.1.1, y.1.2) }
 
-    pub named_none : FindsFrom p 0 (length p) w Found.Absent → Locates s start stop p w Located.Absent
+    pub named_none : FindsFrom p 0 (length p) w None → Locates s start stop p w None
     named_none y = record { is = (unfold located placed on_page in rw (← x.0, ← y.0) refl); inside = tt }
 
 -- ---- `find_kth`: none of the numbers before

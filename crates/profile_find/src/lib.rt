@@ -3,38 +3,37 @@
 
 ghost use Rattle.std.specs.Prelude.{◌≡◌, ◌<◌, ◌≤◌, length};
 ghost use Rattle.label_spec.specs.Names.{norm};
-ghost use Rattle.profile_spec.specs.declared.Located.{Located};
 ghost use Rattle.profile_spec.specs.Wanted.{kth};
 ghost use Rattle.profile_find.specs.Post.{Locates};
 
 use label::find_record;
 use label_page::find_on_page;
-use label_spec::Found;
-use profile_spec::{Located, Shown};
+use profile_spec::Shown;
+use label_spec::Span;
 
 // A text that was found.
-fn found(page: bool, from: usize, to: usize) -> Located
-    ensures { result ≡ Located.At (record { page = page; from = from; to = to }) }
+fn found(page: bool, from: usize, to: usize) -> Option<Shown>
+    ensures { result ≡ Some (record { page = page; from = from; to = to }) }
 {
-    Located::At(Shown { page, from, to })
+    Some(Shown { page, from, to })
 }
 
 // Where the text of the record with a name stands: in the file, among the labels from a place on and before END's, or else on the page.
-fn find_named(file: &[u8], start: usize, stop: usize, page: &[u8], name: &[u8]) -> Located
+fn find_named(file: &[u8], start: usize, stop: usize, page: &[u8], name: &[u8]) -> Option<Shown>
     requires { start ≤ length file.now }
     ensures { Locates file.now start stop page.now (norm name.now) result }
 {
     match find_record(file, start, stop, name) {
-        Found::Text { from, to } => found(false, from, to),
-        Found::Absent => match find_on_page(page, name) {
-            Found::Text { from: a, to: b } => found(true, a, b),
-            Found::Absent => Located::Absent,
+        Some(Span { from, to }) => found(false, from, to),
+        None => match find_on_page(page, name) {
+            Some(Span { from: a, to: b }) => found(true, a, b),
+            None => None,
         },
     }
 }
 
 // Where the text of the k-th record of the profile stands, in 001's order of labels.
-pub fn find_kth(file: &[u8], start: usize, stop: usize, page: &[u8], k: usize) -> Located
+pub fn find_kth(file: &[u8], start: usize, stop: usize, page: &[u8], k: usize) -> Option<Shown>
     requires { (start ≤ length file.now) × (k < 15) }
     ensures { Locates file.now start stop page.now (kth k).name result }
 {

@@ -2,28 +2,28 @@
 #![tactic(auto)]
 
 ghost use Rattle.std.specs.Prelude.{◌≡◌, ◌≤◌, length};
-ghost use Rattle.terms.specs.Refusals.{fault_at};
-ghost use Rattle.profile_judged.specs.declared.Checked.{Checked};
+ghost use Rattle.terms.specs.Refusals.{fault_at, reason_number};
 ghost use Rattle.profile_judged.specs.Judged.{ChecksRecords};
+ghost use Rattle.profile_judged.specs.Parts.{page_fault};
 
 use file_tabled::TablePlace;
 use profile_records::survey;
-use profile_spec::Profiled;
-use terms::Fault;
+use profile_spec::Unfit;
+use terms::{Fault, Reason};
 
-// What checking a profile answers: its table and where its body stands; or a fault, whose place is counted on the page or in the file.
-#[derive(Drop)]
-pub enum Checked {
-    At(TablePlace),
-    Refused { page: bool, fault: Fault },
+// The fault of a profile: its place is counted on the page or in the file.
+#[derive(Clone, Copy, Debug, PartialEq, Eq)]
+pub struct PageFault {
+    pub page: bool,
+    pub fault: Fault,
 }
 
 // A fault.
-fn refused(page: bool, number: u64, place: usize) -> Checked
-    ensures { result ≡ Checked.Refused page (fault_at number place) }
+fn refused(page: bool, why: Reason, place: usize) -> Result<TablePlace, PageFault>
+    ensures { result ≡ Err (page_fault page (fault_at (reason_number why) place)) }
 {
-    let fault = Fault::new(number, place);
-    Checked::Refused { page, fault }
+    let fault = Fault::new(why, place);
+    Err(PageFault { page, fault })
 }
 
 // The fifteen records of a file whose table was checked: 30, at END's `##`, then 31. Its own records stand from the place `start` up to `end`.
@@ -34,13 +34,13 @@ pub fn check_records(
     page: &[u8],
     places: &mut [u64],
     k: TablePlace,
-) -> Checked
+) -> Result<TablePlace, PageFault>
     requires { (start ≤ length file.now) × (length places.old ≡ 45) }
     ensures { ChecksRecords file.now start end page.now k places.new result }
 {
     match survey(file, start, end, page, places) {
-        Profiled::Right => Checked::At(k),
-        Profiled::Lacking => refused(false, 30, end),
-        Profiled::Unlisted { page: q, place } => refused(q, 31, place),
+        Ok(()) => Ok(k),
+        Err(Unfit::Lacking) => refused(false, Reason::NoProfileRecord, end),
+        Err(Unfit::Unlisted { page: q, place }) => refused(q, Reason::UnlistedWord, place),
     }
 }

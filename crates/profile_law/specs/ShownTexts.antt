@@ -1,5 +1,5 @@
 -- What an accepted profile shows of its k-th record is the text that the record has in the file, or else on the page.
-use Rattle.std.specs.Prelude.{◌≡◌, Bool, true, false, eqb, length, get_or}
+use Rattle.std.specs.Prelude.{◌≡◌, Bool, true, false, eqb, length, get_or, Option, Some, None, Result, Ok, ⊤}
 use Rattle.std.proofs.Math.Path.{refl}
 use Rattle.std.proofs.Common.{◌∙◌, not-suc-le-zero, le_of_suc-le-suc}
 use mathlib.Core.List.{List, [], ◌∷◌}
@@ -8,16 +8,15 @@ use native.Mathlib.Omega.{arith}
 use Rattle.terms.specs.Logic.{pick, zero_one}
 use Rattle.label_spec.specs.Labels.{from}
 use Rattle.label_spec.specs.Records.{record_of, as_record, record_for}
-use Rattle.label_spec.specs.declared.Found.{Found}
 use Rattle.file_spec.specs.declared.FileTable.{FileTable}
 use Rattle.profile_spec.specs.declared.Shown.{Shown}
-use Rattle.profile_spec.specs.declared.Located.{Located}
-use Rattle.profile_spec.specs.declared.Profiled.{Profiled}
 use Rattle.profile_spec.specs.Wanted.{Wanted, wanted, kth}
 use Rattle.profile_spec.specs.Profile.{on_page, placed, located, text_at, words, present, records, profiled, numbers, all_numbers, page_text, shown}
 use Rattle.profile_law.specs.Fifteen.{long}
 use Rattle.profile_law.specs.Titles.{name_untitled, record_after}
 use Rattle.profile_law.specs.Plain.{Accepted}
+use Rattle.label_spec.specs.declared.Span.{Span}
+use Rattle.profile_spec.specs.declared.Unfit.{Unfit}
 
 -- the k-th three of these numbers: whether it is on the page, from, to
 abbrev pub shown_at : List ℕ → ℕ → Shown
@@ -26,40 +25,40 @@ shown_at ns k = record { page = eqb (get_or ns (3 * k) 0) 1; from = get_or ns (s
 -- none of the records is absent
 module _ (s : List ℕ) (start stop : ℕ) (p : List ℕ) where
   abbrev Standing : List ℕ → Type 0
-  Standing w = (x : Shown) × (located s start stop p w ≡ Located.At x)
+  Standing w = (x : Shown) × (located s start stop p w ≡ Some x)
 
-  first_stands : (w : List ℕ) (r : Profiled) (l : Located) → located s start stop p w ≡ l → present l r ≡ Profiled.Right → Standing w
+  first_stands : (w : List ℕ) (r : Result ⊤ Unfit) (l : Option Shown) → located s start stop p w ≡ l → present l r ≡ Ok tt → Standing w
   unfolding present
-  first_stands w r (Located.At x) e h = (x, e)
-  first_stands w r Located.Absent e h = zero_one cc
+  first_stands w r (Some x) e h = (x, e)
+  first_stands w r None e h = zero_one cc
 
-  others_stand : (r : Profiled) (l : Located) → present l r ≡ Profiled.Right → r ≡ Profiled.Right
+  others_stand : (r : Result ⊤ Unfit) (l : Option Shown) → present l r ≡ Ok tt → r ≡ Ok tt
   unfolding present
-  others_stand r (Located.At x) h = h
-  others_stand r Located.Absent h = zero_one cc
+  others_stand r (Some x) h = h
+  others_stand r None h = zero_one cc
 
-  each_stands : (vs : List Wanted) (r : Profiled) → records s start stop p vs r ≡ Profiled.Right → (d : Wanted) (k : ℕ) → k < length vs → Standing (get_or vs k d).name
+  each_stands : (vs : List Wanted) (r : Result ⊤ Unfit) → records s start stop p vs r ≡ Ok tt → (d : Wanted) (k : ℕ) → k < length vs → Standing (get_or vs k d).name
   unfolding records
   each_stands [] r h d k l = absurd (not-suc-le-zero l)
   each_stands (v ∷ vs) r h d zero l = first_stands v.name (records s start stop p vs r) (located s start stop p v.name) refl h
   each_stands (v ∷ vs) r h d (suc k) l = each_stands vs r (others_stand (records s start stop p vs r) (located s start stop p v.name) h) d k (le_of_suc-le-suc l)
 
   -- the numbers of one record among those of all
-  past_three : (l : Located) (ns : List ℕ) (i : ℕ) → get_or (numbers l ns) (suc (suc (suc i))) 0 ≡ get_or ns i 0
+  past_three : (l : Option Shown) (ns : List ℕ) (i : ℕ) → get_or (numbers l ns) (suc (suc (suc i))) 0 ≡ get_or ns i 0
   unfolding numbers
-  past_three (Located.At x) ns i = refl
-  past_three Located.Absent ns i = refl
+  past_three (Some x) ns i = refl
+  past_three None ns i = refl
 
   pub record Three (ns : List ℕ) (i : ℕ) (x : Shown) : Type 0 where
     pub page : get_or ns i 0 ≡ pick x.page 1 0
     pub low : get_or ns (suc i) 0 ≡ x.from
     pub high : get_or ns (suc (suc i)) 0 ≡ x.to
 
-  three_here : (l : Located) (ns : List ℕ) (x : Shown) → l ≡ Located.At x → Three (numbers l ns) 0 x
+  three_here : (l : Option Shown) (ns : List ℕ) (x : Shown) → l ≡ Some x → Three (numbers l ns) 0 x
   unfolding numbers
   three_here l ns x e = rw e (record { page = refl; low = refl; high = refl })
 
-  three_at : (vs : List Wanted) (d : Wanted) (k : ℕ) → k < length vs → (x : Shown) → located s start stop p (get_or vs k d).name ≡ Located.At x → (i : ℕ) → i ≡ 3 * k
+  three_at : (vs : List Wanted) (d : Wanted) (k : ℕ) → k < length vs → (x : Shown) → located s start stop p (get_or vs k d).name ≡ Some x → (i : ℕ) → i ≡ 3 * k
       → Three (all_numbers s start stop p vs) i x
   unfolding all_numbers
   three_at [] d k l x e i h = absurd (not-suc-le-zero l)
@@ -78,11 +77,11 @@ module _ (s : List ℕ) (start stop : ℕ) (p : List ℕ) where
   text_back ns k x t = rw (t.page, t.low, t.high, flag_back x.page) refl
 
   -- where a record stands, and what is shown of it
-  shown_back : (w : List ℕ) (x : Shown) (f g : Found) → placed false f (placed true g Located.Absent) ≡ Located.At x → on_page p w ≡ g → text_at s p x ≡ shown s p w (as_record f)
+  shown_back : (w : List ℕ) (x : Shown) (f g : Option Span) → placed false f (placed true g None) ≡ Some x → on_page p w ≡ g → text_at s p x ≡ shown s p w (as_record f)
   unfolding placed as_record shown page_text
-  shown_back w x (Found.Text a b) g e h = let z : x ≡ record { page = false; from = a; to = b } = cc in rw z refl
-  shown_back w x Found.Absent (Found.Text a b) e h = let z : x ≡ record { page = true; from = a; to = b } = cc in rw (z, h) refl
-  shown_back w x Found.Absent Found.Absent e h = zero_one cc
+  shown_back w x (Some y) g e h = let z : x ≡ record { page = false; from = y.from; to = y.to } = cc in rw z refl
+  shown_back w x None (Some y) e h = let z : x ≡ record { page = true; from = y.from; to = y.to } = cc in rw (z, h) refl
+  shown_back w x None None e h = zero_one cc
 
 -- the theorem
 pub shown_text : (s p : List ℕ) (room : ℕ) (t : FileTable) (ys ns : List ℕ) → Accepted s p room t ys ns → (k : ℕ) → k < 15

@@ -1,5 +1,5 @@
 -- TITLE is none of the fifteen: where one of them stands in a file whose labels are not refused, it stands after TITLE and before END.
-use Rattle.std.specs.Prelude.{◌≡◌, Bool, true, false, ℕ, zero, suc, ◌+◌, ◌<◌, ◌≤◌, leb, length, get_or}
+use Rattle.std.specs.Prelude.{◌≡◌, Bool, true, false, ℕ, zero, suc, ◌+◌, ◌<◌, ◌≤◌, leb, length, get_or, Result, Ok, Err}
 use Rattle.std.proofs.Math.Path.{refl}
 use mathlib.Core.List.{List, [], ◌∷◌, ◌++◌}
 use Rattle.std.proofs.Math.Numerals.{add-one}
@@ -12,14 +12,14 @@ use Rattle.label_spec.specs.NameLaws.{sames_eq}
 use Rattle.label_spec.specs.Labels.{Walk, over, bad, label, from}
 use Rattle.label_spec.specs.File.{longest_file, opened, twice, judged, placed, after_title, labelled}
 use Rattle.label_spec.specs.Records.{record_of, as_record, record_in, record_for}
-use Rattle.label_spec.specs.declared.Opened.{Opened}
-use Rattle.label_spec.specs.declared.Walked.{Walked}
-use Rattle.label_spec.specs.declared.Labelled.{Labelled}
 use Rattle.compound_law.specs.Above.{Above, from_above}
 use Rattle.compound_law.specs.Standing.{sound}
 use Rattle.compound_law.specs.Found.{opened_since}
 use Rattle.profile_spec.specs.Wanted.{Wanted, wanted, kth}
 use Rattle.profile_law.specs.Fifteen.{long}
+use Rattle.label_spec.specs.declared.Edges.{Edges}
+use Rattle.terms.specs.declared.Fault.{Fault}
+use Rattle.label_spec.specs.Parts.{edges_with, places_with}
 
 -- ---- no name of the fifteen is TITLE
 
@@ -46,54 +46,54 @@ name_untitled k h = let l : k < length wanted = rw long h in each_untitled wante
 -- ---- the places of TITLE and END
 
 -- END stands where the walk may come to
-ended_above : (i len : ℕ) (done : List (List ℕ)) (k : Walk) (x q : ℕ) → Above i k → judged len done k ≡ Walked.Ended x q → i ≤ x
+ended_above : (i len : ℕ) (done : List (List ℕ)) (k : Walk) (x q : ℕ) → Above i k → judged len done k ≡ Ok (edges_with x q) → i ≤ x
 unfolding judged
 ended_above i len done over x q a e = zero_one cc
 ended_above i len done (bad y rest) x q a e = zero_one cc
 ended_above i len done (label y n z v rest) x q a e = first (λ g. ended_above i len (done ++ v ∷ []) rest x q a.1 g) (sames v END) e
   where
-    third : (judged len (done ++ v ∷ []) rest ≡ Walked.Ended x q → i ≤ x) → (t : Bool) → pick t (Walked.Refused (fault_at 23 y)) (judged len (done ++ v ∷ []) rest) ≡ Walked.Ended x q → i ≤ x
+    third : (judged len (done ++ v ∷ []) rest ≡ Ok (edges_with x q) → i ≤ x) → (t : Bool) → pick t (Err (fault_at 23 y)) (judged len (done ++ v ∷ []) rest) ≡ Ok (edges_with x q) → i ≤ x
     third k true g = zero_one cc
     third k false g = k g
 
-    second : (judged len (done ++ v ∷ []) rest ≡ Walked.Ended x q → i ≤ x) → (t : Bool)
-        → pick t (Walked.Refused (fault_at 24 y)) (pick (twice v done) (Walked.Refused (fault_at 23 y)) (judged len (done ++ v ∷ []) rest)) ≡ Walked.Ended x q → i ≤ x
+    second : (judged len (done ++ v ∷ []) rest ≡ Ok (edges_with x q) → i ≤ x) → (t : Bool)
+        → pick t (Err (fault_at 24 y)) (pick (twice v done) (Err (fault_at 23 y)) (judged len (done ++ v ∷ []) rest)) ≡ Ok (edges_with x q) → i ≤ x
     second k true g = zero_one cc
     second k false g = third k (twice v done) g
 
-    first : (judged len (done ++ v ∷ []) rest ≡ Walked.Ended x q → i ≤ x) → (t : Bool)
-        → pick t (Walked.Ended y z) (pick (sames v TITLE) (Walked.Refused (fault_at 24 y)) (pick (twice v done) (Walked.Refused (fault_at 23 y)) (judged len (done ++ v ∷ []) rest)))
-        ≡ Walked.Ended x q → i ≤ x
+    first : (judged len (done ++ v ∷ []) rest ≡ Ok (edges_with x q) → i ≤ x) → (t : Bool)
+        → pick t (Ok (edges_with y z)) (pick (sames v TITLE) (Err (fault_at 24 y)) (pick (twice v done) (Err (fault_at 23 y)) (judged len (done ++ v ∷ []) rest)))
+        ≡ Ok (edges_with x q) → i ≤ x
     first k true g = let w : y ≡ x = cc in omega (arith, a.0)
     first k false g = second k (sames v TITLE) g
 
 module _ (s : List ℕ) (m e x : ℕ) where
   pub record Between : Type 0 where
-    pub opens : opened s ≡ Opened.Title m e
+    pub opens : opened s ≡ Ok (edges_with m e)
     pub last : ℕ
-    pub ends : judged (length s) [] (from s (e + 1) false) ≡ Walked.Ended x last
+    pub ends : judged (length s) [] (from s (e + 1) false) ≡ Ok (edges_with x last)
 
-  by_walk : (m' e' : ℕ) (w : Walked) → judged (length s) [] (from s (e' + 1) false) ≡ w → opened s ≡ Opened.Title m' e' → placed m' e' w ≡ Labelled.Places m e x → Between
+  by_walk : (m' e' : ℕ) (w : Result Edges Fault) → judged (length s) [] (from s (e' + 1) false) ≡ w → opened s ≡ Ok (edges_with m' e') → placed m' e' w ≡ Ok (places_with m e x) → Between
   unfolding placed
-  by_walk m' e' (Walked.Refused r) h o g = zero_one cc
-  by_walk m' e' (Walked.Ended y q) h o g =
-      let a : m' ≡ m = cc in let b : e' ≡ e = cc in let c : y ≡ x = cc in
-      record { opens = rw (a, b) at o; last = q; ends = rw (b, c) at h }
+  by_walk m' e' (Err r) h o g = zero_one cc
+  by_walk m' e' (Ok z) h o g =
+      let a : m' ≡ m = cc in let b : e' ≡ e = cc in let c : z.mark ≡ x = cc in
+      record { opens = rw (a, b) at o; last = z.eq; ends = rw (b, c) at h }
 
-  by_title : (o : Opened) → opened s ≡ o → after_title s o ≡ Labelled.Places m e x → Between
+  by_title : (o : Result Edges Fault) → opened s ≡ o → after_title s o ≡ Ok (places_with m e x) → Between
   unfolding after_title
-  by_title (Opened.Refused r) o g = zero_one cc
-  by_title (Opened.Title m' e') o g = by_walk m' e' (judged (length s) [] (from s (e' + 1) false)) refl o g
+  by_title (Err r) o g = zero_one cc
+  by_title (Ok x) o g = by_walk x.mark x.eq (judged (length s) [] (from s (x.eq + 1) false)) refl o g
 
-  by_length : (t : Bool) → pick t (after_title s (opened s)) (Labelled.Refused (fault_at 19 0)) ≡ Labelled.Places m e x → Between
+  by_length : (t : Bool) → pick t (after_title s (opened s)) (Err (fault_at 19 0)) ≡ Ok (places_with m e x) → Between
   by_length true g = by_title (opened s) refl g
   by_length false g = zero_one cc
 
-  pub between : labelled s ≡ Labelled.Places m e x → Between
+  pub between : labelled s ≡ Ok (places_with m e x) → Between
   unfolding labelled
   between h = by_length (leb (length s) longest_file) h
 
-  module _ (h : labelled s ≡ Labelled.Places m e x) where
+  module _ (h : labelled s ≡ Ok (places_with m e x)) where
     pub title_before : m < x
     title_before =
         let b = between h in

@@ -10,13 +10,13 @@ use lib.Seq.{sets, sets-eq, length-sets, drop-cons}
 use Rattle.terms.specs.Logic.{pick, zero_one}
 use Rattle.label_spec.specs.Space.{past_space}
 use Rattle.profile_spec.specs.declared.Shown.{Shown}
-use Rattle.profile_spec.specs.declared.Located.{Located}
-use Rattle.profile_spec.specs.declared.Profiled.{Profiled}
 use Rattle.profile_spec.specs.Wanted.{wanted, kth}
 use Rattle.profile_spec.specs.Profile.{located, text_at, listed, word_at, judged, words, present, records, profiled, numbers, all_numbers}
 use Rattle.profile_law.specs.Fifteen.{long, all_long}
 use Rattle.profile_find.specs.Post.{Locates, LocatedIn}
 use Rattle.profile_records.specs.Post.{judged_in, after, Surveys}
+use Rattle.std.specs.Prelude.{Some, None, Result, Ok, Err, ⊤}
+use Rattle.profile_spec.specs.declared.Unfit.{Unfit}
 
 -- ---- `judge_in` and `judge`
 
@@ -24,21 +24,21 @@ module _ (s : List ℕ) (x : Shown) (ws : List (List ℕ)) where
   abbrev Text : List ℕ
   Text = take (x.to - x.from) (drop x.from s)
 
-  pub judged_listed : (q : Bool) → q ≡ listed ws Text → q ≡ true → Profiled.Right ≡ judged_in s x ws
+  pub judged_listed : (q : Bool) → q ≡ listed ws Text → q ≡ true → Ok tt ≡ judged_in s x ws
   judged_listed q e h = unfold judged_in in rw (sym e ∙ h) refl
 
-  pub judged_unlisted : (q : Bool) → q ≡ listed ws Text → q ≡ false → (a : ℕ) → a ≡ past_space Text 0 → Profiled.Unlisted x.page (x.from + a) ≡ judged_in s x ws
+  pub judged_unlisted : (q : Bool) → q ≡ listed ws Text → q ≡ false → (a : ℕ) → a ≡ past_space Text 0 → Err (Unfit.Unlisted x.page (x.from + a)) ≡ judged_in s x ws
   judged_unlisted q e h a g = unfold judged_in in rw (sym e ∙ h, g) refl
 
-pub inside_of : (s p : List ℕ) (x : Shown) (q : Bool) → x.page ≡ q → LocatedIn s p (Located.At x) → (x.from ≤ x.to) × (x.to ≤ length (pick q p s))
+pub inside_of : (s p : List ℕ) (x : Shown) (q : Bool) → x.page ≡ q → LocatedIn s p (Some x) → (x.from ≤ x.to) × (x.to ≤ length (pick q p s))
 inside_of s p x q e h = rw e at h
 
-pub judged_source : (s p : List ℕ) (x : Shown) (ws : List (List ℕ)) (q : Bool) → x.page ≡ q → (r : Profiled) → r ≡ judged_in (pick q p s) x ws → r ≡ judged s p ws (Located.At x) Profiled.Right
+pub judged_source : (s p : List ℕ) (x : Shown) (ws : List (List ℕ)) (q : Bool) → x.page ≡ q → (r : Result ⊤ Unfit) → r ≡ judged_in (pick q p s) x ws → r ≡ judged s p ws (Some x) (Ok tt)
 judged_source s p x ws q e r h = h ∙ (unfold judged judged_in in rw e refl)
 
 -- ---- `put`
 
-pub three : (l : List ℕ) (i : ℕ) (x : Shown) (q : ℕ) → q ≡ pick x.page 1 0 → set (set (set l i q) (i + 1) x.from) (i + 2) x.to ≡ sets l i (numbers (Located.At x) [])
+pub three : (l : List ℕ) (i : ℕ) (x : Shown) (q : ℕ) → q ≡ pick x.page 1 0 → set (set (set l i q) (i + 1) x.from) (i + 2) x.to ≡ sets l i (numbers (Some x) [])
 unfolding numbers
 three l i x q e =
     let y : i + 1 ≡ suc i = omega arith in
@@ -48,24 +48,24 @@ three l i x q e =
 -- ---- `survey`
 
 -- what some records say before others, in turn
-after_after : (a b c : Profiled) → after a (after b c) ≡ after (after a b) c
+after_after : (a b c : Result ⊤ Unfit) → after a (after b c) ≡ after (after a b) c
 unfolding after
-after_after Profiled.Right b c = refl
-after_after Profiled.Lacking b c = refl
-after_after (Profiled.Unlisted q a) b c = refl
+after_after (Ok tt) b c = refl
+after_after (Err Unfit.Lacking) b c = refl
+after_after (Err (Unfit.Unlisted q a)) b c = refl
 
-after_right : (a : Profiled) → after a Profiled.Right ≡ a
+after_right : (a : Result ⊤ Unfit) → after a (Ok tt) ≡ a
 unfolding after
-after_right Profiled.Right = refl
-after_right Profiled.Lacking = refl
-after_right (Profiled.Unlisted q a) = refl
+after_right (Ok tt) = refl
+after_right (Err Unfit.Lacking) = refl
+after_right (Err (Unfit.Unlisted q a)) = refl
 
-picked_after : (t : Bool) (q : Bool) (a : ℕ) (r : Profiled) → pick t r (Profiled.Unlisted q a) ≡ after (pick t Profiled.Right (Profiled.Unlisted q a)) r
+picked_after : (t : Bool) (q : Bool) (a : ℕ) (r : Result ⊤ Unfit) → pick t r (Err (Unfit.Unlisted q a)) ≡ after (pick t (Ok tt) (Err (Unfit.Unlisted q a))) r
 unfolding after
 picked_after true q a r = refl
 picked_after false q a r = refl
 
-judged_after : (s p : List ℕ) (ws : List (List ℕ)) (x : Shown) (r : Profiled) → judged s p ws (Located.At x) r ≡ after (judged s p ws (Located.At x) Profiled.Right) r
+judged_after : (s p : List ℕ) (ws : List (List ℕ)) (x : Shown) (r : Result ⊤ Unfit) → judged s p ws (Some x) r ≡ after (judged s p ws (Some x) (Ok tt)) r
 unfolding judged
 judged_after s p ws x r = picked_after (listed ws (text_at s p x)) x.page (word_at s p x) r
 
@@ -83,7 +83,7 @@ sets_whole l vs h =
     sets-eq vs l 0 z ∙ rw (drop_of_length-le l y) (append-nil vs)
 
 -- k records are gone over; i numbers are stored, and said is what was said
-pub record Gone (s : List ℕ) (start stop : ℕ) (p : List ℕ) (said : Profiled) (k i : ℕ) (out : List ℕ) : Type 0 where
+pub record Gone (s : List ℕ) (start stop : ℕ) (p : List ℕ) (said : Result ⊤ Unfit) (k i : ℕ) (out : List ℕ) : Type 0 where
   pub many : k ≤ 15
   pub long : length out ≡ 45
   pub at : i ≡ 3 * k
@@ -91,7 +91,7 @@ pub record Gone (s : List ℕ) (start stop : ℕ) (p : List ℕ) (said : Profile
   pub shows : all_numbers s start stop p wanted ≡ sets out i (all_numbers s start stop p (drop k wanted))
 
 -- the numbers of one record, and those after it
-sets_three : (out : List ℕ) (i : ℕ) (x : Shown) (ns : List ℕ) → sets out i (numbers (Located.At x) ns) ≡ sets (sets out i (numbers (Located.At x) [])) (i + 3) ns
+sets_three : (out : List ℕ) (i : ℕ) (x : Shown) (ns : List ℕ) → sets out i (numbers (Some x) ns) ≡ sets (sets out i (numbers (Some x) [])) (i + 3) ns
 unfolding numbers
 sets_three out i x ns = let y : i + 3 ≡ suc (suc (suc i)) = omega arith in rw y refl
 
@@ -101,7 +101,7 @@ module _ (s : List ℕ) (start stop : ℕ) (p : List ℕ) where
     unfolding words
     words_next = rw (next k h) refl
 
-    records_next : (r : Profiled) → records s start stop p (drop k wanted) r ≡ present (located s start stop p (kth k).name) (records s start stop p (drop (k + 1) wanted) r)
+    records_next : (r : Result ⊤ Unfit) → records s start stop p (drop k wanted) r ≡ present (located s start stop p (kth k).name) (records s start stop p (drop (k + 1) wanted) r)
     unfolding records
     records_next r = rw (next k h) refl
 
@@ -109,13 +109,13 @@ module _ (s : List ℕ) (start stop : ℕ) (p : List ℕ) where
     unfolding all_numbers
     numbers_next = rw (next k h) refl
 
-  pub gone_begin : (out : List ℕ) → length out ≡ 45 → Gone s start stop p Profiled.Right 0 0 out
+  pub gone_begin : (out : List ℕ) → length out ≡ 45 → Gone s start stop p (Ok tt) 0 0 out
   gone_begin out h =
       let l = all_long s start stop p wanted in
       let e : length out ≡ length (all_numbers s start stop p wanted) = omega (arith, long) in
       record { many = omega arith; long = h; at = refl; says = (unfold profiled after in refl); shows = sym (sets_whole out (all_numbers s start stop p wanted) e) }
 
-  module _ (said : Profiled) (k i : ℕ) (out : List ℕ) (c : Gone s start stop p said k i out) where
+  module _ (said : Result ⊤ Unfit) (k i : ℕ) (out : List ℕ) (c : Gone s start stop p said k i out) where
     pub gone_done : 15 ≤ k → Surveys s start stop p out said
     gone_done h =
         record {
@@ -124,27 +124,27 @@ module _ (s : List ℕ) (start stop : ℕ) (p : List ℕ) where
         }
 
     module _ (h : k < 15) where
-      abbrev Rest : Profiled
+      abbrev Rest : Result ⊤ Unfit
       Rest = words s start stop p (drop (k + 1) wanted)
 
-      pub gone_lacks : Locates s start stop p (kth k).name Located.Absent → Surveys s start stop p out Profiled.Lacking
+      pub gone_lacks : Locates s start stop p (kth k).name None → Surveys s start stop p out (Err Unfit.Lacking)
       unfolding present
       gone_lacks l = record { is = sym (c.says ∙ records_next k h (after said (words s start stop p (drop k wanted))) ∙ rw (← l.is) refl); shows = λ e. zero_one cc }
 
-      module _ (x : Shown) (l : Locates s start stop p (kth k).name (Located.At x)) where
+      module _ (x : Shown) (l : Locates s start stop p (kth k).name (Some x)) where
         says_on : records s start stop p (drop k wanted) (after said (words s start stop p (drop k wanted)))
-            ≡ records s start stop p (drop (k + 1) wanted) (after (after said (judged s p (kth k).words (Located.At x) Profiled.Right)) Rest)
+            ≡ records s start stop p (drop (k + 1) wanted) (after (after said (judged s p (kth k).words (Some x) (Ok tt))) Rest)
         unfolding present
         says_on =
             records_next k h (after said (words s start stop p (drop k wanted)))
-            ∙ rw (words_next k h, ← l.is, judged_after s p (kth k).words x Rest, after_after said (judged s p (kth k).words (Located.At x) Profiled.Right) Rest) refl
+            ∙ rw (words_next k h, ← l.is, judged_after s p (kth k).words x Rest, after_after said (judged s p (kth k).words (Some x) (Ok tt)) Rest) refl
 
-        pub gone_on : (j : Profiled) → j ≡ judged s p (kth k).words (Located.At x) Profiled.Right → (said' : Profiled) → said' ≡ after said j
-            → (out' : List ℕ) → out' ≡ sets out i (numbers (Located.At x) []) → Gone s start stop p said' (k + 1) (i + 3) out'
+        pub gone_on : (j : Result ⊤ Unfit) → j ≡ judged s p (kth k).words (Some x) (Ok tt) → (said' : Result ⊤ Unfit) → said' ≡ after said j
+            → (out' : List ℕ) → out' ≡ sets out i (numbers (Some x) []) → Gone s start stop p said' (k + 1) (i + 3) out'
         gone_on j ej said' es out' eo =
             record {
               many = omega arith;
-              long = ap (λ (n : List ℕ). length n) eo ∙ length-sets out i (numbers (Located.At x) []) ∙ c.long;
+              long = ap (λ (n : List ℕ). length n) eo ∙ length-sets out i (numbers (Some x) []) ∙ c.long;
               at = omega (arith, c.at);
               says = c.says ∙ says_on ∙ rw (es, ej) refl;
               shows = c.shows ∙ rw (numbers_next k h, ← l.is, eo) (sets_three out i x (all_numbers s start stop p (drop (k + 1) wanted)));

@@ -4,8 +4,6 @@
 ghost use Rattle.std.specs.Prelude.{◌≡◌, [], ◌+◌, ◌≤◌, length};
 ghost use Rattle.std.proofs.lemmas.List.Edits.{sets};
 ghost use Rattle.terms.specs.Logic.{pick};
-ghost use Rattle.profile_spec.specs.declared.Located.{Located};
-ghost use Rattle.profile_spec.specs.declared.Profiled.{Profiled};
 ghost use Rattle.profile_spec.specs.Wanted.{kth};
 ghost use Rattle.profile_spec.specs.Profile.{judged, numbers};
 ghost use Rattle.profile_find.specs.Post.{LocatedIn};
@@ -13,11 +11,11 @@ ghost use Rattle.profile_records.specs.Post.{judged_in, after, Surveys};
 
 use label_space::past_space;
 use profile_find::find_kth;
-use profile_spec::{Located, Profiled, Shown};
+use profile_spec::{Shown, Unfit};
 use profile_words::is_listed;
 
 // What the k-th record says by itself, where its text stands in s: its word is listed, or where its unlisted word stands (31).
-fn judge_in(s: &[u8], x: Shown, k: usize) -> Profiled
+fn judge_in(s: &[u8], x: Shown, k: usize) -> Result<(), Unfit>
     requires { (x.from ≤ x.to) × (x.to ≤ length s.now) }
     ensures { result ≡ judged_in s.now x (kth k).words }
 {
@@ -26,16 +24,16 @@ fn judge_in(s: &[u8], x: Shown, k: usize) -> Profiled
     let page = x.page;
     let t = &s[from..to];
     if is_listed(t, k) {
-        return Profiled::Right;
+        return Ok(());
     }
     let place = from + past_space(t, 0);
-    Profiled::Unlisted { page, place }
+    Err(Unfit::Unlisted { page, place })
 }
 
 // The same, where its text stands in the file or on the page.
-fn judge(file: &[u8], page: &[u8], x: Shown, k: usize) -> Profiled
-    requires { LocatedIn file.now page.now (Located.At x) }
-    ensures { result ≡ judged file.now page.now (kth k).words (Located.At x) Profiled.Right }
+fn judge(file: &[u8], page: &[u8], x: Shown, k: usize) -> Result<(), Unfit>
+    requires { LocatedIn file.now page.now (Some x) }
+    ensures { result ≡ judged file.now page.now (kth k).words (Some x) (Ok tt) }
 {
     let on_page = x.page;
     if on_page {
@@ -45,13 +43,13 @@ fn judge(file: &[u8], page: &[u8], x: Shown, k: usize) -> Profiled
 }
 
 // What the records before say, if that is a fault; otherwise what the next one says.
-fn first_fault(said: Profiled, next: Profiled) -> Profiled
+fn first_fault(said: Result<(), Unfit>, next: Result<(), Unfit>) -> Result<(), Unfit>
     ensures { result ≡ after said next }
 {
     match said {
-        Profiled::Right => next,
-        Profiled::Lacking => Profiled::Lacking,
-        Profiled::Unlisted { page, place } => Profiled::Unlisted { page, place },
+        Ok(()) => next,
+        Err(Unfit::Lacking) => Err(Unfit::Lacking),
+        Err(Unfit::Unlisted { page, place }) => Err(Unfit::Unlisted { page, place }),
     }
 }
 
@@ -68,7 +66,7 @@ fn number_of(page: bool) -> u64
 // Stores the three numbers of a record from the entry i on.
 fn put(places: &mut [u64], i: usize, x: Shown)
     requires { i + 3 ≤ length places.old }
-    ensures { places.new ≡ sets places.old i (numbers (Located.At x) []) }
+    ensures { places.new ≡ sets places.old i (numbers (Some x) []) }
 {
     let from = x.from;
     let to = x.to;
@@ -79,19 +77,19 @@ fn put(places: &mut [u64], i: usize, x: Shown)
 }
 
 // What the fifteen records say, in one pass: each is looked for once, and the numbers that show it are stored. One that is absent from both (30) comes before every unlisted word (31).
-pub fn survey(file: &[u8], start: usize, stop: usize, page: &[u8], places: &mut [u64]) -> Profiled
+pub fn survey(file: &[u8], start: usize, stop: usize, page: &[u8], places: &mut [u64]) -> Result<(), Unfit>
     requires { (start ≤ length file.now) × (length places.old ≡ 45) }
     ensures { Surveys file.now start stop page.now places.new result }
 {
-    let mut said = Profiled::Right;
+    let mut said = Ok(());
     let mut k: usize = 0;
     let mut i: usize = 0;
     while k < 15 {
         match find_kth(file, start, stop, page, k) {
-            Located::Absent => {
-                return Profiled::Lacking;
+            None => {
+                return Err(Unfit::Lacking);
             }
-            Located::At(x) => {
+            Some(x) => {
                 said = first_fault(said, judge(file, page, x, k));
                 put(places, i, x);
                 i += 3;

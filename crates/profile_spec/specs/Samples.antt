@@ -1,14 +1,14 @@
 -- 02, T-09: samples, computed from the definitions.
-use Rattle.std.specs.Prelude.{◌≡◌, refl, true, false, List, [], ◌∷◌, ℕ, length}
+use Rattle.std.specs.Prelude.{◌≡◌, refl, true, false, List, [], ◌∷◌, ℕ, length, Some, None, Ok, Err}
 use Rattle.label_spec.specs.Names.{blank, ignored, upper, norm, sames}
 use Rattle.label_spec.specs.Labels.{eq_in, headed, step, walk, from}
 use Rattle.label_spec.specs.Space.{space, opens, past, past_at}
 use Rattle.label_spec.specs.Records.{mark_of, record_of}
-use Rattle.label_spec.specs.declared.Found.{Found}
 use Rattle.keyword_spec.specs.Keywords.{word_from, is_word}
-use Rattle.profile_spec.specs.declared.Profiled.{Profiled}
 use Rattle.profile_spec.specs.Wanted.{modes, wanted}
 use Rattle.profile_spec.specs.Profile.{on_page, placed, located, any_word, listed, word_at, judged, words, present, records, profiled, numbers, all_numbers}
+use Rattle.profile_spec.specs.declared.Unfit.{Unfit}
+use Rattle.label_spec.specs.Parts.{span_of}
 
 -- the profile has fifteen records
 fifteen : length wanted ≡ 15
@@ -18,42 +18,42 @@ fifteen = refl
 -- ---- a record on a page
 
 -- `##OWNER=me/##ORIGIN=us`: a record of a page
-page_first : on_page (35 ∷ 35 ∷ 79 ∷ 87 ∷ 78 ∷ 69 ∷ 82 ∷ 61 ∷ 109 ∷ 101 ∷ 10 ∷ 35 ∷ 35 ∷ 79 ∷ 82 ∷ 73 ∷ 71 ∷ 73 ∷ 78 ∷ 61 ∷ 117 ∷ 115 ∷ []) (79 ∷ 82 ∷ 73 ∷ 71 ∷ 73 ∷ 78 ∷ []) ≡ Found.Text 20 22
+page_first : on_page (35 ∷ 35 ∷ 79 ∷ 87 ∷ 78 ∷ 69 ∷ 82 ∷ 61 ∷ 109 ∷ 101 ∷ 10 ∷ 35 ∷ 35 ∷ 79 ∷ 82 ∷ 73 ∷ 71 ∷ 73 ∷ 78 ∷ 61 ∷ 117 ∷ 115 ∷ []) (79 ∷ 82 ∷ 73 ∷ 71 ∷ 73 ∷ 78 ∷ []) ≡ Some (span_of 20 22)
 unfolding on_page record_of mark_of from walk step headed eq_in norm ignored blank upper sames
 page_first = refl
 
 -- `##OWNER=me/##ORIGIN=us`: the label that begins the page
-page_start : on_page (35 ∷ 35 ∷ 79 ∷ 87 ∷ 78 ∷ 69 ∷ 82 ∷ 61 ∷ 109 ∷ 101 ∷ 10 ∷ 35 ∷ 35 ∷ 79 ∷ 82 ∷ 73 ∷ 71 ∷ 73 ∷ 78 ∷ 61 ∷ 117 ∷ 115 ∷ []) (79 ∷ 87 ∷ 78 ∷ 69 ∷ 82 ∷ []) ≡ Found.Text 8 11
+page_start : on_page (35 ∷ 35 ∷ 79 ∷ 87 ∷ 78 ∷ 69 ∷ 82 ∷ 61 ∷ 109 ∷ 101 ∷ 10 ∷ 35 ∷ 35 ∷ 79 ∷ 82 ∷ 73 ∷ 71 ∷ 73 ∷ 78 ∷ 61 ∷ 117 ∷ 115 ∷ []) (79 ∷ 87 ∷ 78 ∷ 69 ∷ 82 ∷ []) ≡ Some (span_of 8 11)
 unfolding on_page record_of mark_of from walk step headed eq_in norm ignored blank upper sames
 page_start = refl
 
 -- `  ##X=1/`: blanks may stand before it
-page_blank : on_page (32 ∷ 9 ∷ 35 ∷ 35 ∷ 88 ∷ 61 ∷ 49 ∷ 10 ∷ []) (88 ∷ []) ≡ Found.Text 6 8
+page_blank : on_page (32 ∷ 9 ∷ 35 ∷ 35 ∷ 88 ∷ 61 ∷ 49 ∷ 10 ∷ []) (88 ∷ []) ≡ Some (span_of 6 8)
 unfolding on_page record_of mark_of from walk step headed eq_in norm ignored blank upper sames
 page_blank = refl
 
 -- `##X=1/##x=2/`: of two with one name the first counts
-page_twice : on_page (35 ∷ 35 ∷ 88 ∷ 61 ∷ 49 ∷ 10 ∷ 35 ∷ 35 ∷ 120 ∷ 61 ∷ 50 ∷ 10 ∷ []) (88 ∷ []) ≡ Found.Text 4 6
+page_twice : on_page (35 ∷ 35 ∷ 88 ∷ 61 ∷ 49 ∷ 10 ∷ 35 ∷ 35 ∷ 120 ∷ 61 ∷ 50 ∷ 10 ∷ []) (88 ∷ []) ≡ Some (span_of 4 6)
 unfolding on_page record_of mark_of from walk step headed eq_in norm ignored blank upper sames
 page_twice = refl
 
 -- `##X=1/##y/##Z=2`: a faulty label is ignored, but ends the text before it
-page_fault : on_page (35 ∷ 35 ∷ 88 ∷ 61 ∷ 49 ∷ 10 ∷ 35 ∷ 35 ∷ 121 ∷ 10 ∷ 35 ∷ 35 ∷ 90 ∷ 61 ∷ 50 ∷ []) (88 ∷ []) ≡ Found.Text 4 6
+page_fault : on_page (35 ∷ 35 ∷ 88 ∷ 61 ∷ 49 ∷ 10 ∷ 35 ∷ 35 ∷ 121 ∷ 10 ∷ 35 ∷ 35 ∷ 90 ∷ 61 ∷ 50 ∷ []) (88 ∷ []) ≡ Some (span_of 4 6)
 unfolding on_page record_of mark_of from walk step headed eq_in norm ignored blank upper sames
 page_fault = refl
 
 -- `##X=1/##y/##Z=2`: the records after a faulty label count
-page_after : on_page (35 ∷ 35 ∷ 88 ∷ 61 ∷ 49 ∷ 10 ∷ 35 ∷ 35 ∷ 121 ∷ 10 ∷ 35 ∷ 35 ∷ 90 ∷ 61 ∷ 50 ∷ []) (90 ∷ []) ≡ Found.Text 14 15
+page_after : on_page (35 ∷ 35 ∷ 88 ∷ 61 ∷ 49 ∷ 10 ∷ 35 ∷ 35 ∷ 121 ∷ 10 ∷ 35 ∷ 35 ∷ 90 ∷ 61 ∷ 50 ∷ []) (90 ∷ []) ≡ Some (span_of 14 15)
 unfolding on_page record_of mark_of from walk step headed eq_in norm ignored blank upper sames
 page_after = refl
 
 -- `##END=/##Z=2`: END is another record there
-page_other : on_page (35 ∷ 35 ∷ 69 ∷ 78 ∷ 68 ∷ 61 ∷ 10 ∷ 35 ∷ 35 ∷ 90 ∷ 61 ∷ 50 ∷ []) (90 ∷ []) ≡ Found.Text 11 12
+page_other : on_page (35 ∷ 35 ∷ 69 ∷ 78 ∷ 68 ∷ 61 ∷ 10 ∷ 35 ∷ 35 ∷ 90 ∷ 61 ∷ 50 ∷ []) (90 ∷ []) ≡ Some (span_of 11 12)
 unfolding on_page record_of mark_of from walk step headed eq_in norm ignored blank upper sames
 page_other = refl
 
 -- `##X=1/`: a record that is not there
-page_none : on_page (35 ∷ 35 ∷ 88 ∷ 61 ∷ 49 ∷ 10 ∷ []) (90 ∷ []) ≡ Found.Absent
+page_none : on_page (35 ∷ 35 ∷ 88 ∷ 61 ∷ 49 ∷ 10 ∷ []) (90 ∷ []) ≡ None
 unfolding on_page record_of mark_of from walk step headed eq_in norm ignored blank upper sames
 page_none = refl
 
@@ -113,7 +113,7 @@ all =
     69 ∷ 78 ∷ 73 ∷ 78 ∷ 71 ∷ 32 ∷ 84 ∷ 73 ∷ 77 ∷ 69 ∷ 61 ∷ 53 ∷ 10 ∷ 35 ∷ 35 ∷ 88 ∷ 85 ∷ 78 ∷ 73 ∷ 84 ∷ 83 ∷ 61 ∷ 83 ∷ 69 ∷ 67 ∷ 79 ∷ 78 ∷ 68 ∷ 83 ∷ 10 ∷ 35 ∷ 35 ∷ 89 ∷ 85 ∷ 78 ∷
     73 ∷ 84 ∷ 83 ∷ 61 ∷ 80 ∷ 73 ∷ 67 ∷ 79 ∷ 65 ∷ 77 ∷ 80 ∷ 69 ∷ 82 ∷ 69 ∷ 83 ∷ 10 ∷ []
 
-all_right : profiled [] 0 0 all ≡ Profiled.Right
+all_right : profiled [] 0 0 all ≡ Ok tt
 unfolding profiled records present words judged placed located wanted on_page record_of mark_of from walk step headed eq_in norm ignored blank upper sames is_word word_from any_word space opens past past_at
 all_right = refl
 
@@ -130,7 +130,7 @@ wrong =
     ∷ 80 ∷ 69 ∷ 78 ∷ 73 ∷ 78 ∷ 71 ∷ 32 ∷ 84 ∷ 73 ∷ 77 ∷ 69 ∷ 61 ∷ 53 ∷ 10 ∷ 35 ∷ 35 ∷ 88 ∷ 85 ∷ 78 ∷ 73 ∷ 84 ∷ 83 ∷ 61 ∷ 83 ∷ 69 ∷ 67 ∷ 79 ∷ 78 ∷ 68 ∷ 83 ∷ 10 ∷ 35 ∷ 35 ∷ 89 ∷ 85
     ∷ 78 ∷ 73 ∷ 84 ∷ 83 ∷ 61 ∷ 80 ∷ 73 ∷ 67 ∷ 79 ∷ 65 ∷ 77 ∷ 80 ∷ 69 ∷ 82 ∷ 69 ∷ 83 ∷ 10 ∷ []
 
-word_wrong : profiled [] 0 0 wrong ≡ Profiled.Unlisted true 63
+word_wrong : profiled [] 0 0 wrong ≡ Err (Unfit.Unlisted true 63)
 unfolding profiled records present words judged placed located wanted on_page record_of mark_of from walk step headed eq_in norm ignored blank upper sames is_word word_from any_word space opens past past_at
 word_wrong = refl
 
@@ -146,7 +146,7 @@ without =
     ∷ 68 ∷ 10 ∷ 35 ∷ 35 ∷ 46 ∷ 73 ∷ 77 ∷ 83 ∷ 32 ∷ 84 ∷ 69 ∷ 77 ∷ 80 ∷ 69 ∷ 82 ∷ 65 ∷ 84 ∷ 85 ∷ 82 ∷ 69 ∷ 61 ∷ 52 ∷ 10 ∷ 35 ∷ 35 ∷ 46 ∷ 83 ∷ 72 ∷ 85 ∷ 84 ∷ 84 ∷ 69 ∷ 82 ∷ 32 ∷ 79
     ∷ 80 ∷ 69 ∷ 78 ∷ 73 ∷ 78 ∷ 71 ∷ 32 ∷ 84 ∷ 73 ∷ 77 ∷ 69 ∷ 61 ∷ 53 ∷ 10 ∷ 35 ∷ 35 ∷ 88 ∷ 85 ∷ 78 ∷ 73 ∷ 84 ∷ 83 ∷ 61 ∷ 83 ∷ 69 ∷ 67 ∷ 79 ∷ 78 ∷ 68 ∷ 83 ∷ 10 ∷ []
 
-lacking_first : profiled [] 0 0 without ≡ Profiled.Lacking
+lacking_first : profiled [] 0 0 without ≡ Err Unfit.Lacking
 unfolding profiled records present words judged placed located wanted on_page record_of mark_of from walk step headed eq_in norm ignored blank upper sames is_word word_from any_word space opens past past_at
 lacking_first = refl
 
@@ -155,7 +155,7 @@ abbrev file : List ℕ
 file =
     10 ∷ 35 ∷ 35 ∷ 79 ∷ 87 ∷ 78 ∷ 69 ∷ 82 ∷ 61 ∷ 113 ∷ 10 ∷ 35 ∷ 35 ∷ 68 ∷ 65 ∷ 84 ∷ 65 ∷ 32 ∷ 67 ∷ 76 ∷ 65 ∷ 83 ∷ 83 ∷ 61 ∷ 88 ∷ 89 ∷ 68 ∷ 65 ∷ 84 ∷ 65 ∷ 10 ∷ []
 
-file_first : profiled file 0 31 wrong ≡ Profiled.Right
+file_first : profiled file 0 31 wrong ≡ Ok tt
 unfolding profiled records present words judged placed located wanted on_page record_of mark_of from walk step headed eq_in norm ignored blank upper sames is_word word_from any_word space opens past past_at
 file_first = refl
 

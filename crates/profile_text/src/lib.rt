@@ -7,7 +7,7 @@ ghost use Rattle.label_spec.specs.Records.{record_for};
 ghost use Rattle.profile_spec.specs.Profile.{shown};
 
 use label_page::find_on_page;
-use label_spec::{Found, Record};
+use label_spec::Span;
 
 // The part of a text from one place up to another.
 fn part_of<'a>(s: &'a [u8], from: usize, to: usize) -> &'a [u8]
@@ -23,11 +23,11 @@ pub fn text_of<'a>(file: &'a [u8], page: &'a [u8], name: &[u8]) -> &'a [u8]
     ensures { result.now ≡ shown file.now page.now (norm name.now) (record_for file.now (norm name.now)) }
 {
     match label::find(file, name) {
-        Record::Text { from, to } => part_of(file, from, to),
-        Record::Refused(_) => &file[..0],
-        Record::Absent => match find_on_page(page, name) {
-            Found::Text { from: a, to: b } => part_of(page, a, b),
-            Found::Absent => &page[..0],
+        Ok(Some(Span { from, to })) => part_of(file, from, to),
+        Err(_) => &file[..0],
+        Ok(None) => match find_on_page(page, name) {
+            Some(Span { from: a, to: b }) => part_of(page, a, b),
+            None => &page[..0],
         },
     }
 }

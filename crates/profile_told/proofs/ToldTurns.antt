@@ -10,12 +10,13 @@ use lib.Seq.{sets, set_out, drop-cons}
 use Rattle.terms.specs.Logic.{pick}
 use Rattle.terms.specs.Refusals.{refusal_in}
 use Rattle.terms.specs.declared.Refusal.{Refusal}
-use Rattle.profile_spec.specs.declared.ProfileRead.{ProfileRead}
 use Rattle.profile_spec.specs.Profile.{refuse_profile, told_profile}
+use Rattle.std.specs.Prelude.{Err}
+use Rattle.profile_spec.specs.Parts.{page_refusal}
 
 -- ---- `refuse`
 
-pub refuse_is : (s p : List ℕ) (q : Bool) (c a : ℕ) (t : Bool) → q ≡ t → (r : Refusal) → r ≡ refusal_in (pick t p s) c a → ProfileRead.Refused t r ≡ told_profile s p (refuse_profile q c a)
+pub refuse_is : (s p : List ℕ) (q : Bool) (c a : ℕ) (t : Bool) → q ≡ t → (r : Refusal) → r ≡ refusal_in (pick t p s) c a → Err (page_refusal t r) ≡ told_profile s p (refuse_profile q c a)
 refuse_is s p q c a t e r h = rw (e, h) refl
 
 -- ---- `store_numbers`

@@ -5,25 +5,26 @@ ghost use Rattle.std.specs.Prelude.{◌≡◌};
 ghost use Rattle.std.proofs.lemmas.List.Edits.{sets};
 ghost use Rattle.profile_spec.specs.Profile.{refuse_profile, told_profile};
 
-use profile_spec::ProfileRead;
 use text::refusal_in;
+use profile_spec::PageRefusal;
+use file_spec::FileTable;
 
 // The refusal of a number at a place of the page or of the file, with line and column there.
-pub fn refuse(file: &[u8], page: &[u8], on_page: bool, number: u64, place: usize) -> ProfileRead
+pub fn refuse(file: &[u8], page: &[u8], on_page: bool, number: u64, place: usize) -> Result<FileTable, PageRefusal>
     ensures { result ≡ told_profile file.now page.now (refuse_profile on_page number place) }
 {
     if on_page {
         let refusal = refusal_in(page, number, place);
-        return ProfileRead::Refused {
+        return Err(PageRefusal {
             page: true,
             refusal,
-        };
+        });
     }
     let refusal = refusal_in(file, number, place);
-    ProfileRead::Refused {
+    Err(PageRefusal {
         page: false,
         refusal,
-    }
+    })
 }
 
 // Stores numbers from the first entry on, as many as there is room for.

@@ -8,13 +8,14 @@ use native.Mathlib.Nat.{div-lt_iff_lt-mul, le-div_iff_mul-le, pow-le-pow_right, 
 use lib.Pow.{pow-add}
 use lib.Dec.{lit<, eqb}
 use borrow.Author.Tests.{eq-eqb, eqb-true}
-use Rattle.decimal_spec.specs.declared.Rounded.{Rounded}
-use Rattle.decimal_spec.specs.declared.Rounded.TheVariants.{Whole, Beyond}
 use Rattle.decimal_spec.specs.Number.{bound}
 use Rattle.decimal_spec.specs.declared.Quotient.{Quotient}
 use Rattle.decimal_spec.specs.Quotient.{Reaches, Nearest, IsRounded, nearest, Exact, IsQuotient, quotient_of, zero_quotient, beyond_quotient}
 use Rattle.decimal_spec.proofs.QuotientLaws.{reaches_le, nearest_is, quotient_is}
 use Rattle.nearest_whole.proofs.Rests.{zero, over_limit}
+use Rattle.std.specs.Prelude.{Option, Some, None}
+use Rattle.decimal_spec.specs.declared.Whole.{Whole}
+use Rattle.decimal_spec.specs.Parts.{whole_with}
 
 -- ---- answers that are known without the product
 -- zero, where the quotient is below a half; exact where the dividend is zero
@@ -22,7 +23,7 @@ pub below_half : (limit : ℕ) (minus : Bool) (a b : ℕ) (x : Bool) → 2 * a <
 below_half limit minus a b x h f g =
     record { rounds = rounds minus; sound = λ e. let z = f e in omega arith; complete = λ e. g (omega arith) }
   where
-    rounds : (minus : Bool) → IsRounded limit minus a b (Whole false 0)
+    rounds : (minus : Bool) → IsRounded limit minus a b (Some (whole_with false 0))
     rounds false = zero limit false a b 0 (record { reaches = omega arith; covers = omega arith }) refl
     rounds true = zero limit true a b 0 (record { reaches = omega arith; covers = omega arith }) refl
 
@@ -54,17 +55,17 @@ scaled_nearest false a b c q h x =
 scaled_nearest true a b c q h x =
     record { reaches = omega (arith, mul-lt-mul_of_pos_right x.reaches h); covers = omega (arith, mul-le-mul_right c x.covers) }
 
-scaled_rounded : (limit : ℕ) (minus : Bool) (a b c : ℕ) (r : Rounded) → 0 < c → IsRounded limit minus a b r → IsRounded limit minus (a * c) (b * c) r
-scaled_rounded limit minus a b c (Whole n q) h x = (scaled_nearest minus a b c q h x.0, x.1, x.2)
-scaled_rounded limit minus a b c Beyond h x = (x.0, scaled_nearest minus a b c x.0 h x.1, x.2)
+scaled_rounded : (limit : ℕ) (minus : Bool) (a b c : ℕ) (r : Option Whole) → 0 < c → IsRounded limit minus a b r → IsRounded limit minus (a * c) (b * c) r
+scaled_rounded limit minus a b c (Some y) h x = (scaled_nearest minus a b c y.size h x.0, x.1, x.2)
+scaled_rounded limit minus a b c None h x = (x.0, scaled_nearest minus a b c x.0 h x.1, x.2)
 
-scaled_exact : (a b c : ℕ) (r : Rounded) → Exact a b r → Exact (a * c) (b * c) r
-scaled_exact a b c (Whole n q) e = mul_right_comm b c q ∙ ap (λ (x : ℕ). x * c) e
-scaled_exact a b c Beyond e = e
+scaled_exact : (a b c : ℕ) (r : Option Whole) → Exact a b r → Exact (a * c) (b * c) r
+scaled_exact a b c (Some y) e = mul_right_comm b c y.size ∙ ap (λ (x : ℕ). x * c) e
+scaled_exact a b c None e = e
 
-exact_scaled : (a b c : ℕ) (r : Rounded) → 0 < c → Exact (a * c) (b * c) r → Exact a b r
-exact_scaled a b c (Whole n q) h e = eq_of_mul-eq-mul_right c h (b * q) a (sym (mul_right_comm b c q) ∙ e)
-exact_scaled a b c Beyond h e = e
+exact_scaled : (a b c : ℕ) (r : Option Whole) → 0 < c → Exact (a * c) (b * c) r → Exact a b r
+exact_scaled a b c (Some x) h e = eq_of_mul-eq-mul_right c h (b * x.size) a (sym (mul_right_comm b c x.size) ∙ e)
+exact_scaled a b c None h e = e
 
 scaled : (limit : ℕ) (minus : Bool) (a b c : ℕ) (x : Quotient) → 0 < c → IsQuotient limit minus a b x → IsQuotient limit minus (a * c) (b * c) x
 scaled limit minus a b c x h k =

@@ -3,7 +3,6 @@
 
 use replay_input::Asked;
 use replay_show::FILL;
-use terms::TableRead;
 
 // Room for the ordinates of a table that is written.
 pub const WRITTEN: usize = 20000;
@@ -28,7 +27,7 @@ pub fn same(ys: &[i32], back: &[i32], n: usize) -> bool {
 pub fn reads_back(a: Asked, ys: &[i32], text: &[u8]) -> bool {
     let mut back = [FILL; WRITTEN];
     match table_read::read_table(a.first, a.last, a.points, text, &mut back) {
-        TableRead::Accepted(n) => n == a.points && same(ys, &back, n),
-        TableRead::Refused(_) => false,
+        Ok(n) => n == a.points && same(ys, &back, n),
+        Err(_) => false,
     }
 }

@@ -1,7 +1,7 @@
 // A file that `replay` wrote: whether it reads back, and itself (second/README.md, "The stored cases").
 #![tactic(auto)]
 
-use file_spec::{Exactness, FileRead, FileTable};
+use file_spec::{Exactness, FileTable};
 use file_write_spec::FileLength;
 use replay_back::{WRITTEN, same};
 use replay_input::Asked;
@@ -23,8 +23,8 @@ fn same_table(a: Asked, exact: Exactness, t: FileTable, ys: &[i32], back: &[i32]
 fn file_reads_back(a: Asked, exact: Exactness, ys: &[i32], text: &[u8]) -> bool {
     let mut back = [FILL; WRITTEN];
     match file::read_file(text, &mut back) {
-        FileRead::Accepted(t) => same_table(a, exact, t, ys, &back),
-        FileRead::Refused(_) => false,
+        Ok(t) => same_table(a, exact, t, ys, &back),
+        Err(_) => false,
     }
 }
 

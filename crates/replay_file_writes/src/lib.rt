@@ -1,20 +1,20 @@
 // The cases of `replay` that are files to write, and to read back (second/README.md, "The stored cases").
 #![tactic(auto)]
 
-use file_write_spec::{FileWritten, Scales};
+use file_write_spec::{FileLength, Scales};
 use replay_back::{TEXT, WRITTEN};
 use replay_file_back::show_file_text;
 use replay_input::{Asked, next_number, next_scales, take_bytes, take_ordinates};
 use replay_show::show_touched_text;
 use std::io;
 use std::io::{Print, Read};
-use terms::Fault;
+use terms::{Fault, Reason};
 
 // Room for the title of a file that is written.
 const TITLE: usize = 256;
 
 // Writes the file, or refusal 0 if this program has too little room.
-fn write_file(title: &[u8], a: Asked, c: Scales, ys: &[i32], text: &mut [u8]) -> FileWritten {
+fn write_file(title: &[u8], a: Asked, c: Scales, ys: &[i32], text: &mut [u8]) -> Result<FileLength, Fault> {
     let count = a.count;
     let room = a.room;
     if count <= ys.len() {
@@ -22,26 +22,26 @@ fn write_file(title: &[u8], a: Asked, c: Scales, ys: &[i32], text: &mut [u8]) ->
             return file_write::write_file(title, a.points, c, &ys[0..count], &mut text[0..room]);
         }
     }
-    FileWritten::Refused(Fault::new(0, 0))
+    Err(Fault::new(Reason::0, 0))
 }
 
 // The answer to a file to write.
 fn show_file_written(
     output: &impl Print,
     a: Asked,
-    answer: FileWritten,
+    answer: Result<FileLength, Fault>,
     ys: &[i32],
     text: &[u8],
 ) -> io::Result<()> {
     match answer {
-        FileWritten::Length(f) => {
+        Ok(f) => {
             let n = f.length;
             output.write_all(b"ok ")?;
             output.print(n)?;
             show_file_text(output, a, f, ys, text)?;
             show_touched_text(output, text, n)
         }
-        FileWritten::Refused(f) => {
+        Err(f) => {
             report::print_refused(output, f.number, f.place)?;
             report::end_line(output)?;
             show_touched_text(output, text, 0)

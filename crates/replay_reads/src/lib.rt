@@ -1,19 +1,19 @@
 // The cases of `replay` that are read: tables and files, and old ones, which are converted first (second/README.md, "The stored cases").
 #![tactic(auto)]
 
-use file_spec::FileRead;
 use replay_input::{Asked, take_bytes};
 use replay_show::{FILL, READ, show_file, show_read};
 use std::io;
 use std::io::{Print, Read};
-use terms::TableRead;
 use text::refusal_in;
+use terms::Refusal;
+use file_spec::FileTable;
 
 // Room for the bytes of a body or a file.
 const BYTES: usize = 4096;
 
 // Reads the table, or refusal 0 if this program has too little room.
-fn read_table(a: Asked, body: &[u8], out: &mut [i32]) -> TableRead {
+fn read_table(a: Asked, body: &[u8], out: &mut [i32]) -> Result<usize, Refusal> {
     let count = a.count;
     let room = a.room;
     if count <= body.len() {
@@ -27,11 +27,11 @@ fn read_table(a: Asked, body: &[u8], out: &mut [i32]) -> TableRead {
             );
         }
     }
-    TableRead::Refused(refusal_in(body, 0, 0))
+    Err(refusal_in(body, 0, 0))
 }
 
 // Reads the file, or refusal 0 if this program has too little room.
-fn read_file(a: Asked, file: &[u8], out: &mut [i32]) -> FileRead {
+fn read_file(a: Asked, file: &[u8], out: &mut [i32]) -> Result<FileTable, Refusal> {
     let count = a.count;
     let room = a.room;
     if count <= file.len() {
@@ -39,7 +39,7 @@ fn read_file(a: Asked, file: &[u8], out: &mut [i32]) -> FileRead {
             return file::read_file(&file[0..count], &mut out[0..room]);
         }
     }
-    FileRead::Refused(refusal_in(file, 0, 0))
+    Err(refusal_in(file, 0, 0))
 }
 
 // Reads a body, and shows the answer.

@@ -1,10 +1,10 @@
 // What `replay` prints of the answers of readers, and whether lent memory was touched: it is filled first, and a line `touched` tells that an entry past the answer was altered.
 #![tactic(auto)]
 
-use file_spec::{FileRead, FileTable};
+use file_spec::FileTable;
 use std::io;
 use std::io::Print;
-use terms::{Refusal, TableRead};
+use terms::Refusal;
 
 // Room for the ordinates of a table or a file that is read.
 pub const READ: usize = 4096;
@@ -52,15 +52,15 @@ fn show_refusal(output: &impl Print, r: Refusal) -> io::Result<()> {
 }
 
 // The answer to a body: `ok`, the points and the ordinates, or the refusal.
-pub fn show_read(output: &impl Print, answer: TableRead, out: &[i32; READ]) -> io::Result<()> {
+pub fn show_read(output: &impl Print, answer: Result<usize, Refusal>, out: &[i32; READ]) -> io::Result<()> {
     match answer {
-        TableRead::Accepted(n) => {
+        Ok(n) => {
             output.write_all(b"ok ")?;
             output.print(n)?;
             show_points(output, out, n)?;
             show_touched(output, out, n)
         }
-        TableRead::Refused(r) => {
+        Err(r) => {
             show_refusal(output, r)?;
             show_touched(output, out, 0)
         }
@@ -80,10 +80,10 @@ fn show_table(output: &impl Print, table: FileTable, out: &[i32; READ]) -> io::R
 }
 
 // The answer to a file: its table, or the refusal.
-pub fn show_file(output: &impl Print, answer: FileRead, out: &[i32; READ]) -> io::Result<()> {
+pub fn show_file(output: &impl Print, answer: Result<FileTable, Refusal>, out: &[i32; READ]) -> io::Result<()> {
     match answer {
-        FileRead::Accepted(table) => show_table(output, table, out),
-        FileRead::Refused(r) => {
+        Ok(table) => show_table(output, table, out),
+        Err(r) => {
             show_refusal(output, r)?;
             show_touched(output, out, 0)
         }

@@ -7,7 +7,7 @@ use replay_show::show_touched_text;
 use std::io;
 use std::io::{Print, Read};
 use table_spec::Style;
-use terms::{Fault, TableWritten};
+use terms::{Fault, Reason};
 
 // The text in the first n bytes: whether it reads back, and from the next line on itself.
 fn show_text(output: &impl Print, a: Asked, ys: &[i32], text: &[u8], n: usize) -> io::Result<()> {
@@ -26,18 +26,18 @@ fn show_text(output: &impl Print, a: Asked, ys: &[i32], text: &[u8], n: usize) -
 fn show_written(
     output: &impl Print,
     a: Asked,
-    answer: TableWritten,
+    answer: Result<usize, Fault>,
     ys: &[i32],
     text: &[u8],
 ) -> io::Result<()> {
     match answer {
-        TableWritten::Length(n) => {
+        Ok(n) => {
             output.write_all(b"ok ")?;
             output.print(n)?;
             show_text(output, a, ys, text, n)?;
             show_touched_text(output, text, n)
         }
-        TableWritten::Refused(f) => {
+        Err(f) => {
             report::print_refused(output, f.number, f.place)?;
             report::end_line(output)?;
             show_touched_text(output, text, 0)
@@ -46,7 +46,7 @@ fn show_written(
 }
 
 // Writes the table, or refusal 0 if this program has too little room.
-fn write_form(style: Style, a: Asked, ys: &[i32], text: &mut [u8]) -> TableWritten {
+fn write_form(style: Style, a: Asked, ys: &[i32], text: &mut [u8]) -> Result<usize, Fault> {
     let count = a.count;
     let room = a.room;
     if count <= ys.len() {
@@ -61,7 +61,7 @@ fn write_form(style: Style, a: Asked, ys: &[i32], text: &mut [u8]) -> TableWritt
             );
         }
     }
-    TableWritten::Refused(Fault::new(0, 0))
+    Err(Fault::new(Reason::0, 0))
 }
 
 // A table to write in a form: its ordinates follow.

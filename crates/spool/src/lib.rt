@@ -4,8 +4,9 @@
 ghost use Rattle.std.specs.Prelude.{◌≡◌};
 ghost use Rattle.night_spec.specs.Spool.{record_at};
 
-use night_spec::Spooled;
 use spool_record::record_at;
+use label_spec::Span;
+use terms::Fault;
 
 // The walker: the spool, and how far it has come (01, "Code places and their forms"). Its functions are thin: each takes it apart and leaves the work to one on slice and number.
 #[derive(Drop)]
@@ -22,14 +23,14 @@ pub fn placed<'a>(spool: &'a [u8], at: usize) -> Walker<'a>
 }
 
 // What stands where the walker is, where so many files may still come.
-pub fn next<'a>(w: Walker<'a>, left: usize) -> Spooled
+pub fn next<'a>(w: Walker<'a>, left: usize) -> Result<Option<Span>, Fault>
     ensures { result ≡ record_at left w.entry.spool.now w.entry.at }
 {
     record_at(w.spool, w.at, left)
 }
 
 // The same for callers with a slice and a number, who need no walk by hand.
-pub fn next_record(spool: &[u8], at: usize, left: usize) -> Spooled
+pub fn next_record(spool: &[u8], at: usize, left: usize) -> Result<Option<Span>, Fault>
     ensures { result ≡ record_at left spool.now at }
 {
     next(placed(spool, at), left)

@@ -7,10 +7,10 @@ use native.Mathlib.Nat.{add-zero}
 use lib.ListN.{length, get_or, drop, length-append, length-drop}
 use lib.Seq.{get_or-drop, drop-drop, take_at, drop_at}
 use Rattle.night_spec.specs.Spool.{most_files, record_at, length_at, part, spool_from, spool_of, files_of, end_of, record_for, spool_for, Spoolable}
-use Rattle.night_spec.specs.declared.Spooled.TheVariants as spooled
-use Rattle.night_spec.specs.declared.Ending.TheVariants as ending
 use Rattle.spool_record.proofs.RecordLaws.{record_over, record_file}
 use Rattle.spool_record.proofs.SpoolLaws.{spool_over, spool_file}
+use Rattle.std.specs.Prelude.{Some, Ok}
+use Rattle.label_spec.specs.Parts.{span_of}
 
 -- three bytes hold a length below 2^24
 three_bytes : (n : ℕ) → n < 16777216 → n / 65536 * 65536 + n / 256 % 256 * 256 + n % 256 ≡ n
@@ -30,7 +30,7 @@ module _ (s : List ℕ) (p : ℕ) (f t : List ℕ) (e : drop p s ≡ record_for 
   size : length_at s p ≡ length f
   size = rw (byte 2, byte 3, byte 4) (three_bytes (length f) h)
 
-  stands : (left : ℕ) → 0 < left → spooled.File (p + 5) (p + 5 + length f) ≡ record_at left s p
+  stands : (left : ℕ) → 0 < left → Ok (Some (span_of (p + 5) (p + 5 + length f))) ≡ record_at left s p
   stands left l =
       let y = long in let z = size in
       sym (rw (sym size) (record_file left s p (omega (arith, y)) (λ n. omega (arith, l, n)) (omega (arith, y)) first (byte 1) (omega (arith, y, z))))
@@ -42,7 +42,7 @@ module _ (s : List ℕ) (p : ℕ) (f t : List ℕ) (e : drop p s ≡ record_for 
   after = sym (drop-drop (length f) (p + 5) s) ∙ ap (drop (length f)) (sym (drop-drop 5 p s) ∙ ap (drop 5) e) ∙ drop_at f t (length f) refl
 
 walks : (fs : List (List ℕ)) (left : ℕ) (s : List ℕ) (p : ℕ) → length fs ≤ left → Spoolable fs → drop p s ≡ spool_for fs
-    → (files_of (spool_from left s p) ≡ fs) × (end_of (spool_from left s p) ≡ ending.Whole)
+    → (files_of (spool_from left s p) ≡ fs) × (end_of (spool_from left s p) ≡ Ok tt)
 unfolding spool_for Spoolable files_of end_of
 walks [] left s p h g e =
     let z = sym (length-drop p s) ∙ ap length e in let o = spool_over left s p (sym (record_over left s p (omega (arith, z)))) in (rw o refl, rw o refl)
@@ -51,5 +51,5 @@ walks (f ∷ fs) left s p h g e =
     let r = walks fs (left - 1) s (p + 5 + length f) (omega (arith, h)) g.1 (after s p f t e g.0) in
     (rw (o, inside s p f t e g.0) (ap (λ l. f ∷ l) r.0), rw o r.1)
 
-pub spooled_back : (fs : List (List ℕ)) → length fs ≤ most_files → Spoolable fs → (files_of (spool_of (spool_for fs)) ≡ fs) × (end_of (spool_of (spool_for fs)) ≡ ending.Whole)
+pub spooled_back : (fs : List (List ℕ)) → length fs ≤ most_files → Spoolable fs → (files_of (spool_of (spool_for fs)) ≡ fs) × (end_of (spool_of (spool_for fs)) ≡ Ok tt)
 spooled_back fs h g = walks fs most_files (spool_for fs) 0 h g refl

@@ -5,10 +5,11 @@ use Prim.Native.Nat.{ℕ, ◌+◌, ◌-◌, ◌≤◌, ◌<◌}
 use lib.ListN.{length, get_or}
 use borrow.Author.Tests.{le-leb, lt-leb, le-ltb, lt-ltb, eq-eqb, ne_eqb}
 use Rattle.night_spec.specs.Spool.{record_at, length_at, refused_at}
-use Rattle.night_spec.specs.declared.Spooled.TheVariants as spooled
+use Rattle.std.specs.Prelude.{Some, None, Ok}
+use Rattle.label_spec.specs.Parts.{span_of}
 
 module _ (left : ℕ) (s : List ℕ) (p : ℕ) where
-  pub record_over : length s ≤ p → record_at left s p ≡ spooled.Over
+  pub record_over : length s ≤ p → record_at left s p ≡ Ok None
   unfolding record_at
   record_over h = rw (le-leb (length s) p h) refl
 
@@ -46,7 +47,7 @@ module _ (left : ℕ) (s : List ℕ) (p : ℕ) where
                       (length s - p - 5) h,
                 ) refl
 
-            pub record_file : length_at s p ≤ length s - p - 5 → record_at left s p ≡ spooled.File (p + 5) (p + 5 + length_at s p)
+            pub record_file : length_at s p ≤ length s - p - 5 → record_at left s p ≡ Ok (Some (span_of (p + 5) (p + 5 + length_at s p)))
             unfolding record_at
             record_file h =
                 rw (

@@ -9,17 +9,18 @@ use borrow.Author.Tests.{leb-true, leb-false, ltb-true, ltb-false, eqb-true, eqb
 use Rattle.terms.specs.Logic.{by_case}
 use Rattle.terms.specs.declared.Fault.{Fault}
 use Rattle.night_spec.specs.Spool.{record_at, length_at, part, over, stopped, file, spool_from}
-use Rattle.night_spec.specs.declared.Spooled.{Spooled}
-use Rattle.night_spec.specs.declared.Spooled.TheVariants as spooled
 use Rattle.spool_record.proofs.RecordLaws.{record_over, record_full, record_short, record_first, record_second, record_long, record_file}
+use Rattle.std.specs.Prelude.{Option, Some, None, Result, Ok, Err}
+use Rattle.label_spec.specs.declared.Span.{Span}
+use Rattle.label_spec.specs.Parts.{span_of}
 
 -- ---- a record is a part of the spool
 
 -- a file stands within the spool, and only where one may still come
-abbrev pub RecordIn : ℕ → ℕ → Spooled → Type 0
-RecordIn len left spooled.Over = Unit {0}
-RecordIn len left (spooled.Refused r) = Unit {0}
-RecordIn len left (spooled.File a b) = (a ≤ b) × (b ≤ len) × (0 < left)
+abbrev pub RecordIn : ℕ → ℕ → Result (Option Span) Fault → Type 0
+RecordIn len left (Ok None) = Unit {0}
+RecordIn len left (Err r) = Unit {0}
+RecordIn len left (Ok (Some x)) = (x.from ≤ x.to) × (x.to ≤ len) × (0 < left)
 
 module _ (left : ℕ) (s : List ℕ) (p : ℕ) where
   abbrev In : Type 0
@@ -51,22 +52,22 @@ module _ (left : ℕ) (s : List ℕ) (p : ℕ) where
       (λ _ e. let l = leb-false (length s) p e in
       by_case (λ q. eqb left 0 ≡ q → In) (eqb left 0) (λ _ f. rw (record_full left s p l (eqb-true left 0 f)) tt) (λ _ f. in_some l (eqb-false left 0 f)) refl) refl
 
-  pub file_in : {a b : ℕ} → spooled.File a b ≡ record_at left s p → (a ≤ b) × (b ≤ length s) × (0 < left)
+  pub file_in : {a b : ℕ} → Ok (Some (span_of a b)) ≡ record_at left s p → (a ≤ b) × (b ≤ length s) × (0 < left)
   file_in {a} {b} e = rw (sym e) at record_in_lem
 
 -- ---- the spool from a place on
 
-pub spool_over : (left : ℕ) (s : List ℕ) (p : ℕ) → spooled.Over ≡ record_at left s p → spool_from left s p ≡ over
+pub spool_over : (left : ℕ) (s : List ℕ) (p : ℕ) → Ok None ≡ record_at left s p → spool_from left s p ≡ over
 unfolding spool_from
 spool_over zero s p e = rw (sym e) refl
 spool_over (suc left) s p e = rw (sym e) refl
 
-pub spool_stopped : (left : ℕ) (s : List ℕ) (p : ℕ) (r : Fault) → spooled.Refused r ≡ record_at left s p → spool_from left s p ≡ stopped r
+pub spool_stopped : (left : ℕ) (s : List ℕ) (p : ℕ) (r : Fault) → Err r ≡ record_at left s p → spool_from left s p ≡ stopped r
 unfolding spool_from
 spool_stopped zero s p r e = rw (sym e) refl
 spool_stopped (suc left) s p r e = rw (sym e) refl
 
-pub spool_file : (left : ℕ) (s : List ℕ) (p a b : ℕ) → spooled.File a b ≡ record_at left s p → spool_from left s p ≡ file (part s a b) (spool_from (left - 1) s b)
+pub spool_file : (left : ℕ) (s : List ℕ) (p a b : ℕ) → Ok (Some (span_of a b)) ≡ record_at left s p → spool_from left s p ≡ file (part s a b) (spool_from (left - 1) s b)
 unfolding spool_from
 spool_file zero s p a b e = let z = file_in zero s p e in absurd (omega (arith, z.2))
 spool_file (suc left) s p a b e = let z : suc left - 1 ≡ left = omega arith in rw (sym e, z) refl

@@ -4,8 +4,8 @@
 ghost use Rattle.std.specs.Prelude.{◌≡◌, ◌+◌, ◌<◌, ◌≤◌, length};
 ghost use Rattle.night_spec.specs.Spool.{record_at, length_at, refused_at};
 
-use night_spec::Spooled;
 use terms::Fault;
+use label_spec::Span;
 
 // A byte as a number.
 fn wide(b: u8) -> usize
@@ -26,19 +26,19 @@ fn length_at(s: &[u8], at: usize) -> usize
 }
 
 // The refusal of a spool.
-fn refused(number: u64, place: usize) -> Spooled
+fn refused(number: u64, place: usize) -> Result<Option<Span>, Fault>
     ensures { result ≡ refused_at number place }
 {
-    Spooled::Refused(Fault::new(number, place))
+    Err(Fault::new(number, place))
 }
 
 // What stands at a place of a spool, where so many files may still come.
-pub fn record_at(s: &[u8], at: usize, left: usize) -> Spooled
+pub fn record_at(s: &[u8], at: usize, left: usize) -> Result<Option<Span>, Fault>
     ensures { result ≡ record_at left s.now at }
 {
     let len = s.len();
     if len <= at {
-        return Spooled::Over;
+        return Ok(None);
     }
     if left == 0 {
         return refused(36, at);
@@ -59,5 +59,5 @@ pub fn record_at(s: &[u8], at: usize, left: usize) -> Spooled
     }
     let from = at + 5;
     let to = from + size;
-    Spooled::File { from, to }
+    Ok(Some(Span { from, to }))
 }

@@ -1,12 +1,10 @@
 -- A damaged line is caught: the theorem. Assumes nothing.
-use Rattle.std.specs.Prelude.{◌≡◌, ℕ, ◌≤◌, ℤ, length}
+use Rattle.std.specs.Prelude.{◌≡◌, ℕ, ◌≤◌, ℤ, length, Result, Ok, Err}
 use Rattle.std.proofs.Math.Path.{refl, sym, ap}
 use Rattle.std.proofs.Common.{◌∙◌, subst}
 use Rattle.std.proofs.Math.Bool.{true}
 use mathlib.Core.List.{List, [], ◌∷◌, ◌++◌}
 use Rattle.terms.specs.Refusals.{refusal_in}
-use Rattle.terms.specs.declared.TableRead.{TableRead}
-use Rattle.terms.specs.declared.TableRead.TheVariants.{Accepted, Refused}
 use Rattle.table_spec.specs.Frame.{Rules, rules, longest_body, abscissa}
 use Rattle.table_spec.specs.Values.{Own, after}
 use Rattle.table_spec.specs.Reading.{fresh, tokens, Answer, refuse, accept, push, judge, long_line, sooner, read, read_table, stored}
@@ -19,6 +17,7 @@ use Rattle.table_damage.specs.Moved.{alike_tokens}
 use Rattle.table_damage.specs.Lines.{onto, place_after, lines_then, push_accept, at, Caught}
 use Rattle.table_damage.proofs.Lines.{next_fails}
 use Rattle.table_damage.specs.Damage.{next_value, Exchanged}
+use Rattle.terms.specs.declared.Refusal.{Refusal}
 
 module _ (R : Rules) where
   -- in what a body says
@@ -50,21 +49,21 @@ module _ (f l : ℤ) (n : ℕ) (out : List ℤ) where
   abbrev R : Rules
   R = rules (abscissa f) (abscissa l) n
 
-  abbrev Accepting : TableRead → Type 0
-  Accepting (Accepted k) = Unit {0}
-  Accepting (Refused r) = ⊥
+  abbrev Accepting : Result ℕ Refusal → Type 0
+  Accepting (Ok k) = Unit {0}
+  Accepting (Err r) = ⊥
 
-  accepts : (s : List ℕ) (k : ℕ) (a : Answer) → read_table f l n s (length out) ≡ a → Accepted k ≡ told n s a → (zs : List ℕ) × (read_table f l n s (length out) ≡ accept zs)
+  accepts : (s : List ℕ) (k : ℕ) (a : Answer) → read_table f l n s (length out) ≡ a → Ok k ≡ told n s a → (zs : List ℕ) × (read_table f l n s (length out) ≡ accept zs)
   accepts s k (refuse c b) e h = absurd (subst Accepting h tt)
   accepts s k (accept zs) e h = (zs, e)
 
   -- THE THEOREM. A body that the reader accepts, of the lines ws, the line x and the rest m, with the line y in x's place, within the length limit of a body: the reader
   -- refuses it with 10, at the first value of the next line that is neither blank nor comment, with its line and column, and no entry of the lent slice is altered.
-  pub damaged_line_caught : (ws : List (List ℕ)) (x y m : List ℕ) (out₁ out₂ : List ℤ) (k : ℕ) (r : TableRead) → Exchanged R ws x y
-      → TableSays f l n (onto (ws ++ x ∷ []) m) out out₁ (Accepted k)
+  pub damaged_line_caught : (ws : List (List ℕ)) (x y m : List ℕ) (out₁ out₂ : List ℤ) (k : ℕ) (r : Result ℕ Refusal) → Exchanged R ws x y
+      → TableSays f l n (onto (ws ++ x ∷ []) m) out out₁ (Ok k)
       → length (onto (ws ++ y ∷ []) m) ≤ longest_body
       → TableSays f l n (onto (ws ++ y ∷ []) m) out out₂ r
-      → (c : ℕ) × (next_value R (ws ++ y ∷ []) m ≡ at c) × (r ≡ Refused (refusal_in (onto (ws ++ y ∷ []) m) 10 c)) × (out₂ ≡ out)
+      → (c : ℕ) × (next_value R (ws ++ y ∷ []) m ≡ at c) × (r ≡ Err (refusal_in (onto (ws ++ y ∷ []) m) 10 c)) × (out₂ ≡ out)
   unfolding stored
   damaged_line_caught ws x y m out₁ out₂ k r d old short new =
       let sx = onto (ws ++ x ∷ []) m in

@@ -3,26 +3,20 @@
 
 ghost use Rattle.table_given.specs.Checks.{Checks};
 
-use frame::{Frame, Framed};
-
-// What the tests before writing answer: a legal frame, with an ordinate for each of its points, or the number of a refusal.
-#[derive(Drop)]
-pub enum Checked {
-    Taken(Frame),
-    Refused(u64),
-}
+use frame::Frame;
+use terms::Reason;
 
 // The tests before writing: a legal frame (1), then as many ordinates as points (2).
-pub fn check(first: i64, last: i64, points: usize, ordinates: &[i32]) -> Checked
+pub fn check(first: i64, last: i64, points: usize, ordinates: &[i32]) -> Result<Frame, Reason>
     ensures { Checks first last points ordinates.now result }
 {
     match Frame::new(first, last, points) {
-        Framed::Outside => Checked::Refused(1),
-        Framed::Legal(fr) => {
+        None => Err(Reason::OutsideLimits),
+        Some(fr) => {
             if ordinates.len() < points {
-                return Checked::Refused(2);
+                return Err(Reason::LittleRoom);
             }
-            Checked::Taken(fr)
+            Ok(fr)
         }
     }
 }

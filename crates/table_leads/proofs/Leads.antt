@@ -16,9 +16,9 @@ use Rattle.byte_entry.specs.Ranged.{ruled}
 use Rattle.alphabet.specs.Standing.{standing, entry_stands, within_in, digit_stands}
 use Rattle.alphabet.specs.Ran.{Ran, start, taken, joined}
 use Rattle.table_numbers.specs.Numbers.{NumberAt}
-use Rattle.table_numbers.specs.declared.NumberRead.TheVariants.{Read}
 use Rattle.table_numbers.proofs.NumberLaws.{further_nine, packed_token, plain_number, signed_number, own_digit, own_sqz, own_sign}
 use Rattle.table_leads.specs.Leads.{falls, LeadAt}
+use Rattle.std.specs.Prelude.{Some}
 
 -- ---- a letter
 
@@ -111,7 +111,7 @@ module _ (s : List ℕ) (i : ℕ) {b : ℕ} (h : i < length s) (g : b ≡ standi
         digit = omega arith;
         near = omega arith;
         token = λ w k r f.
-            let q = r.low in let m : NumberAt s i (entry_at s i) w k = plain_number s i (entry_at s i) refl l o n (Read w k) (one_more (omega arith) g t r, omega arith, f) in
+            let q = r.low in let m : NumberAt s i (entry_at s i) w k = plain_number s i (entry_at s i) refl l o n (Some (w, k)) (one_more (omega arith) g t r, omega arith, f) in
             let u : entry_at s i / 16 % 4 ≡ 0 = omega arith in let v = rw (own_digit (entry_at s i) w l, u) at m.token in
             rw (ne_eqb b 45 (λ x. omega arith), lt-leb 97 b (omega arith)) v;
       }
@@ -124,6 +124,6 @@ module _ (s : List ℕ) (i : ℕ) {b : ℕ} (h : i < length s) (g : b ≡ standi
         digit = omega arith;
         near = omega arith;
         token = λ w k r f.
-            let q = r.low in let m : NumberAt s i (entry b) w k = signed_number s i (entry b) (sym e) z.low z.high (Read w k) (one_more (omega arith) g' t r, omega arith, f) in
+            let q = r.low in let m : NumberAt s i (entry b) w k = signed_number s i (entry b) (sym e) z.low z.high (Some (w, k)) (one_more (omega arith) g' t r, omega arith, f) in
             rw (← z.sign) (rw (own_sign (entry b) w z.low z.high) at m.token);
       }

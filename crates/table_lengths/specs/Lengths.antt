@@ -1,10 +1,8 @@
 -- What the functions that look for a long line ensure (02, T-06). Assumes nothing.
-use Rattle.std.specs.Prelude.{◌≡◌, Bool, true, false, List, ℕ, suc, ◌+◌, ◌-◌, ◌≤◌, ◌<◌, eqb, length, drop, get_or}
+use Rattle.std.specs.Prelude.{◌≡◌, Bool, true, false, List, ℕ, suc, ◌+◌, ◌-◌, ◌≤◌, ◌<◌, eqb, length, drop, get_or, Option, Some, None}
 use Rattle.terms.specs.Logic.{both}
 use Rattle.table_spec.specs.Frame.{longest_line}
 use Rattle.table_spec.specs.Reading.{LongLine, all_short, long_at, long_line}
-use Rattle.table_lengths.specs.declared.LongLine.{LongLine as Shown}
-use Rattle.table_lengths.specs.declared.LongLine.TheVariants as shown
 
 -- the last LF among the 81 bytes from a place on stands directly before r; r is the place itself if there is none
 pub record LastLf (s : List ℕ) (at r : ℕ) : Type 0 where
@@ -29,6 +27,6 @@ pub record NextLine (s : List ℕ) (at r : ℕ) : Type 0 where
   pub long : r ≡ at → long_from s at ≡ long_at at
 
 -- the code's answer
-abbrev pub shown_long : LongLine → Shown
-shown_long all_short = shown.AllShort
-shown_long (long_at a) = shown.At a
+abbrev pub shown_long : LongLine → Option ℕ
+shown_long all_short = None
+shown_long (long_at a) = Some a

@@ -10,13 +10,6 @@ ghost use Rattle.table_lengths.specs.Lengths.{LastLf, ends_there, NextLine, show
 use frame::Frame;
 use text::byte_at;
 
-// Where the first line over 80 bytes begins, if there is one.
-#[derive(Drop)]
-pub enum LongLine {
-    AllShort,
-    At(usize),
-}
-
 // The place after the last LF among the 81 bytes from a place on; the place itself if none is there.
 fn past_last_lf(s: &[u8], at: usize) -> usize
     requires { at + longest_line < length s.now }
@@ -55,16 +48,16 @@ fn next_line(s: &[u8], at: usize) -> usize
 }
 
 // Where the first line over 80 bytes of a body begins.
-pub fn long_line(s: &[u8]) -> LongLine
+pub fn long_line(s: &[u8]) -> Option<usize>
     ensures { result ≡ shown_long (long_line true 0 s.now) }
 {
     let mut at: usize = 0;
     while s.len() - at > Frame::LONGEST_LINE {
         let next = next_line(s, at);
         if next == at {
-            return LongLine::At(at);
+            return Some(at);
         }
         at = next;
     }
-    LongLine::AllShort
+    None
 }

@@ -14,7 +14,7 @@ use Rattle.table_spec.specs.Values.{Value, own, value_of, room}
 use Rattle.table_spec.specs.Reading.{Tokens, Mode, inner, valued, inside, step, bare}
 use Rattle.table_lines.specs.Seen.{behind, here, seen_step}
 use Rattle.table_lines.specs.Ends.{Blanked, Ended}
-use Rattle.table_lines.specs.declared.Ending.TheVariants.{Next, Bad}
+use Rattle.std.specs.Prelude.{Some, None}
 
 bare_valued : (K : ℕ → Mode → Tokens) (a : ℕ) (f : ℕ → Value) (x : Run) → bare (valued K a f x) ≡ false
 bare_valued K a f long = refl
@@ -42,8 +42,8 @@ bare_value s at b h l =
     let e = at_entry s b i in
     sym (ap bare (h.within ∙ seen_step s b (inner (behind s b)) i) ∙ bare_inside _ b _ (behind s b) (kind tabs_too (get_or s b 0)) (rw e at l) (λ x. h.stops (e ∙ x)))
 
-pub bare_end : (s : List ℕ) (at b j : ℕ) → Blanked s at b → Ended s b (Next j) → true ≡ bare (here s at)
+pub bare_end : (s : List ℕ) (at b j : ℕ) → Blanked s at b → Ended s b (Some j) → true ≡ bare (here s at)
 bare_end s at b j h e = sym (ap bare (h.within ∙ e.within (behind s b)))
 
-pub bare_bad : (s : List ℕ) (at b : ℕ) → Blanked s at b → Ended s b Bad → false ≡ bare (here s at)
+pub bare_bad : (s : List ℕ) (at b : ℕ) → Blanked s at b → Ended s b None → false ≡ bare (here s at)
 bare_bad s at b h e = sym (ap bare (h.within ∙ e.1 (behind s b)))

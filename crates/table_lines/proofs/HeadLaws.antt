@@ -24,9 +24,10 @@ use Rattle.table_spec.specs.Reading.{Tokens, head, fault, Mode, fresh, inner, Re
 use Rattle.table_lines.specs.Seen.{behind, later_seen, seen_kind, seen_step, not_behind}
 use Rattle.table_lines.specs.Ends.{LineOpens}
 use Rattle.table_lines.specs.Heads.{Scaled, Pointed, Topped, Headed}
-use Rattle.table_lines.specs.declared.HeadRead.{HeadRead}
-use Rattle.table_lines.specs.declared.HeadRead.TheVariants.{Abscissa, NoHead}
 use Rattle.table_lines.proofs.LineEnds.{starts_not, starts_kind}
+use Rattle.std.specs.Prelude.{Option, Some, None}
+use Rattle.table_lines.specs.declared.Head.{Head}
+use Rattle.table_lines.specs.Parts.{head_with}
 
 -- the place after a run, with no blank behind it; after one digit or more, whatever stood before them
 clear_run : {s : List ℕ} {i v most w j e : ℕ} → Ran s i v most w j e → i < j → behind s j ≡ false
@@ -50,7 +51,7 @@ powers (suc (suc (suc zero))) h = (refl, lit< tt, lit≤ tt)
 powers (suc (suc (suc (suc k)))) h = absurd (omega arith)
 
 pub whole_only : {s : List ℕ} {i w e : ℕ} (minus : Bool) → i ≤ length s → e ≡ entry_at s i → w < 10000000 → (e ≡ 160 → ⊥)
-    → Pointed s i w minus (Abscissa (headed_at minus (w * 1000)) 1000 i)
+    → Pointed s i w minus (Some (head_with (headed_at minus (w * 1000)) 1000 i))
 unfolding pointed entry kind
 whole_only {s} {i} {w} {e} minus h g l n =
     let z : i - i ≡ 0 = omega arith in
@@ -73,7 +74,7 @@ module _ {s : List ℕ} (i : ℕ) {w f j e : ℕ} (g : entry_at s i ≡ 160) (r 
   unfolding pointed
   after_point n = rw (point_starts, drop-drop 1 i s) (ap (scaled n) (ran_is r))
 
-  pub fraction_long : (minus : Bool) → e < 16 → Pointed s i w minus NoHead
+  pub fraction_long : (minus : Bool) → e < 16 → Pointed s i w minus None
   unfolding scaled
   fraction_long minus l n = after_point n ∙ rw (lt-ltb e 16 l) refl
 
@@ -86,7 +87,7 @@ module _ {s : List ℕ} (i : ℕ) {w f j e : ℕ} (g : entry_at s i ≡ 160) (r 
       let q = mul-lt-mul_of_pos_right b (powers k x).1 in
       omega arith
 
-  pub fraction_read : (minus : Bool) → w < 10000000 → 16 ≤ e → Pointed s i w minus (Abscissa (headed_at minus (f * unit (j - (i + 1)))) (unit (j - (i + 1))) j)
+  pub fraction_read : (minus : Bool) → w < 10000000 → 16 ≤ e → Pointed s i w minus (Some (head_with (headed_at minus (f * unit (j - (i + 1)))) (unit (j - (i + 1))) j))
   unfolding scaled
   fraction_read minus l h =
       let low = r.low in let few = r.few in
@@ -110,7 +111,7 @@ small_head false g h e l = omega arith
 -- a head that begins with a digit, or with a sign: what its whole number and what follows make
 module _ (s : List ℕ) (i w j e : ℕ) (minus : Bool) (c : Byte) (h : i < length s) (k : kind_of (entry_at s i) ≡ c) (low : i < j) (cl : behind s j ≡ false)
     (f : (K : ℕ → Mode → Tokens) → opening K i (drop (suc i) s) c ≡ headed K i minus (thousandths (drop (suc i) s) (pick (ltb e 16) long (run w (j - (i + 1)))))) where
-  pub no_head : e < 16 → Headed s i NoHead
+  pub no_head : e < 16 → Headed s i None
   unfolding step thousandths
   no_head l = seen_kind s i fresh c h k ∙ f _ ∙ rw (lt-ltb e 16 l) refl
 
@@ -118,7 +119,7 @@ module _ (s : List ℕ) (i w j e : ℕ) (minus : Bool) (c : Byte) (h : i < lengt
   unfolding thousandths
   thousandths_at l = let z : suc i + (j - (i + 1)) ≡ j = omega arith in rw (le-ltb e 16 l, drop-drop (j - (i + 1)) (suc i) s, z) refl
 
-  pub no_fraction : 16 ≤ e → Pointed s j w minus NoHead → Headed s i NoHead
+  pub no_fraction : 16 ≤ e → Pointed s j w minus None → Headed s i None
   unfolding step
   no_fraction l p = seen_kind s i fresh c h k ∙ f _ ∙ rw (thousandths_at l, p (j - (i + 1))) refl
 
@@ -144,9 +145,9 @@ module _ (s : List ℕ) (i w j e : ℕ) (minus : Bool) (c : Byte) (h : i < lengt
       }
 
   -- whatever follows the whole number
-  pub headed_by : 16 ≤ e → (x : HeadRead) → Pointed s j w minus x → Headed s i x
-  headed_by l (Abscissa x u n) p = topped l p
-  headed_by l NoHead p = no_fraction l p
+  pub headed_by : 16 ≤ e → (x : Option Head) → Pointed s j w minus x → Headed s i x
+  headed_by l (Some y) p = topped l p
+  headed_by l None p = no_fraction l p
 
 -- ---- the first byte of a line
 
@@ -195,7 +196,7 @@ module _ (s : List ℕ) (i : ℕ) {w j x : ℕ} where
   unfolding opening
   sign_opens m r n K = let low = r.low in let l : 0 < j - (i + 1) = omega (arith, n) in rw (run_there s i r, some_more (ltb x 16) w (j - (i + 1)) l) refl
 
-  sign_alone : (e : ℕ) → LineOpens s i e → 128 ≤ e → Ran s (i + 1) 0 7 w j x → j ≡ i + 1 → Headed s i NoHead
+  sign_alone : (e : ℕ) → LineOpens s i e → 128 ≤ e → Ran s (i + 1) 0 7 w j x → j ≡ i + 1 → Headed s i None
   unfolding opening step thousandths
   sign_alone e o l r n =
       let z : j - (i + 1) ≡ 0 = omega arith in
@@ -216,7 +217,7 @@ opens_not K a t b cr h l k n = absurd (omega arith)
 opens_not K a t b dollar h l k n = absurd (omega arith)
 opens_not K a t b other h l k n = absurd (omega arith)
 
-pub value_first : (s : List ℕ) (i e : ℕ) → LineOpens s i e → 16 ≤ e → e < 128 → Headed s i NoHead
+pub value_first : (s : List ℕ) (i e : ℕ) → LineOpens s i e → 16 ≤ e → e < 128 → Headed s i None
 unfolding step entry
 value_first s i e o l k =
     let b = get_or s i 0 in let g = o.stands in let z = at_entry s i o.inside in
@@ -232,11 +233,11 @@ module _ (s : List ℕ) (i e : ℕ) {w j x : ℕ} (o : LineOpens s i e) where
     digit_low : i < j
     digit_low = first_low s i r (rw o.stands at l)
 
-    digit_long : x < 16 → Headed s i NoHead
+    digit_long : x < 16 → Headed s i None
     digit_long =
         no_head s i w j x false (digit e) o.inside (ap kind_of (sym o.stands) ∙ digit_kind e l) digit_low (clear_run r digit_low) (digit_opens s i e o.stands l r)
 
-    digit_headed : 16 ≤ x → (y : HeadRead) → Pointed s j w false y → Headed s i y
+    digit_headed : 16 ≤ x → (y : Option Head) → Pointed s j w false y → Headed s i y
     digit_headed =
         headed_by s i w j x false (digit e) o.inside (ap kind_of (sym o.stands) ∙ digit_kind e l) digit_low (clear_run r digit_low) (digit_opens s i e o.stands l r)
 
@@ -247,11 +248,11 @@ module _ (s : List ℕ) (i e : ℕ) {w j x : ℕ} (o : LineOpens s i e) where
     sign_clear : behind s j ≡ false
     sign_clear = clear_after r (not_behind s i (no_blank_here o))
 
-    sign_long : x < 16 → Headed s i NoHead
+    sign_long : x < 16 → Headed s i None
     sign_long =
         no_head s i w j x (leb 144 e) (sign (leb 144 e)) o.inside (ap kind_of (sym o.stands) ∙ sign_kind e l o.before_point) sign_low sign_clear (sign_opens s i (leb 144 e) r m)
 
-    sign_headed : 16 ≤ x → (y : HeadRead) → Pointed s j w (leb 144 e) y → Headed s i y
+    sign_headed : 16 ≤ x → (y : Option Head) → Pointed s j w (leb 144 e) y → Headed s i y
     sign_headed =
         headed_by s i w j x (leb 144 e) (sign (leb 144 e)) o.inside (ap kind_of (sym o.stands) ∙ sign_kind e l o.before_point) sign_low sign_clear (sign_opens s i (leb 144 e) r m)
 
@@ -274,19 +275,19 @@ module _ (s : List ℕ) (i e : ℕ) {from w j x : ℕ} (o : LineOpens s i e) (k 
   digit_first : from ≡ i → i < j → e < 16
   digit_first q l = let d = (digit_run q).all i (omega arith) l in let g = o.stands in omega arith
 
-  pub head_long : x < 16 → Headed s i NoHead
+  pub head_long : x < 16 → Headed s i None
   head_long h =
       ⊎_elim (λ q. let a = q.1 in let z = r.full h in digit_long s i e o (digit_first a (omega arith)) (digit_run a) h)
       (λ q. let a = q.1 in let z = r.full h in sign_long s i e o q.0 (sign_run a) (λ y. omega arith) h) k
 
-  pub head_alone : j ≡ from → Headed s i NoHead
+  pub head_alone : j ≡ from → Headed s i None
   head_alone n =
       ⊎_elim (λ q. let a = q.1 in
-      by_case (λ t. ltb e 16 ≡ t → Headed s i NoHead) (ltb e 16) (λ _ y. let m = digit_low s i e o (ltb-true e 16 y) (digit_run a) in absurd (omega arith))
+      by_case (λ t. ltb e 16 ≡ t → Headed s i None) (ltb e 16) (λ _ y. let m = digit_low s i e o (ltb-true e 16 y) (digit_run a) in absurd (omega arith))
       (λ _ y. value_first s i e o (ltb-false e 16 y) q.0) refl)
       (λ q. let a = q.1 in sign_alone s i e o q.0 (sign_run a) (omega arith)) k
 
-  pub head_headed : 16 ≤ x → (j ≡ from → ⊥) → (y : HeadRead) → Pointed s j w (leb 144 e) y → Headed s i y
+  pub head_headed : 16 ≤ x → (j ≡ from → ⊥) → (y : Option Head) → Pointed s j w (leb 144 e) y → Headed s i y
   head_headed h n y p =
       ⊎_elim (λ q. let a = q.1 in let b = r.low in let l = q.0 in
       digit_headed s i e o (digit_first a (omega (arith, n))) (digit_run a) h y (rw (lt-leb 144 e (omega arith)) at p))

@@ -18,7 +18,7 @@ use Rattle.alphabet_spec.proofs.EntryLaws.{entry_in, entry_end, at_entry, at_kin
 use Rattle.table_spec.specs.Reading.{Tokens, over, fault, line, comment, starts, Ending as EndRead, ends, none, ending, Mode, fresh, inner, ended, opening, inside, step, stop}
 use Rattle.table_lines.specs.Seen.{seen, later, behind, here, seen_end, later_seen, later_none, seen_kind, byte_back}
 use Rattle.table_lines.specs.Ends.{Commented, end_of, end_at, Ended}
-use Rattle.table_lines.specs.declared.Ending.TheVariants.{Next, Bad}
+use Rattle.std.specs.Prelude.{Some, None}
 
 -- what holds at each place from i up to r, and at r
 pub place_more : (P : ℕ → Type 0) {i r : ℕ} → ((k : ℕ) → i ≤ k → k < r → P k) → P r → (k : ℕ) → i ≤ k → k < r + 1 → P k
@@ -72,7 +72,7 @@ unfolding end_at
 end_is s i c h k e = rw (lt-ltb i (length s) h, at_kind s i h ∙ k, e) refl
 
 module _ (s : List ℕ) (i : ℕ) (c : Byte) (f : Ends c) (h : i < length s) (k : kind_of (entry_at s i) ≡ c) where
-  ends_there : (j : ℕ) → suc i ≤ j → j ≤ length s → ending c (drop (suc i) s) ≡ ends (j - suc i) → Ended s i (Next j)
+  ends_there : (j : ℕ) → suc i ≤ j → j ≤ length s → ending c (drop (suc i) s) ≡ ends (j - suc i) → Ended s i (Some j)
   unfolding step
   ends_there j l m e =
       let z : suc i + (j - suc i) ≡ j = omega arith in
@@ -82,10 +82,10 @@ module _ (s : List ℕ) (i : ℕ) (c : Byte) (f : Ends c) (h : i < length s) (k 
         moves = λ _. l;
         before = seen_kind s i fresh c h k ∙ f.0 _ i _ ∙ rw e (later_seen s (suc i) j fresh l m);
         within = λ q. seen_kind s i (inner q) c h k ∙ f.1 _ i _ q ∙ rw e (ap line (later_seen s (suc i) j fresh l m));
-        is = end_is s i c h k e ∙ ap Next z;
+        is = end_is s i c h k e ∙ ap Some z;
       }
 
-  ends_not : ending c (drop (suc i) s) ≡ none → Ended s i Bad
+  ends_not : ending c (drop (suc i) s) ≡ none → Ended s i None
   unfolding step
   ends_not e = (seen_kind s i fresh c h k ∙ f.0 _ i _ ∙ rw e refl, λ q. seen_kind s i (inner q) c h k ∙ f.1 _ i _ q ∙ rw e refl, end_is s i c h k e)
 
@@ -114,7 +114,7 @@ starts_not s i b n =
 pub starts_kind : (s : List ℕ) (i b e : ℕ) (c : Byte) → entry_at s i ≡ e → e < 256 → kind_of e ≡ c → (Back tabs_too (get_or s i 0) c → get_or s i 0 ≡ b) → starts b (drop i s) ≡ true
 starts_kind s i b e c h l k f = let g = inside_text s i e h l in starts_with s i b g (f (byte_back s i c g (ap kind_of h ∙ k)))
 
-pub end_over : (s : List ℕ) (i : ℕ) → i ≤ length s → entry_at s i ≡ 256 → Ended s i (Next i)
+pub end_over : (s : List ℕ) (i : ℕ) → i ≤ length s → entry_at s i ≡ 256 → Ended s i (Some i)
 unfolding stop end_at
 end_over s i l e =
     let z = entry_end s i e in let f : i ≡ length s = omega arith in
@@ -127,13 +127,13 @@ end_over s i l e =
       is = rw (le-ltb i (length s) z) refl;
     }
 
-pub end_lf : (s : List ℕ) (i : ℕ) → entry_at s i ≡ 176 → Ended s i (Next (i + 1))
+pub end_lf : (s : List ℕ) (i : ℕ) → entry_at s i ≡ 176 → Ended s i (Some (i + 1))
 unfolding ending
 end_lf s i e =
     let h = inside_text s i 176 e (omega arith) in let z : i + 1 - suc i ≡ 0 = omega arith in
     ends_there s i lf lf_ends h (ap kind_of e) (i + 1) (omega arith) (omega arith) (rw z refl)
 
-pub end_cr : (s : List ℕ) (i : ℕ) → entry_at s i ≡ 192 → entry_at s (i + 1) ≡ 176 → Ended s i (Next (i + 1 + 1))
+pub end_cr : (s : List ℕ) (i : ℕ) → entry_at s i ≡ 192 → entry_at s (i + 1) ≡ 176 → Ended s i (Some (i + 1 + 1))
 unfolding ending
 end_cr s i e f =
     let h = inside_text s i 192 e (omega arith) in
@@ -142,7 +142,7 @@ end_cr s i e f =
     let y : starts 10 (drop (suc i) s) ≡ true = rw (add-one i) at (starts_kind s (i + 1) 10 176 lf f (omega arith) refl (λ x. x)) in
     ends_there s i cr cr_ends h (ap kind_of e) (i + 1 + 1) (omega arith) (omega arith) (rw (z, y) refl)
 
-pub end_comment : (s : List ℕ) (i r : ℕ) → entry_at s i ≡ 208 → entry_at s (i + 1) ≡ 208 → Commented s (i + 1 + 1) r → Ended s i (Next r)
+pub end_comment : (s : List ℕ) (i r : ℕ) → entry_at s i ≡ 208 → entry_at s (i + 1) ≡ 208 → Commented s (i + 1 + 1) r → Ended s i (Some r)
 unfolding ending
 end_comment s i r e f k =
     let h = inside_text s i 208 e (omega arith) in
@@ -151,13 +151,13 @@ end_comment s i r e f k =
     let z : suc (r - (i + 1 + 1)) ≡ r - suc i = let x = k.low in omega arith in
     ends_there s i dollar dollar_ends h (ap kind_of e) r (let x = k.low in omega arith) k.high (rw (y, drop-drop 1 (suc i) s, d, k.is, z) refl)
 
-pub end_no_cr : (s : List ℕ) (i : ℕ) → entry_at s i ≡ 192 → (entry_at s (i + 1) ≡ 176 → ⊥) → Ended s i Bad
+pub end_no_cr : (s : List ℕ) (i : ℕ) → entry_at s i ≡ 192 → (entry_at s (i + 1) ≡ 176 → ⊥) → Ended s i None
 unfolding ending entry kind
 end_no_cr s i e n =
     let y : starts 10 (drop (suc i) s) ≡ false = rw (add-one i) at (starts_not s (i + 1) 10 n) in
     ends_not s i cr cr_ends (inside_text s i 192 e (omega arith)) (ap kind_of e) (rw y refl)
 
-pub end_no_dollar : (s : List ℕ) (i : ℕ) → entry_at s i ≡ 208 → (entry_at s (i + 1) ≡ 208 → ⊥) → Ended s i Bad
+pub end_no_dollar : (s : List ℕ) (i : ℕ) → entry_at s i ≡ 208 → (entry_at s (i + 1) ≡ 208 → ⊥) → Ended s i None
 unfolding ending entry kind
 end_no_dollar s i e n =
     let y : starts 36 (drop (suc i) s) ≡ false = rw (add-one i) at (starts_not s (i + 1) 36 n) in
@@ -192,7 +192,7 @@ unfolding ending
 bad_ending t true = refl
 bad_ending t false = refl
 
-pub end_bad : (s : List ℕ) (i : ℕ) → 160 ≤ entry_at s i → (entry_at s i ≡ 256 → ⊥) → (entry_at s i ≡ 176 → ⊥) → (entry_at s i ≡ 192 → ⊥) → (entry_at s i ≡ 208 → ⊥) → Ended s i Bad
+pub end_bad : (s : List ℕ) (i : ℕ) → 160 ≤ entry_at s i → (entry_at s i ≡ 256 → ⊥) → (entry_at s i ≡ 176 → ⊥) → (entry_at s i ≡ 192 → ⊥) → (entry_at s i ≡ 208 → ⊥) → Ended s i None
 end_bad s i l a b c d =
     let k = kind_bad (entry_at s i) l b c d in let h = entry_in s i a in
     let z = bad_step (later s (suc i)) i (drop (suc i) s) (eqb (entry_at s i) 160) in

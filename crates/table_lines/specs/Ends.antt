@@ -1,13 +1,11 @@
 -- What the functions on blanks, comments and ends of lines ensure. Assumes nothing.
-use Rattle.std.specs.Prelude.{◌≡◌, Bool, List, ℕ, suc, ◌+◌, ◌-◌, ◌<◌, ◌≤◌, ltb, length, get_or, drop}
+use Rattle.std.specs.Prelude.{◌≡◌, Bool, List, ℕ, suc, ◌+◌, ◌-◌, ◌<◌, ◌≤◌, ltb, length, get_or, drop, Option, Some, None}
 use Rattle.terms.specs.Logic.{pick}
 use Rattle.alphabet_spec.specs.Kinds.{tabs_too}
 use Rattle.alphabet_spec.specs.Bytes.{kind}
 use Rattle.alphabet_spec.specs.Entries.{entry_at}
 use Rattle.table_spec.specs.Reading.{Ending as EndRead, ends, none, ending, over, fault, line, comment, fresh, inner}
 use Rattle.table_lines.specs.Seen.{seen, here}
-use Rattle.table_lines.specs.declared.Ending.{Ending}
-use Rattle.table_lines.specs.declared.Ending.TheVariants.{Next, Bad}
 use Rattle.table_lines.specs.declared.Start.{Start}
 use Rattle.table_lines.specs.declared.Start.TheVariants as start
 
@@ -27,13 +25,13 @@ pub record Commented (s : List ℕ) (i r : ℕ) : Type 0 where
   pub is : comment (drop i s) ≡ r - i
 
 -- a line's end whose first byte stands at i, as the code answers it: the place after all its bytes
-abbrev pub end_of : ℕ → EndRead → Ending
-end_of i (ends n) = Next (suc i + n)
-end_of i none = Bad
+abbrev pub end_of : ℕ → EndRead → Option ℕ
+end_of i (ends n) = Some (suc i + n)
+end_of i none = None
 
 -- 01, "Lines end with LF or CR LF; the end of the body also ends one": what stands at the place i, by the definition of reading, is the one answer there
-unfoldable pub end_at : List ℕ → ℕ → Ending
-end_at s i = pick (ltb i (length s)) (end_of i (ending (kind tabs_too (get_or s i 0)) (drop (suc i) s))) (Next i)
+unfoldable pub end_at : List ℕ → ℕ → Option ℕ
+end_at s i = pick (ltb i (length s)) (end_of i (ending (kind tabs_too (get_or s i 0)) (drop (suc i) s))) (Some i)
 
 -- a line's end stands at i, and the next line at j, which is further on but at the end of the body: before a head the line is passed over, within a line it is the line's end
 pub record LineOver (s : List ℕ) (i j : ℕ) : Type 0 where
@@ -42,12 +40,12 @@ pub record LineOver (s : List ℕ) (i j : ℕ) : Type 0 where
   pub moves : i < length s → i < j
   pub before : seen s i fresh ≡ seen s j fresh
   pub within : (q : Bool) → seen s i (inner q) ≡ line (seen s j fresh)
-  pub is : end_at s i ≡ Next j
+  pub is : end_at s i ≡ Some j
 
 -- that; or a byte that cannot stand there
-abbrev pub Ended : List ℕ → ℕ → Ending → Type 0
-Ended s i (Next j) = LineOver s i j
-Ended s i Bad = (seen s i fresh ≡ fault 3 i) × ((q : Bool) → seen s i (inner q) ≡ fault 3 i) × (end_at s i ≡ Bad)
+abbrev pub Ended : List ℕ → ℕ → Option ℕ → Type 0
+Ended s i (Some j) = LineOver s i j
+Ended s i None = (seen s i fresh ≡ fault 3 i) × ((q : Bool) → seen s i (inner q) ≡ fault 3 i) × (end_at s i ≡ None)
 
 -- a line's first token stands at the place j: the entry e there is below a point's (160), and no blank's (112)
 pub record LineOpens (s : List ℕ) (j e : ℕ) : Type 0 where

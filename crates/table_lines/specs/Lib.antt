@@ -1,4 +1,5 @@
-pub mod Seen
 pub mod Ends
 pub mod Heads
+pub mod Parts
+pub mod Seen
 pub mod Unique

@@ -1,5 +1,5 @@
 -- The public functions on lines have one answer each (01, "What the contracts say"): two that meet a contract on one text, at one place, are equal. Assumes nothing.
-use Rattle.std.specs.Prelude.{◌≡◌, refl, Bool, false, List, ℕ, suc, ◌-◌, ◌<◌, get_or, drop}
+use Rattle.std.specs.Prelude.{◌≡◌, refl, Bool, false, List, ℕ, suc, ◌-◌, ◌<◌, get_or, drop, Option, Some, None}
 use Rattle.std.proofs.Common.{sym, ap, ◌∙◌, arith}
 use Rattle.terms.specs.Logic.{zero_one}
 use Rattle.alphabet_spec.specs.Kinds.{tabs_too}
@@ -11,12 +11,10 @@ use Rattle.table_spec.specs.Reading.{Tokens, over, fault, head, HeadDigits, no_h
 use Rattle.table_lines.specs.Seen.{seen, seen_step}
 use Rattle.table_lines.specs.Ends.{Blanked, Ended, Started}
 use Rattle.table_lines.specs.Heads.{Topped, Headed}
-use Rattle.table_lines.specs.declared.Ending.{Ending}
-use Rattle.table_lines.specs.declared.Ending.TheVariants.{Next, Bad}
 use Rattle.table_lines.specs.declared.Start.{Start}
 use Rattle.table_lines.specs.declared.Start.TheVariants as start
-use Rattle.table_lines.specs.declared.HeadRead.{HeadRead}
-use Rattle.table_lines.specs.declared.HeadRead.TheVariants.{Abscissa, NoHead}
+use Rattle.table_lines.specs.declared.Head.{Head}
+use Rattle.table_lines.specs.Parts.{head_with}
 
 -- ---- blanks
 
@@ -28,11 +26,11 @@ blanks_unique {r = r} {q} x y = let f : r < q → ⊥ = no_further x y in let g 
 
 -- ---- line_end
 
-pub line_end_unique : (s : List ℕ) (i : ℕ) (x y : Ending) → Ended s i x → Ended s i y → x ≡ y
-line_end_unique s i (Next j) (Next k) a b = sym a.is ∙ b.is
-line_end_unique s i (Next j) Bad a b = sym a.is ∙ b.2
-line_end_unique s i Bad (Next k) a b = sym a.2 ∙ b.is
-line_end_unique s i Bad Bad a b = refl
+pub line_end_unique : (s : List ℕ) (i : ℕ) (x y : Option ℕ) → Ended s i x → Ended s i y → x ≡ y
+line_end_unique s i (Some j) (Some k) a b = sym a.is ∙ b.is
+line_end_unique s i (Some j) None a b = sym a.is ∙ b.2
+line_end_unique s i None (Some k) a b = sym a.2 ∙ b.is
+line_end_unique s i None None a b = refl
 
 -- ---- row_start: the first token that is left shows its place
 
@@ -93,15 +91,15 @@ row_start_unique s i (start.Bad j) (start.Bad k) a b = ap start.Bad (ap place (s
 
 -- ---- head: its bytes are so many
 
-topped_same : {s : List ℕ} {i h u j g v k : ℕ} → Topped s i h u j → Topped s i g v k → Abscissa h u j ≡ Abscissa g v k
+topped_same : {s : List ℕ} {i h u j g v k : ℕ} → Topped s i h u j → Topped s i g v k → Some (head_with h u j) ≡ Some (head_with g v k)
 topped_same {i = i} {h} {u} {j} {g} {v} {k} x y =
     let z = sym (x.bytes (λ n m. over n)) ∙ y.bytes (λ n m. over n) in
     let a : h ≡ g = cc in let d : u ≡ v = cc in let b : j - suc i ≡ k - suc i = cc in
     let l = x.low in let m = y.low in let c : j ≡ k = omega arith in
     rw (a, d, c) refl
 
-pub head_unique : (s : List ℕ) (i : ℕ) (x y : HeadRead) → Headed s i x → Headed s i y → x ≡ y
-head_unique s i (Abscissa h u j) (Abscissa g v k) a b = topped_same a b
-head_unique s i (Abscissa h u j) NoHead a b = let z = sym a.law ∙ b in zero_one cc
-head_unique s i NoHead (Abscissa g v k) a b = let z = sym b.law ∙ a in zero_one cc
-head_unique s i NoHead NoHead a b = refl
+pub head_unique : (s : List ℕ) (i : ℕ) (x y : Option Head) → Headed s i x → Headed s i y → x ≡ y
+head_unique s i (Some x) (Some y) a b = topped_same a b
+head_unique s i (Some x) None a b = let z = sym a.law ∙ b in zero_one cc
+head_unique s i None (Some x) a b = let z = sym b.law ∙ a in zero_one cc
+head_unique s i None None a b = refl

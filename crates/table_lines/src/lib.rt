@@ -6,22 +6,13 @@ ghost use Rattle.alphabet_spec.specs.Entries.{entry_at};
 ghost use Rattle.alphabet.specs.Standing.{«standing»};
 ghost use Rattle.table_spec.specs.Values.{headed_at};
 ghost use Rattle.table_spec.specs.Reading.{bare, unit};
-ghost use Rattle.table_lines.specs.declared.HeadRead.{HeadRead};
 ghost use Rattle.table_lines.specs.Seen.{here};
 ghost use Rattle.table_lines.specs.Ends.{Blanked, Commented, Ended, LineOpens, Started};
 ghost use Rattle.table_lines.specs.Heads.{Pointed, Headed};
+ghost use Rattle.table_lines.specs.Parts.{head_with};
 
-use alphabet::{
-    CR, DOLLAR, END, LF, MINUS, PLUS, POINT, Run, digits, entry_at, entry_there, is_blank,
-    is_digit, standing,
-};
-
-// Where a line's end stands: the place of the next line, or that none stands there.
-#[derive(Drop)]
-pub enum Ending {
-    Next(usize),
-    Bad,
-}
+use alphabet::{CR, DOLLAR, END, LF, MINUS, PLUS, POINT, Run, digits, entry_at, entry_there, is_blank, is_digit, standing};
+use plain_expand::Next;
 
 // The next line that is not passed over: the place of its first token and the entry there; the end of the body; or a byte that cannot stand there.
 #[derive(Drop)]
@@ -31,11 +22,12 @@ pub enum Start {
     Bad(usize),
 }
 
-// A head: its abscissa plus 10,000,000,000, what its last written place is worth in thousandths, and the place after it; or what is no head.
-#[derive(Drop)]
-pub enum HeadRead {
-    Abscissa(u64, u64, usize),
-    NoHead,
+// A head: its abscissa plus 10,000,000,000, what its last written place is worth in thousandths, and the place after it.
+#[derive(Clone, Copy, Debug, PartialEq, Eq)]
+pub struct Head {
+    pub abscissa: u64,
+    pub unit: u64,
+    pub at: usize,
 }
 
 // The first place from here on where no blank stands.
@@ -67,30 +59,30 @@ fn comment(s: &[u8], from: usize) -> usize
 }
 
 // What stands at a place whose entry e is a point's or above: a line's end, a comment counted in, or a byte that cannot stand there.
-pub fn line_end(s: &[u8], at: usize, e: u64) -> Ending
+pub fn line_end(s: &[u8], at: usize, e: u64) -> Option<usize>
     requires { (at ≤ length s.now) × (e ≡ entry_at s.now at) × (160 ≤ e) }
     ensures { Ended s.now at result }
 {
     if e == END {
-        return Ending::Next(at);
+        return Some(at);
     }
     let next = at + 1;
     if e == LF {
-        return Ending::Next(next);
+        return Some(next);
     }
     if e == CR {
         if entry_at(s, next) == LF {
-            return Ending::Next(next + 1);
+            return Some(next + 1);
         }
-        return Ending::Bad;
+        return None;
     }
     if e == DOLLAR {
         if entry_at(s, next) == DOLLAR {
-            return Ending::Next(comment(s, next + 1));
+            return Some(comment(s, next + 1));
         }
-        return Ending::Bad;
+        return None;
     }
-    Ending::Bad
+    None
 }
 
 // The start of the next line that is not passed over.
@@ -109,10 +101,10 @@ pub fn row_start(s: &[u8], from: usize) -> Start
             return Start::End;
         }
         match line_end(s, at, e) {
-            Ending::Next(j) => {
+            Some(j) => {
                 at = j;
             }
-            Ending::Bad => {
+            None => {
                 return Start::Bad(at);
             }
         }
@@ -130,8 +122,8 @@ pub fn bare_line(s: &[u8], at: usize) -> bool
         return false;
     }
     match line_end(s, b, e) {
-        Ending::Next(_) => true,
-        Ending::Bad => false,
+        Some(_) => true,
+        None => false,
     }
 }
 
@@ -149,21 +141,21 @@ fn worth(n: usize) -> u64
 }
 
 // A head of so many thousandths, with its unit.
-fn abscissa(minus: bool, size: u64, unit: u64, at: usize) -> HeadRead
+fn abscissa(minus: bool, size: u64, unit: u64, at: usize) -> Option<Head>
     requires { size ≤ 9999999999 }
-    ensures { result ≡ HeadRead.Abscissa (headed_at minus size) unit at }
+    ensures { result ≡ Some (head_with (headed_at minus size) unit at) }
 {
     if minus {
-        return HeadRead::Abscissa(10000000000 - size, unit, at);
+        return Some(Head { abscissa: 10000000000 - size, unit, at });
     }
-    HeadRead::Abscissa(10000000000 + size, unit, at)
+    Some(Head { abscissa: 10000000000 + size, unit, at })
 }
 
 // The byte of a point.
 const FULL_STOP: u64 = 46;
 
 // After the whole number of a head, which was read as w: perhaps a point and at most three digits.
-fn fraction(s: &[u8], w: Run, minus: bool) -> HeadRead
+fn fraction(s: &[u8], w: Run, minus: bool) -> Option<Head>
     requires { (w.at ≤ length s.now) × (w.b ≡ standing s.now w.at) × (w.v < 10000000) × (16 ≤ entry_at s.now w.at) }
     ensures { Pointed s.now w.at w.v minus result }
 {
@@ -175,7 +167,7 @@ fn fraction(s: &[u8], w: Run, minus: bool) -> HeadRead
     let next = at + 1;
     let f = digits(s, next, v, 3);
     if is_digit(f.b) {
-        return HeadRead::NoHead;
+        return None;
     }
     let end = f.at;
     let unit = worth(end - next);
@@ -184,17 +176,17 @@ fn fraction(s: &[u8], w: Run, minus: bool) -> HeadRead
 }
 
 // The head at a place whose entry is e: one to seven digits, perhaps a sign before them, and perhaps a fraction.
-pub fn head(s: &[u8], at: usize, e: u64) -> HeadRead
+pub fn head(s: &[u8], at: usize, e: u64) -> Option<Head>
     requires { LineOpens s.now at e }
     ensures { Headed s.now at result }
 {
     let from = if e < PLUS { at } else { at + 1 };
     let w = digits(s, from, 0, 7);
     if is_digit(w.b) {
-        return HeadRead::NoHead;
+        return None;
     }
     if w.at == from {
-        return HeadRead::NoHead;
+        return None;
     }
     fraction(s, w, e >= MINUS)
 }

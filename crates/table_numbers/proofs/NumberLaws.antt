@@ -24,8 +24,7 @@ use Rattle.table_spec.specs.Reading.{Tokens, value, fault, Mode, inner, valued, 
 use Rattle.table_lines.specs.Seen.{behind, here, later_seen, later_none, seen_kind, byte_back, not_behind}
 use Rattle.table_lines.proofs.HeadLaws.{clear_after, digit_kind, sign_kind, some_more, some_none, run_there}
 use Rattle.table_numbers.specs.Numbers.{lead_of, most, value_at, below, Clear, Token, Numbered, Plain}
-use Rattle.table_numbers.specs.declared.NumberRead.{NumberRead}
-use Rattle.table_numbers.specs.declared.NumberRead.TheVariants.{Read, Misspelled}
+use Rattle.std.specs.Prelude.{Option, Some, None}
 
 -- ---- entries of pseudo-digits
 
@@ -160,10 +159,10 @@ module _ (s : List ℕ) (i e : ℕ) (g : e ≡ entry_at s i) (l : 16 ≤ e) (h :
     unfolding inside
     lead_opens K = rw (← z, run_there s i r) refl
 
-    pub packed_long : f < 16 → Numbered s i e Misspelled
+    pub packed_long : f < 16 → Numbered s i e None
     packed_long = run_long s i w (lead (lead_of e) (e % 16)) (value_of (lead_of e)) lead_in lead_here (λ x. omega arith) (omega arith) (followed s i r) lead_opens
 
-    pub packed_token : 16 ≤ f → Numbered s i e (Read w j)
+    pub packed_token : 16 ≤ f → Numbered s i e (Some (w, j))
     packed_token k =
         let b = lead_fits m z in let y = ran_below r in
         let x = run_token s i w (lead (lead_of e) (e % 16)) (value_of (lead_of e)) lead_in lead_here (λ x. omega arith) (omega arith) (followed s i r) lead_opens k in
@@ -185,22 +184,22 @@ module _ (s : List ℕ) (i e : ℕ) (g : e ≡ entry_at s i) (l : 128 ≤ e) (h 
   unfolding inside
   sign_opens n K = let low = r.low in let b : 0 < j - (i + 1) = omega (arith, n) in rw (run_there s i r, some_more (ltb f 16) w (j - (i + 1)) b) refl
 
-  sign_alone : j ≡ i + 1 → Numbered s i e Misspelled
+  sign_alone : j ≡ i + 1 → Numbered s i e None
   unfolding inside step
   sign_alone n = let z : j - (i + 1) ≡ 0 = omega arith in seen_kind s i (inner (behind s i)) (sign (leb 144 e)) sign_in sign_here ∙ rw (run_there s i r, z, some_none (ltb f 16) w) refl
 
-  signed_long : (j ≡ i + 1 → ⊥) → f < 16 → Numbered s i e Misspelled
+  signed_long : (j ≡ i + 1 → ⊥) → f < 16 → Numbered s i e None
   signed_long n = run_long s i w (sign (leb 144 e)) (own (leb 144 e)) sign_in sign_here (λ x. omega arith) (omega arith) (followed s i r) (sign_opens n)
 
-  signed_token : (j ≡ i + 1 → ⊥) → 16 ≤ f → Numbered s i e (Read w j)
+  signed_token : (j ≡ i + 1 → ⊥) → 16 ≤ f → Numbered s i e (Some (w, j))
   signed_token n k =
       let y = ran_below r in
       let x = run_token s i w (sign (leb 144 e)) (own (leb 144 e)) sign_in sign_here (λ x. omega arith) (omega arith) (followed s i r) (sign_opens n) k in
       record { small = rw (le-ltb e 16 (omega arith), le-ltb e 32 (omega arith)) (omega arith); token = rw (own_at w) x; digits = r.all; over = rw r.stands at k }
 
-pub signed_number : (s : List ℕ) (i e : ℕ) → e ≡ entry_at s i → 128 ≤ e → e < 160 → (x : NumberRead) → Plain s (i + 1) x → Numbered s i e x
-signed_number s i e g l h (Read v j) p = let k = p.1 in signed_token s i e g l h p.0 (λ y. omega arith) p.2
-signed_number s i e g l h Misspelled p = ⊎_elim (sign_alone s i e g l h p.run) (λ y. let z = p.run.full y in signed_long s i e g l h p.run (λ q. omega arith) y) p.wrong
+pub signed_number : (s : List ℕ) (i e : ℕ) → e ≡ entry_at s i → 128 ≤ e → e < 160 → (x : Option (ℕ × ℕ)) → Plain s (i + 1) x → Numbered s i e x
+signed_number s i e g l h (Some (v, j)) p = let k = p.1 in signed_token s i e g l h p.0 (λ y. omega arith) p.2
+signed_number s i e g l h None p = ⊎_elim (sign_alone s i e g l h p.run) (λ y. let z = p.run.full y in signed_long s i e g l h p.run (λ q. omega arith) y) p.wrong
 
 -- ---- the first digit of a run, and those after it
 
@@ -230,7 +229,7 @@ module _ (s : List ℕ) (i e : ℕ) (g : e ≡ entry_at s i) (l : e < 16) where
   unfolding behind
   behind_is t o n = rw (ne_eqb i 0 (λ x. omega arith)) n
 
-  pub digit_late : 0 < i → (entry_at s (i - 1) ≡ 112 → ⊥) → Numbered s i e Misspelled
+  pub digit_late : 0 < i → (entry_at s (i - 1) ≡ 112 → ⊥) → Numbered s i e None
   unfolding inside step
   digit_late o n = seen_kind s i (inner (behind s i)) (digit e) digit_here.0 digit_kind_here ∙ rw (behind_is false o (ne_eqb (entry_at s (i - 1)) 112 n)) refl
 
@@ -239,18 +238,18 @@ module _ (s : List ℕ) (i e : ℕ) (g : e ≡ entry_at s i) (l : e < 16) where
     unfolding inside
     digit_opens K = rw (behind_is true o (eq-eqb (entry_at s (i - 1)) 112 n), g, first_there s i r (rw g at l)) refl
 
-    plain_long : f < 16 → Numbered s i e Misspelled
+    plain_long : f < 16 → Numbered s i e None
     plain_long = run_long s i w (digit e) (own false) digit_here.0 digit_kind_here (λ x. omega arith) (omega arith) (first_followed s i r (rw g at l)) digit_opens
 
-    plain_token : 16 ≤ f → Numbered s i e (Read w j)
+    plain_token : 16 ≤ f → Numbered s i e (Some (w, j))
     plain_token k =
         let y = ran_below r in let z = first_followed s i r (rw g at l) in
         let x = run_token s i w (digit e) (own false) digit_here.0 digit_kind_here (λ x. omega arith) (omega arith) z digit_opens k in
         record { small = rw (lt-ltb e 16 l) (omega arith); token = rw (lt-ltb e 16 l) x; digits = z.all; over = rw r.stands at k }
 
-  pub plain_number : 0 < i → entry_at s (i - 1) ≡ 112 → (x : NumberRead) → Plain s i x → Numbered s i e x
-  plain_number o n (Read v j) p = plain_token o n p.0 p.2
-  plain_number o n Misspelled p = ⊎_elim (λ y. let z = first_low s i p.run (rw g at l) in absurd (omega arith)) (plain_long o n p.run) p.wrong
+  pub plain_number : 0 < i → entry_at s (i - 1) ≡ 112 → (x : Option (ℕ × ℕ)) → Plain s i x → Numbered s i e x
+  plain_number o n (Some (v, j)) p = plain_token o n p.0 p.2
+  plain_number o n None p = ⊎_elim (λ y. let z = first_low s i p.run (rw g at l) in absurd (omega arith)) (plain_long o n p.run) p.wrong
 
 -- ---- a missing ordinate
 

@@ -1,5 +1,5 @@
 -- What reading a number of a value ensures (01, "Values"). Assumes nothing.
-use Rattle.std.specs.Prelude.{◌≡◌, true, false, List, ◌⊎◌, ℕ, ◌+◌, ◌%◌, ◌<◌, ◌≤◌, ltb, leb, length}
+use Rattle.std.specs.Prelude.{◌≡◌, true, false, List, ◌⊎◌, ℕ, ◌+◌, ◌%◌, ◌<◌, ◌≤◌, ltb, leb, length, Option, Some, None}
 use Rattle.terms.specs.Logic.{pick}
 use Rattle.alphabet_spec.specs.Kinds.{Lead, sqz, dif, dup}
 use Rattle.alphabet_spec.specs.Entries.{entry_at}
@@ -7,8 +7,6 @@ use Rattle.alphabet.specs.Ran.{AllDigits, Ran}
 use Rattle.table_spec.specs.Values.{Value, own, room, value_of}
 use Rattle.table_spec.specs.Reading.{value, fault}
 use Rattle.table_lines.specs.Seen.{here}
-use Rattle.table_numbers.specs.declared.NumberRead.{NumberRead}
-use Rattle.table_numbers.specs.declared.NumberRead.TheVariants.{Read, Misspelled}
 
 -- the kind of value that a pseudo-digit's entry begins
 abbrev pub lead_of : ℕ → Lead
@@ -45,9 +43,9 @@ pub record NumberAt (s : List ℕ) (i e v j : ℕ) : Type 0 where
   pub over : 16 ≤ entry_at s j
 
 -- a number was read; or it is misspelled
-abbrev pub Numbered : List ℕ → ℕ → ℕ → NumberRead → Type 0
-Numbered s i e (Read v j) = NumberAt s i e v j
-Numbered s i e Misspelled = here s i ≡ fault 5 i
+abbrev pub Numbered : List ℕ → ℕ → ℕ → Option (ℕ × ℕ) → Type 0
+Numbered s i e (Some (v, j)) = NumberAt s i e v j
+Numbered s i e None = here s i ≡ fault 5 i
 
 -- ten digits at most are taken from the place i on: there is none, or one too many
 pub record NotPlain (s : List ℕ) (i : ℕ) : Type 0 where
@@ -57,6 +55,6 @@ pub record NotPlain (s : List ℕ) (i : ℕ) : Type 0 where
   pub wrong : place ≡ i ⊎ entry_at s place < 16
 
 -- the number v of the digits from the place i up to j, where no digit stands; or it is misspelled
-abbrev pub Plain : List ℕ → ℕ → NumberRead → Type 0
-Plain s i (Read v j) = Ran s i 0 10 v j (entry_at s j) × (i < j) × (16 ≤ entry_at s j)
-Plain s i Misspelled = NotPlain s i
+abbrev pub Plain : List ℕ → ℕ → Option (ℕ × ℕ) → Type 0
+Plain s i (Some (v, j)) = Ran s i 0 10 v j (entry_at s j) × (i < j) × (16 ≤ entry_at s j)
+Plain s i None = NotPlain s i

@@ -1,12 +1,10 @@
 -- Reading a number has one answer (01, "What the contracts say"): two that meet the contract on one text, at one place, are equal. Assumes nothing.
-use Rattle.std.specs.Prelude.{◌≡◌, refl, false, List, ℕ, ◌+◌, ◌≤◌, ◌<◌, ltb, leb}
+use Rattle.std.specs.Prelude.{◌≡◌, refl, false, List, ℕ, ◌+◌, ◌≤◌, ◌<◌, ltb, leb, Option, Some, None}
 use Rattle.std.proofs.Common.{sym, ap, ◌∙◌, arith}
 use Rattle.terms.specs.Logic.{pick, by_case, zero_one}
 use Rattle.alphabet_spec.specs.Kinds.{Lead, sqz, dif, dup}
 use Rattle.table_spec.specs.Values.{Value, own, gap, by, times, value_of}
 use Rattle.table_numbers.specs.Numbers.{lead_of, value_at, NumberAt, Numbered}
-use Rattle.table_numbers.specs.declared.NumberRead.{NumberRead}
-use Rattle.table_numbers.specs.declared.NumberRead.TheVariants.{Read, Misspelled}
 
 -- the number of a value
 abbrev size : Value → ℕ
@@ -30,7 +28,7 @@ no_further : {s : List ℕ} {i e v j u k : ℕ} → NumberAt s i e v j → Numbe
 no_further {i = i} {j = j} x y l =
     let a = x.token.low in let b : i + 1 ≤ j = omega arith in let d = y.digits j b l in let m = x.over in omega arith
 
-number_same : {s : List ℕ} {i e v j u k : ℕ} → NumberAt s i e v j → NumberAt s i e u k → Read v j ≡ Read u k
+number_same : {s : List ℕ} {i e v j u k : ℕ} → NumberAt s i e v j → NumberAt s i e u k → Some (v, j) ≡ Some (u, k)
 number_same {s} {i} {e} {v} {j} {u} {k} x y =
     let a : j < k → ⊥ = no_further x y in let b : k < j → ⊥ = no_further y x in let p : j ≡ k = omega (arith, a, b) in
     let z = sym x.token.law ∙ y.token.law in
@@ -38,8 +36,8 @@ number_same {s} {i} {e} {v} {j} {u} {k} x y =
     let n : v ≡ u = sym (value_size e v) ∙ ap size q ∙ value_size e u in
     rw (n, p) refl
 
-pub number_unique : (s : List ℕ) (i e : ℕ) (x y : NumberRead) → Numbered s i e x → Numbered s i e y → x ≡ y
-number_unique s i e (Read v j) (Read u k) a b = number_same a b
-number_unique s i e (Read v j) Misspelled a b = let z = sym a.token.law ∙ b in zero_one cc
-number_unique s i e Misspelled (Read u k) a b = let z = sym b.token.law ∙ a in zero_one cc
-number_unique s i e Misspelled Misspelled a b = refl
+pub number_unique : (s : List ℕ) (i e : ℕ) (x y : Option (ℕ × ℕ)) → Numbered s i e x → Numbered s i e y → x ≡ y
+number_unique s i e (Some (v, j)) (Some (u, k)) a b = number_same a b
+number_unique s i e (Some (v, j)) None a b = let z = sym a.token.law ∙ b in zero_one cc
+number_unique s i e None (Some (u, k)) a b = let z = sym b.token.law ∙ a in zero_one cc
+number_unique s i e None None a b = refl

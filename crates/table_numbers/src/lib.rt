@@ -7,13 +7,6 @@ ghost use Rattle.table_numbers.specs.Numbers.{«most», Plain, Numbered};
 
 use alphabet::{DIF, KIND, PAST_DIGITS, PLUS, digits, is_blank, is_digit, standing};
 
-// A number and the place after it; or one that is misspelled.
-#[derive(Drop)]
-pub enum NumberRead {
-    Read(u64, usize),
-    Misspelled,
-}
-
 // How many digits may follow the pseudo-digit with the entry e: nine, four for DUP, none after @ and %.
 fn further(e: u64) -> usize
     ensures { result ≡ most e }
@@ -28,28 +21,28 @@ fn further(e: u64) -> usize
 }
 
 // The number of the digits from a place on, at most ten: misspelled if there is none, or one too many.
-fn plain(s: &[u8], from: usize) -> NumberRead
+fn plain(s: &[u8], from: usize) -> Option<(u64, usize)>
     requires { from ≤ length s.now }
     ensures { Plain s.now from result }
 {
     let r = digits(s, from, 0, 10);
     if is_digit(r.b) {
-        return NumberRead::Misspelled;
+        return None;
     }
     if r.at == from {
-        return NumberRead::Misspelled;
+        return None;
     }
-    NumberRead::Read(r.v, r.at)
+    Some((r.v, r.at))
 }
 
 // The number of the value at a place whose entry is e, below a point's, and neither `?` nor a blank: a digit directly after a blank, a pseudo-digit or a sign, and the digits that follow.
-pub fn number(s: &[u8], at: usize, e: u64) -> NumberRead
+pub fn number(s: &[u8], at: usize, e: u64) -> Option<(u64, usize)>
     requires { (e ≡ entry_at s.now at) × (e < 160) × (0 < at) × (e < 96 ⊎ 128 ≤ e) }
     ensures { Numbered s.now at e result }
 {
     if e < PAST_DIGITS {
         if !is_blank(standing(s, at - 1)) {
-            return NumberRead::Misspelled;
+            return None;
         }
         return plain(s, at);
     }
@@ -59,7 +52,7 @@ pub fn number(s: &[u8], at: usize, e: u64) -> NumberRead
     }
     let r = digits(s, next, e % KIND, further(e));
     if is_digit(r.b) {
-        return NumberRead::Misspelled;
+        return None;
     }
-    NumberRead::Read(r.v, r.at)
+    Some((r.v, r.at))
 }

@@ -11,15 +11,15 @@ use Rattle.table_spec.specs.Values.{Spot, first, after, index}
 use Rattle.table_spec.specs.Reading.{fresh, inner, bare, dif_before, checked, judge}
 use Rattle.table_lines.specs.Seen.{seen, here}
 use Rattle.table_lines.specs.Heads.{Topped, Headed}
-use Rattle.table_lines.specs.declared.HeadRead.TheVariants.{NoHead}
 use Rattle.table_value.specs.LineValues.{judged, line_says, line_judge}
 use Rattle.table_values.specs.Lines.{last_at, Lined}
 use Rattle.table_value.specs.States.{Holds, opening, checking}
 use Rattle.table_values.specs.declared.Row.{Row}
-use Rattle.table_values.specs.declared.LineRead.{LineRead}
-use Rattle.table_values.specs.declared.LineRead.TheVariants as linewise
 use Rattle.frame.specs.declared.Frame.{Frame}
 use Rattle.table_pass.specs.Rows.{frame_rules, Between, LineSays}
+use Rattle.std.specs.Prelude.{None, Result, Ok, Err}
+use Rattle.terms.specs.declared.Fault.{Fault}
+use Rattle.terms.specs.Refusals.{fault_at}
 
 -- ---- how the states fit together
 
@@ -36,7 +36,7 @@ line_end_state p (after h) e f g = record { form = sym f; last = λ x. (sym e, g
 -- ---- the head
 
 module _ (fr : Frame) (s : List ℕ) (r : Row) (at : ℕ) where
-  pub line_four : Headed s at NoHead → (out out' : List ℤ) → LineSays (frame_rules fr) s r at out out' (linewise.Refused 4 at)
+  pub line_four : Headed s at None → (out out' : List ℤ) → LineSays (frame_rules fr) s r at out out' (Err (fault_at 4 at))
   unfolding judge
   line_four h out out' p w b = rw h refl
 
@@ -49,12 +49,12 @@ module _ (fr : Frame) (s : List ℕ) (r : Row) (at : ℕ) where
     unfolding judge
     line_checked p w b = rw (t.law, b.form) refl
 
-    pub line_six : passes fr.first fr.last fr.points h u (index r.dif r.k) ≡ false → (out out' : List ℤ) → LineSays (frame_rules fr) s r at out out' (linewise.Refused 6 at)
+    pub line_six : passes fr.first fr.last fr.points h u (index r.dif r.k) ≡ false → (out out' : List ℤ) → LineSays (frame_rules fr) s r at out out' (Err (fault_at 6 at))
     unfolding checked
     line_six e out out' p w b = line_checked p w b ∙ rw e refl
 
     module _ (e : passes fr.first fr.last fr.points h u (index r.dif r.k) ≡ true) where
-      pub line_seven : bare (here s j) ≡ true → (out out' : List ℤ) → LineSays (frame_rules fr) s r at out out' (linewise.Refused 7 at)
+      pub line_seven : bare (here s j) ≡ true → (out out' : List ℤ) → LineSays (frame_rules fr) s r at out out' (Err (fault_at 7 at))
       unfolding checked
       line_seven g out out' p w b = line_checked p w b ∙ rw (e, sym bare_here ∙ g) refl
 
@@ -75,10 +75,10 @@ module _ (fr : Frame) (s : List ℕ) (r : Row) (at : ℕ) where
           line_valued p w b = line_opened p w b ∙ line_judge (frame_rules fr) (here s j) r.k p (first r.dif)
 
           -- whatever the values answer
-          pub line_read : (out out' : List ℤ) (x : LineRead) → Lined fr.points s j r.k want out out' x → LineSays (frame_rules fr) s r at out out' x
+          pub line_read : (out out' : List ℤ) (x : Result Row Fault) → Lined fr.points s j r.k want out out' x → LineSays (frame_rules fr) s r at out out' x
           unfolding judge
-          line_read out out' (linewise.Refused c a) l = λ p w b. line_valued p w b ∙ rw (l p (first r.dif) (line_starts p w b)).law refl
-          line_read out out' (linewise.Next n) l =
+          line_read out out' (Err x) l = λ p w b. line_valued p w b ∙ rw (l p (first r.dif) (line_starts p w b)).law refl
+          line_read out out' (Ok n) l =
               let a = t.low in let x = l.low in (
                 omega arith,
                 record { high = l.high; small = l.small; few = l.few },

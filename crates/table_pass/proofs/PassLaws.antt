@@ -19,9 +19,9 @@ use Rattle.table_value.proofs.Turns.{stored_then}
 use Rattle.table_spec.specs.ReadingLaws.{no_accept, push_none, push_push}
 use Rattle.table_pass.specs.Rows.{Between, Rests, LineSays, finished, passed_of, PassSays}
 use Rattle.table_values.specs.declared.Row.{Row}
-use Rattle.table_values.specs.declared.LineRead.TheVariants as linewise
-use Rattle.table_pass.specs.declared.Passed.{Passed}
-use Rattle.table_pass.specs.declared.Passed.TheVariants as passed
+use Rattle.std.specs.Prelude.{Result, Ok, Err, ⊤}
+use Rattle.terms.specs.declared.Fault.{Fault}
+use Rattle.terms.specs.Refusals.{fault_at}
 
 -- so far: reading the whole body is the points given, and reading on from here
 pub record Reached (R : Rules) (s : List ℕ) (out₀ out : List ℤ) (r : Row) : Type 0 where
@@ -57,7 +57,7 @@ module _ {R : Rules} {s : List ℕ} {out₀ out : List ℤ} {r : Row} (g : Reach
   moved_on : (j : ℕ) → seen s r.at fresh ≡ seen s j fresh → read_lines R s ≡ push g.points (judge R (seen s j fresh) r.k g.ordinate g.spot)
   moved_on j e = g.law ∙ ap (λ x. push g.points (judge R x r.k g.ordinate g.spot)) e
 
-  pub reached_next : (j : ℕ) {out' : List ℤ} {n : Row} → seen s r.at fresh ≡ seen s j fresh → LineSays R s r j out out' (linewise.Next n) → Reached R s out₀ out' n
+  pub reached_next : (j : ℕ) {out' : List ℤ} {n : Row} → seen s r.at fresh ≡ seen s j fresh → LineSays R s r j out out' (Ok n) → Reached R s out₀ out' n
   reached_next j {out' = out'} e l =
       let z = l.2 g.ordinate g.spot g.between in let c = g.count in let d = z.count in
       record {
@@ -72,14 +72,14 @@ module _ {R : Rules} {s : List ℕ} {out₀ out : List ℤ} {r : Row} (g : Reach
       }
 
   -- a refusal, of what stands here or of a line
-  refused_by : {c a : ℕ} {out' : List ℤ} → read_lines R s ≡ refuse c a → PassSays R s out₀ out' (passed.Refused c a)
+  refused_by : {c a : ℕ} {out' : List ℤ} → read_lines R s ≡ refuse c a → PassSays R s out₀ out' (Err (fault_at c a))
   refused_by e = record { says = sym (ap passed_of e); stores = λ ys h. no_accept (sym e ∙ h); count = λ ys h. no_accept (sym e ∙ h) }
 
-  pub reached_fault : {j : ℕ} → seen s r.at fresh ≡ fault 3 j → PassSays R s out₀ out (passed.Refused 3 j)
+  pub reached_fault : {j : ℕ} → seen s r.at fresh ≡ fault 3 j → PassSays R s out₀ out (Err (fault_at 3 j))
   unfolding judge push
   reached_fault e = refused_by (g.law ∙ rw e refl)
 
-  pub reached_refused : (j : ℕ) {c a : ℕ} (out' : List ℤ) → seen s r.at fresh ≡ seen s j fresh → LineSays R s r j out out' (linewise.Refused c a) → PassSays R s out₀ out' (passed.Refused c a)
+  pub reached_refused : (j : ℕ) {c a : ℕ} (out' : List ℤ) → seen s r.at fresh ≡ seen s j fresh → LineSays R s r j out out' (Err (fault_at c a)) → PassSays R s out₀ out' (Err (fault_at c a))
   unfolding push
   reached_refused j out' e l = refused_by (moved_on j e ∙ ap (push g.points) (l g.ordinate g.spot g.between))
 
@@ -89,7 +89,7 @@ module _ {R : Rules} {s : List ℕ} {out₀ out : List ℤ} {r : Row} (g : Reach
   at_end e = g.law ∙ rw (e, g.between.form) refl
 
   finish_says : (x y : Bool) (us : List ℕ) (c d : Answer) → c ≡ refuse 12 (length s) → d ≡ refuse 13 (length s)
-      → passed_of (push us (pick x c (pick y d (accept [])))) ≡ pick x (passed.Refused 12 (length s)) (pick y (passed.Refused 13 (length s)) passed.All)
+      → passed_of (push us (pick x c (pick y d (accept [])))) ≡ pick x (Err (fault_at 12 (length s))) (pick y (Err (fault_at 13 (length s))) (Ok tt))
   unfolding push
   finish_says true y us c d e f = rw e refl
   finish_says false true us c d e f = rw f refl
@@ -101,7 +101,7 @@ module _ {R : Rules} {s : List ℕ} {out₀ out : List ℤ} {r : Row} (g : Reach
   accepts_none false true us ys e = no_accept e
   accepts_none false false us ys e = let y : us ++ [] ≡ ys = cc in (sym (append-nil us) ∙ y, refl)
 
-  pub reached_end : {v : Passed} → seen s r.at fresh ≡ over (length s) → v ≡ finished R.points (length s) r.k r.dif → PassSays R s out₀ out v
+  pub reached_end : {v : Result ⊤ Fault} → seen s r.at fresh ≡ over (length s) → v ≡ finished R.points (length s) r.k r.dif → PassSays R s out₀ out v
   unfolding finish
   reached_end e f =
       let z = at_end e in

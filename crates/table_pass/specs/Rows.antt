@@ -1,5 +1,5 @@
 -- The state of the code between lines, and what reading a line and a body ensures. Assumes nothing.
-use Rattle.std.specs.Prelude.{◌≡◌, Bool, true, List, map, ℕ, ◌+◌, ◌<◌, ◌≤◌, ltb, ℤ, length}
+use Rattle.std.specs.Prelude.{◌≡◌, Bool, true, List, map, ℕ, ◌+◌, ◌<◌, ◌≤◌, ltb, ℤ, length, Result, Ok, Err, ⊤}
 use Rattle.std.proofs.lemmas.List.Edits.{sets}
 use Rattle.terms.specs.Logic.{pick}
 use Rattle.table_spec.specs.Frame.{Rules, rules, entry_for}
@@ -8,10 +8,8 @@ use Rattle.table_spec.specs.Reading.{fresh, Answer, refuse, accept, push, dif_be
 use Rattle.table_lines.specs.Seen.{seen}
 use Rattle.frame.specs.declared.Frame.{Frame}
 use Rattle.table_values.specs.declared.Row.{Row}
-use Rattle.table_values.specs.declared.LineRead.{LineRead}
-use Rattle.table_values.specs.declared.LineRead.TheVariants as linewise
-use Rattle.table_pass.specs.declared.Passed.{Passed}
-use Rattle.table_pass.specs.declared.Passed.TheVariants as passed
+use Rattle.terms.specs.declared.Fault.{Fault}
+use Rattle.terms.specs.Refusals.{fault_at}
 
 abbrev pub frame_rules : Frame → Rules
 frame_rules fr = rules fr.first fr.last fr.points
@@ -38,22 +36,22 @@ pub record Onward (R : Rules) (s : List ℕ) (at k p : ℕ) (w : Spot) (out out'
   pub law : judge R (seen s at fresh) k p w ≡ push points (judge R (seen s r.at fresh) r.k ordinate spot)
 
 -- a line whose head stands at the place
-abbrev pub LineSays : Rules → List ℕ → Row → ℕ → List ℤ → List ℤ → LineRead → Type 0
-LineSays R s r at out out' (linewise.Next n) =
+abbrev pub LineSays : Rules → List ℕ → Row → ℕ → List ℤ → List ℤ → Result Row Fault → Type 0
+LineSays R s r at out out' (Ok n) =
     (at < n.at) × Rests R.points s n × ((p : ℕ) (w : Spot) → Between r p w → Onward R s at r.k p w out out' n)
-LineSays R s r at out out' (linewise.Refused c a) = (p : ℕ) (w : Spot) → Between r p w → judge R (seen s at fresh) r.k p w ≡ refuse c a
+LineSays R s r at out out' (Err x) = (p : ℕ) (w : Spot) → Between r p w → judge R (seen s at fresh) r.k p w ≡ refuse x.number x.place
 
 -- the end of a body of a length, with k points given: 12, 13, or all is there
-abbrev pub finished : ℕ → ℕ → ℕ → Bool → Passed
-finished N len k dif = pick (ltb k N) (passed.Refused 12 len) (pick dif (passed.Refused 13 len) passed.All)
+abbrev pub finished : ℕ → ℕ → ℕ → Bool → Result ⊤ Fault
+finished N len k dif = pick (ltb k N) (Err (fault_at 12 len)) (pick dif (Err (fault_at 13 len)) (Ok tt))
 
 -- what the pass over a body answers
-abbrev pub passed_of : Answer → Passed
-passed_of (refuse c a) = passed.Refused c a
-passed_of (accept ys) = passed.All
+abbrev pub passed_of : Answer → Result ⊤ Fault
+passed_of (refuse c a) = Err (fault_at c a)
+passed_of (accept ys) = Ok tt
 
 -- and what it stored
-pub record PassSays (R : Rules) (s : List ℕ) (out out' : List ℤ) (r : Passed) : Type 0 where
+pub record PassSays (R : Rules) (s : List ℕ) (out out' : List ℤ) (r : Result ⊤ Fault) : Type 0 where
   pub says : r ≡ passed_of (read_lines R s)
   pub stores : (ys : List ℕ) → read_lines R s ≡ accept ys → out' ≡ sets out 0 (map entry_for ys)
   pub count : (ys : List ℕ) → read_lines R s ≡ accept ys → length ys ≡ R.points

@@ -9,15 +9,9 @@ ghost use Rattle.table_spec.specs.Values.{index};
 ghost use Rattle.table_pass.specs.Rows.{frame_rules, Rests, LineSays, finished, PassSays};
 
 use frame::Frame;
-use table_lines::{HeadRead, Start, bare_line, head, row_start};
-use table_values::{LineRead, Row, values};
-
-// What a pass over a body answers: all points are there, or a refusal number and place.
-#[derive(Drop)]
-pub enum Passed {
-    All,
-    Refused(u64, usize),
-}
+use table_lines::{Head, Start, bare_line, head, row_start};
+use table_values::{Row, values};
+use terms::{Fault, Reason};
 
 // The index that a head belongs to: the last point given on a check line, else the next (01, "Checks").
 pub fn index_of(dif: bool, k: usize) -> usize
@@ -43,7 +37,7 @@ fn wanted(dif: bool, q: u64) -> u64
 }
 
 // A line whose head stands at a place with the entry e: 4, 6, 7, then its values.
-fn read_line(s: &[u8], fr: Frame, out: &mut [i32], r: Row, at: usize, e: u64) -> LineRead
+fn read_line(s: &[u8], fr: Frame, out: &mut [i32], r: Row, at: usize, e: u64) -> Result<Row, Fault>
     requires { Sound fr × Rests fr.points s.now r × LineOpens s.now at e }
     ensures { LineSays (frame_rules fr) s.now r at out.old out.new result }
 {
@@ -51,13 +45,13 @@ fn read_line(s: &[u8], fr: Frame, out: &mut [i32], r: Row, at: usize, e: u64) ->
     let k = r.k;
     let q = r.q;
     match head(s, at, e) {
-        HeadRead::NoHead => LineRead::Refused(4, at),
-        HeadRead::Abscissa(h, unit, j) => {
+        None => Err(Fault::new(Reason::NoHead, at)),
+        Some(Head { abscissa: h, unit, at: j }) => {
             if !fr.passes(h, unit, index_of(dif, k)) {
-                return LineRead::Refused(6, at);
+                return Err(Fault::new(Reason::WrongHead, at));
             }
             if bare_line(s, j) {
-                return LineRead::Refused(7, at);
+                return Err(Fault::new(Reason::BareHead, at));
             }
             let want = wanted(dif, q);
             let n = fr.points;
@@ -67,20 +61,20 @@ fn read_line(s: &[u8], fr: Frame, out: &mut [i32], r: Row, at: usize, e: u64) ->
 }
 
 // The end of the body: 12, 13, or all is there.
-pub fn finish(points: usize, len: usize, k: usize, dif: bool) -> Passed
+pub fn finish(points: usize, len: usize, k: usize, dif: bool) -> Result<(), Fault>
     ensures { result ≡ finished points len k dif }
 {
     if k < points {
-        return Passed::Refused(12, len);
+        return Err(Fault::new(Reason::TooFew, len));
     }
     if dif {
-        return Passed::Refused(13, len);
+        return Err(Fault::new(Reason::NoCheckLine, len));
     }
-    Passed::All
+    Ok(())
 }
 
 // One pass over a body: answers, and stores each ordinate that there is room for.
-pub fn pass(s: &[u8], fr: Frame, out: &mut [i32]) -> Passed
+pub fn pass(s: &[u8], fr: Frame, out: &mut [i32]) -> Result<(), Fault>
     requires { Sound fr }
     ensures { PassSays (frame_rules fr) s.now out.old out.new result }
 {
@@ -97,13 +91,13 @@ pub fn pass(s: &[u8], fr: Frame, out: &mut [i32]) -> Passed
                 return finish(fr.points, s.len(), r.k, r.dif);
             }
             Start::Bad(j) => {
-                return Passed::Refused(3, j);
+                return Err(Fault::new(Reason::StrayByte, j));
             }
             Start::Head(j, e) => match read_line(s, fr, out, r, j, e) {
-                LineRead::Refused(n, p) => {
-                    return Passed::Refused(n, p);
+                Err(fault) => {
+                    return Err(Fault::new(n, p));
                 }
-                LineRead::Next(next) => {
+                Ok(next) => {
                     r = next;
                 }
             },

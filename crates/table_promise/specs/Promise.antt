@@ -1,10 +1,9 @@
 -- What `table_read::read_table` promises, in terms of spellings alone: its contract names no reader here. Assumes nothing.
-use Rattle.std.specs.Prelude.{◌≡◌, List, ◌++◌, map, ℕ, ℤ, length, drop}
-use Rattle.terms.specs.declared.TableRead.{TableRead}
-use Rattle.terms.specs.declared.TableRead.TheVariants.{Accepted, Refused}
+use Rattle.std.specs.Prelude.{◌≡◌, List, ◌++◌, map, ℕ, ℤ, length, drop, Result, Ok, Err}
 use Rattle.table_spec.specs.Frame.{Rules, rules, abscissa, entry_for}
 use Rattle.table_law.specs.Spelling.{Spells}
 use Rattle.table_law.specs.Outcome.{Allowed}
+use Rattle.terms.specs.declared.Refusal.{Refusal}
 
 module _ (f l : ℤ) (n : ℕ) (body : List ℕ) (out out' : List ℤ) where
   -- the rules that F, L and N make
@@ -34,6 +33,6 @@ module _ (f l : ℤ) (n : ℕ) (body : List ℕ) (out out' : List ℤ) where
     pub unaltered : out' ≡ out
     pub none : Fits → (ys : List ℕ) → Spelled ys → ⊥
 
-  abbrev pub Promised : TableRead → Type 0
-  Promised (Accepted m) = Holds m
-  Promised (Refused r) = Declines
+  abbrev pub Promised : Result ℕ Refusal → Type 0
+  Promised (Ok m) = Holds m
+  Promised (Err r) = Declines

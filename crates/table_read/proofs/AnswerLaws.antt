@@ -12,7 +12,6 @@ use borrow.Author.Tests.{le-leb, lt-leb, lt-ltb, le-ltb, leb-true, leb-false, lt
 use Rattle.terms.specs.Refusals.{fault_at, refusal_in}
 use Rattle.terms.specs.declared.Fault.{Fault}
 use Rattle.terms.specs.declared.Refusal.{Refusal}
-use Rattle.terms.specs.declared.TableRead.TheVariants as tables
 use Rattle.terms.specs.Logic.{pick, both, by_case, zero_one}
 use Rattle.table_spec.specs.Frame.{Rules, frame_legal, longest_body, entry_for}
 use Rattle.table_spec.specs.Reading.{Answer, refuse, accept, read_lines, LongLine, all_short, long_at, long_line, sooner, read, read_table, stored}
@@ -21,21 +20,19 @@ use Rattle.frame.specs.FrameLaws.{Framing}
 use Rattle.table_pass.specs.Rows.{frame_rules, passed_of, PassSays}
 use Rattle.table_read.specs.Answers.{told, told_first, sooner_of, Accepts, TableSays}
 use Rattle.table_lengths.specs.Lengths.{shown_long}
-use Rattle.table_pass.specs.declared.Passed.{Passed}
-use Rattle.table_pass.specs.declared.Passed.TheVariants as passed
-use Rattle.table_read.specs.declared.Checked.TheVariants as checks
+use Rattle.std.specs.Prelude.{Result, Ok, Err, ⊤}
 
 -- ---- what a pass answered
 
-pub pass_refused : (x : Answer) {c a : ℕ} → passed.Refused c a ≡ passed_of x → x ≡ refuse c a
+pub pass_refused : (x : Answer) {c a : ℕ} → Err (fault_at c a) ≡ passed_of x → x ≡ refuse c a
 pass_refused (refuse c a) e = cc
 pass_refused (accept ys) e = zero_one cc
 
-pub pass_all : (x : Answer) → passed.All ≡ passed_of x → (ys : List ℕ) × (x ≡ accept ys)
+pub pass_all : (x : Answer) → Ok tt ≡ passed_of x → (ys : List ℕ) × (x ≡ accept ys)
 pass_all (refuse c a) e = zero_one cc
 pass_all (accept ys) e = (ys, refl)
 
-pub check_refused : {R : Rules} {s : List ℕ} (out out' : List ℤ) {c a : ℕ} → PassSays R s out out' (passed.Refused c a) → checks.Refused (fault_at c a) ≡ told_first (read_lines R s)
+pub check_refused : {R : Rules} {s : List ℕ} (out out' : List ℤ) {c a : ℕ} → PassSays R s out out' (Err (fault_at c a)) → Err (fault_at c a) ≡ told_first (read_lines R s)
 check_refused {R} {s} out out' g = sym (ap told_first (pass_refused (read_lines R s) g.says))
 
 -- one entry: the first ordinate is what stands in it
@@ -48,10 +45,10 @@ first_entry : (ys : List ℕ) (x : ℤ) → 0 < length ys → get_or (sets (x �
 first_entry [] x l = absurd (omega arith)
 first_entry (y ∷ ys) x l = one_entry (map entry_for ys) (entry_for y ∷ []) 0
 
-pub check_first : {R : Rules} {s : List ℕ} {x : ℤ} {out' : List ℤ} → 1 ≤ R.points → PassSays R s (x ∷ []) out' passed.All → checks.First (get_or out' 0 (pos 0)) ≡ told_first (read_lines R s)
+pub check_first : {R : Rules} {s : List ℕ} {x : ℤ} {out' : List ℤ} → 1 ≤ R.points → PassSays R s (x ∷ []) out' (Ok tt) → Ok (get_or out' 0 (pos 0)) ≡ told_first (read_lines R s)
 check_first {R} {s} {x} {out'} l g =
     let z = pass_all (read_lines R s) g.says in let n = g.count z.0 z.1 in
-    rw z.1 (ap checks.First (ap (λ (o : List ℤ). get_or o 0 (pos 0)) (g.stores z.0 z.1) ∙ first_entry z.0 x (omega arith)))
+    rw z.1 (ap Ok (ap (λ (o : List ℤ). get_or o 0 (pos 0)) (g.stores z.0 z.1) ∙ first_entry z.0 x (omega arith)))
 
 -- ---- the length of lines
 
@@ -60,7 +57,7 @@ pub sooner_told : (x : LongLine) (y : Answer) → sooner_of (shown_long x) (told
 unfolding sooner
 sooner_told all_short y = refl
 sooner_told (long_at a) (refuse c b) =
-    by_case (λ t. pick t (checks.Refused (fault_at c b)) (checks.Refused (fault_at 16 a)) ≡ told_first (pick t (refuse c b) (refuse 16 a))) (ltb b a) (λ _. refl) (λ _. refl)
+    by_case (λ t. pick t (Err (fault_at c b)) (Err (fault_at 16 a)) ≡ told_first (pick t (refuse c b) (refuse 16 a))) (ltb b a) (λ _. refl) (λ _. refl)
 sooner_told (long_at a) (accept ys) = refl
 
 -- an accepted body has no long line
@@ -73,7 +70,7 @@ accepts_lines R s a = go (long_line true 0 s) (read_lines R s) a
     go (long_at b) (refuse c d) h = by_case (λ t. Accepts (pick t (refuse c d) (refuse 16 b)) → pick t (refuse c d) (refuse 16 b) ≡ refuse c d) (ltb d b) (λ _ h. refl) (λ _ h. absurd h) h
     go (long_at b) (accept ys) h = absurd h
 
-pub stored_all : {R : Rules} {s : List ℕ} {out out' : List ℤ} {r : Passed} → Accepts (read R s) → PassSays R s out out' r → out' ≡ stored out (read R s)
+pub stored_all : {R : Rules} {s : List ℕ} {out out' : List ℤ} {r : Result ⊤ Fault} → Accepts (read R s) → PassSays R s out out' r → out' ≡ stored out (read R s)
 unfolding stored
 stored_all {R} {s} {out} {out'} a g = let e = accepts_lines R s a in rw e (go (read_lines R s) refl (rw e at a))
   where
@@ -107,24 +104,24 @@ module _ (f l : ℤ) (n : ℕ) (s : List ℕ) (space : ℕ) where
 
 -- ---- the public answers
 
-pub read_refused : {f l : ℤ} {n : ℕ} {s : List ℕ} {out : List ℤ} {r : Fault} {q : Refusal} → checks.Refused r ≡ told_first (read_table f l n s (length out))
-    → q ≡ refusal_in s r.number r.place → TableSays f l n s out out (tables.Refused q)
+pub read_refused : {f l : ℤ} {n : ℕ} {s : List ℕ} {out : List ℤ} {r : Fault} {q : Refusal} → Err r ≡ told_first (read_table f l n s (length out))
+    → q ≡ refusal_in s r.number r.place → TableSays f l n s out out (Err q)
 unfolding stored
 read_refused {f} {l} {n} {s} {out} {r} {q} e p = go (read_table f l n s (length out)) e refl
   where
-    go : (x : Answer) → checks.Refused r ≡ told_first x → read_table f l n s (length out) ≡ x → TableSays f l n s out out (tables.Refused q)
+    go : (x : Answer) → Err r ≡ told_first x → read_table f l n s (length out) ≡ x → TableSays f l n s out out (Err q)
     go (refuse c a) e h = let z : r ≡ fault_at c a = cc in record { answers = rw (h, p, z) refl; leaves = rw h refl }
     go (accept ys) e h = zero_one cc
 
-pub first_accepts : (x : Answer) {y : ℤ} → checks.First y ≡ told_first x → Accepts x
+pub first_accepts : (x : Answer) {y : ℤ} → Ok y ≡ told_first x → Accepts x
 first_accepts (refuse c a) e = zero_one cc
 first_accepts (accept ys) e = tt
 
 pub read_accepted : {f l : ℤ} {n : ℕ} {s : List ℕ} {out out' : List ℤ} → Accepts (read_table f l n s (length out)) → out' ≡ stored out (read_table f l n s (length out))
-    → TableSays f l n s out out' (tables.Accepted n)
+    → TableSays f l n s out out' (Ok n)
 read_accepted {f} {l} {n} {s} {out} {out'} a o = record { answers = go (read_table f l n s (length out)) a; leaves = o }
   where
-    go : (x : Answer) → Accepts x → tables.Accepted n ≡ told n s x
+    go : (x : Answer) → Accepts x → Ok n ≡ told n s x
     go (refuse c b) h = absurd h
     go (accept ys) h = refl
 

@@ -8,51 +8,44 @@ ghost use Rattle.table_spec.specs.Reading.{read_lines, read, read_table, stored}
 ghost use Rattle.table_pass.specs.Rows.{frame_rules};
 ghost use Rattle.table_read.specs.Answers.{told_first, sooner_of, Accepts, TableSays};
 
-use frame::{Frame, Framed};
-use table_lengths::{LongLine, long_line};
-use table_pass::{Passed, pass};
-use terms::{Fault, TableRead};
+use frame::Frame;
+use table_lengths::long_line;
+use table_pass::pass;
+use terms::{Fault, Reason, Refusal};
 use text::refusal_in;
 
-// What checking a table answers: its first ordinate, or a refusal.
-#[derive(Drop)]
-pub enum Checked {
-    First(i32),
-    Refused(Fault),
-}
-
 // The pass that answers. It has room for the first ordinate, which refusal 29 asks for.
-fn check_lines(body: &[u8], fr: Frame) -> Checked
+fn check_lines(body: &[u8], fr: Frame) -> Result<i32, Fault>
     requires { Sound fr }
     ensures { result ≡ told_first (read_lines (frame_rules fr) body.now) }
 {
     let mut one = [0i32; 1];
     match pass(body, fr, &mut one) {
-        Passed::Refused(n, p) => Checked::Refused(Fault::new(n, p)),
-        Passed::All => Checked::First(one[0]),
+        Err(fault) => Err(Fault::new(n, p)),
+        Ok(()) => Ok(one[0]),
     }
 }
 
 // 16, where a long line begins at what was found otherwise or before it (02, T-06).
-pub fn sooner(long: LongLine, found: Checked) -> Checked
+pub fn sooner(long: Option<usize>, found: Result<i32, Fault>) -> Result<i32, Fault>
     ensures { result ≡ sooner_of long found }
 {
     match long {
-        LongLine::AllShort => found,
-        LongLine::At(a) => match found {
-            Checked::First(_) => Checked::Refused(Fault::new(16, a)),
-            Checked::Refused(f) => {
+        None => found,
+        Some(a) => match found {
+            Ok(_) => Err(Fault::new(Reason::LongLine, a)),
+            Err(f) => {
                 if f.place < a {
-                    return Checked::Refused(f);
+                    return Err(f);
                 }
-                Checked::Refused(Fault::new(16, a))
+                Err(Fault::new(Reason::LongLine, a))
             }
         },
     }
 }
 
 // What a body says, its lines' lengths too.
-fn check_body(body: &[u8], fr: Frame) -> Checked
+fn check_body(body: &[u8], fr: Frame) -> Result<i32, Fault>
     requires { Sound fr }
     ensures { result ≡ told_first (read (frame_rules fr) body.now) }
 {
@@ -70,17 +63,17 @@ fn store_body(body: &[u8], fr: Frame, out: &mut [i32])
 }
 
 // What a body says in a frame, with room for so many ordinates: its first ordinate, or a refusal (01, "Refusal numbers" 1 to 13; 02, T-06, 16). Nothing lent is written to.
-pub fn check_table(first: i64, last: i64, points: usize, body: &[u8], room: usize) -> Checked
+pub fn check_table(first: i64, last: i64, points: usize, body: &[u8], room: usize) -> Result<i32, Fault>
     ensures { result ≡ told_first (read_table first last points body.now room) }
 {
     if body.len() > Frame::LONGEST_BODY {
-        return Checked::Refused(Fault::new(1, 0));
+        return Err(Fault::new(Reason::OutsideLimits, 0));
     }
     match Frame::new(first, last, points) {
-        Framed::Outside => Checked::Refused(Fault::new(1, 0)),
-        Framed::Legal(fr) => {
+        None => Err(Fault::new(Reason::OutsideLimits, 0)),
+        Some(fr) => {
             if room < points {
-                return Checked::Refused(Fault::new(2, 0));
+                return Err(Fault::new(Reason::LittleRoom, 0));
             }
             check_body(body, fr)
         }
@@ -93,22 +86,22 @@ pub fn store_table(first: i64, last: i64, points: usize, body: &[u8], out: &mut 
     ensures { out.new ≡ stored out.old (read_table first last points body.now (length out.old)) }
 {
     match Frame::new(first, last, points) {
-        Framed::Outside => {}
-        Framed::Legal(fr) => {
+        None => {}
+        Some(fr) => {
             store_body(body, fr, out);
         }
     }
 }
 
 // Reads a table: any F, L and N, any body, any slice. Accepted: the first N entries are the ordinates, -2,147,483,648 for a missing one, and those past N are unaltered. Refused: all are unaltered.
-pub fn read_table(first: i64, last: i64, points: usize, body: &[u8], out: &mut [i32]) -> TableRead
+pub fn read_table(first: i64, last: i64, points: usize, body: &[u8], out: &mut [i32]) -> Result<usize, Refusal>
     ensures { TableSays first last points body.now out.old out.new result }
 {
     match check_table(first, last, points, body, out.len()) {
-        Checked::Refused(f) => TableRead::Refused(refusal_in(body, f.number, f.place)),
-        Checked::First(_) => {
+        Err(f) => Err(refusal_in(body, f.number, f.place)),
+        Ok(_) => {
             store_table(first, last, points, body, out);
-            TableRead::Accepted(points)
+            Ok(points)
         }
     }
 }

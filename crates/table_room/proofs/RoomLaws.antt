@@ -1,5 +1,5 @@
 -- 02, T-10, in the terms of the contracts of `text_length` and of the writer: the length suffices, one byte less is refused with 15, the ceiling is never refused with 15. Assumes nothing.
-use Rattle.std.specs.Prelude.{◌≡◌, refl, Bool, true, false, List, map, ℕ, ◌+◌, ◌*◌, ◌≤◌, ◌<◌, ltb, ℤ, take}
+use Rattle.std.specs.Prelude.{◌≡◌, refl, Bool, true, false, List, map, ℕ, ◌+◌, ◌*◌, ◌≤◌, ◌<◌, ltb, ℤ, take, Result, Ok, Err}
 use Rattle.std.proofs.Common.{sym, ap, ◌∙◌, arith, length-take-le}
 use Rattle.std.proofs.Math.ListN.{length}
 use Rattle.std.proofs.lemmas.List.{length-map}
@@ -7,8 +7,6 @@ use borrow.Author.Tests.{lt-ltb, le-ltb, ltb-false}
 use Rattle.terms.specs.Logic.{pick, by_case, zero_one}
 use Rattle.terms.specs.Refusals.{fault_at}
 use Rattle.terms.specs.declared.Fault.{Fault}
-use Rattle.terms.specs.declared.TableWritten.{TableWritten}
-use Rattle.terms.specs.declared.TableWritten.TheVariants.{Length, Refused}
 use Rattle.table_spec.specs.declared.Style.{Style}
 use Rattle.table_spec.specs.Frame.{frame_legal, abscissa, ordinate_of}
 use Rattle.table_spec.specs.Writing.{Outcome, declined, wrote, fitted, written, write_table}
@@ -21,6 +19,7 @@ use Rattle.table_write_law.proofs.ReadBack.{always_written, wrote_most, wrote_ce
 use Rattle.table_text.specs.Answers.{told, refused, Answered}
 use Rattle.table_write.specs.Room.{enough, Measured}
 use Rattle.table_room.specs.Room.{ceiling, ByRoom, refuses, writes}
+use Rattle.decimal_spec.specs.declared.Number.{Number}
 
 -- ---- by room, whatever is written
 
@@ -84,7 +83,7 @@ pub record Text (x : Outcome) (k : ℕ) : Type 0 where
   pub is : x ≡ wrote text
   pub long : length text ≡ k
 
-told_length : (x : Outcome) {k : ℕ} → Length k ≡ told x → Text x k
+told_length : (x : Outcome) {k : ℕ} → Ok k ≡ told x → Text x k
 told_length (declined c) e = zero_one cc
 told_length (wrote t) e = record { text = t; is = refl; long = cc }
 
@@ -92,7 +91,7 @@ pub record Number (x : Outcome) : Type 0 where
   pub number : ℕ
   pub is : x ≡ declined number
 
-told_number : (x : Outcome) {q : Fault} → Refused q ≡ told x → Number x
+told_number : (x : Outcome) {q : Fault} → Err q ≡ told x → Number x
 told_number (declined c) e = record { number = c; is = refl }
 told_number (wrote t) e = zero_one cc
 
@@ -130,11 +129,11 @@ module _ (st : Style) (f l : ℤ) (n : ℕ) (ys : List ℤ) where
   table_ceiling = by_room (ceiling n) (λ k. wrote_ceiling st f l n ys (enough n) body (room_wrote k))
 
   -- only a frame that the writer takes, with an ordinate for each point, has a length
-  pub measured_taken : {k : ℕ} → Measured st f l n ys (Length k) → (frame_legal f l n ≡ true) × (n ≤ length ys)
+  pub measured_taken : {k : ℕ} → Measured st f l n ys (Ok k) → (frame_legal f l n ≡ true) × (n ≤ length ys)
   unfolding write_table
   measured_taken {k} =
-      by_case (λ a. Length k ≡ told (pick a (pick (ltb (length ys) n) (declined 2) (fitted (enough n) body)) (declined 1)) → (a ≡ true) × (n ≤ length ys)) (frame_legal f l n)
-      (λ _. by_case (λ b. Length k ≡ told (pick b (declined 2) (fitted (enough n) body)) → (true ≡ true) × (n ≤ length ys)) (ltb (length ys) n)
+      by_case (λ a. Ok k ≡ told (pick a (pick (ltb (length ys) n) (declined 2) (fitted (enough n) body)) (declined 1)) → (a ≡ true) × (n ≤ length ys)) (frame_legal f l n)
+      (λ _. by_case (λ b. Ok k ≡ told (pick b (declined 2) (fitted (enough n) body)) → (true ≡ true) × (n ≤ length ys)) (ltb (length ys) n)
       (λ _ e. zero_one cc) (λ b e. (refl, ltb-false (length ys) n b)))
       (λ _ e. zero_one cc)
 
@@ -149,7 +148,7 @@ module _ (st : Style) (f l : ℤ) (n : ℕ) (ys : List ℤ) where
       by_room (15 * n + 17) (λ k. plain_written_most st full _ _ n _ (takes k) (length-map (take n ys) ordinate_of ∙ length-take-le n ys k.enough_ys))
 
   -- the measured length: what it is at most,
-  module _ {k : ℕ} (g : Measured st f l n ys (Length k)) where
+  module _ {k : ℕ} (g : Measured st f l n ys (Ok k)) where
     abbrev found : Text (write_table st f l n ys (enough n)) k
     found = told_length (write_table st f l n ys (enough n)) g
 
@@ -164,30 +163,30 @@ module _ (st : Style) (f l : ℤ) (n : ℕ) (ys : List ℤ) where
     length_ceiling = let long = found.long in omega (arith, room_most table_ceiling (enough n) found.is)
 
     -- writing into so many bytes or more answers it,
-    pub length_suffices : {o o' : List ℕ} {r : TableWritten} → Answered st f l n ys o o' r → k ≤ length o → r ≡ Length k
+    pub length_suffices : {o o' : List ℕ} {r : Result ℕ Fault} → Answered st f l n ys o o' r → k ≤ length o → r ≡ Ok k
     length_suffices {o} a h =
         let long = found.long in
-        a.answer ∙ ap told (room_holds table_room found.is (length o) (omega arith)) ∙ ap Length found.long
+        a.answer ∙ ap told (room_holds table_room found.is (length o) (omega arith)) ∙ ap Ok found.long
 
     -- and into fewer, 15
-    pub less_is_refused : {o o' : List ℕ} {r : TableWritten} → Answered st f l n ys o o' r → length o < k → r ≡ refused 15
+    pub less_is_refused : {o o' : List ℕ} {r : Result ℕ Fault} → Answered st f l n ys o o' r → length o < k → r ≡ refused 15
     less_is_refused {o} a h = let long = found.long in a.answer ∙ ap told (room_lacks table_room found.is (length o) (omega arith))
 
   -- what is refused when it is measured is refused so in every room,
-  pub refusal_stands : {q : Fault} {o o' : List ℕ} {r : TableWritten} → Measured st f l n ys (Refused q) → Answered st f l n ys o o' r → r ≡ Refused q
+  pub refusal_stands : {q : Fault} {o o' : List ℕ} {r : Result ℕ Fault} → Measured st f l n ys (Err q) → Answered st f l n ys o o' r → r ≡ Err q
   refusal_stands {q} {o} g a =
       let x = told_number (write_table st f l n ys (enough n)) g in
       a.answer ∙ ap told (room_refuses table_room x.is (length o)) ∙ sym (g ∙ ap told x.is)
 
   -- and never with 15
-  pub length_never_15 : {r : TableWritten} → Measured st f l n ys r → r ≡ refused 15 → ⊥
+  pub length_never_15 : {r : Result ℕ Fault} → Measured st f l n ys r → r ≡ refused 15 → ⊥
   length_never_15 g e = never_15 table_room (enough n) (omega arith) (told_15 (write_table st f l n ys (enough n)) (sym g ∙ e))
 
   -- "A buffer of that size is never answered with 15"
-  pub enough_never_15 : {o o' : List ℕ} {r : TableWritten} → Answered st f l n ys o o' r → 15 * n + 44 ≤ length o → r ≡ refused 15 → ⊥
+  pub enough_never_15 : {o o' : List ℕ} {r : Result ℕ Fault} → Answered st f l n ys o o' r → 15 * n + 44 ≤ length o → r ≡ refused 15 → ⊥
   enough_never_15 {o} a h e = never_15 table_room (length o) h (told_15 (write_table st f l n ys (length o)) (sym a.answer ∙ e))
 
-  pub ceiling_never_15 : {o o' : List ℕ} {r : TableWritten} → Answered st f l n ys o o' r → 34 * n + 24 ≤ length o → r ≡ refused 15 → ⊥
+  pub ceiling_never_15 : {o o' : List ℕ} {r : Result ℕ Fault} → Answered st f l n ys o o' r → 34 * n + 24 ≤ length o → r ≡ refused 15 → ⊥
   ceiling_never_15 {o} a h e = never_15 table_ceiling (length o) h (told_15 (write_table st f l n ys (length o)) (sym a.answer ∙ e))
 
 -- the ceiling in numbers, by computation

@@ -4,13 +4,13 @@
 ghost use Rattle.std.specs.Prelude.{◌≡◌};
 ghost use Rattle.table_text.specs.Answers;
 
-use terms::{Fault, TableWritten};
+use terms::Fault;
 
 pub mod digits;
 
 // A refusal of the writer: its place is 0.
-pub fn refused(number: u64) -> TableWritten
+pub fn refused(number: u64) -> Result<usize, Fault>
     ensures { result ≡ Answers.refused number }
 {
-    TableWritten::Refused(Fault::new(number, 0))
+    Err(Fault::new(number, 0))
 }

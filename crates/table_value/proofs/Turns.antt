@@ -16,7 +16,8 @@ use Rattle.table_numbers.specs.Numbers.{Clear, Token}
 use Rattle.table_value.specs.LineValues.{broken, taken, line_says}
 use Rattle.table_value.specs.States.{Holds, Sits, Reads, Gone, Stepped}
 use Rattle.table_value.specs.declared.Cur.{Cur}
-use Rattle.table_value.specs.declared.Step.TheVariants as step
+use Rattle.std.specs.Prelude.{Ok}
+use Rattle.table_value.specs.declared.Step.{Step}
 
 -- ---- points, one part after the other
 
@@ -54,7 +55,7 @@ module _ (N : ℕ) (s : List ℕ) {at j : ℕ} {x : Value} (t : Token s at x j) 
 
 -- the state after it
 pub value_stepped : {N : ℕ} {s : List ℕ} {c r : Cur} {out out' : List ℤ} {j : ℕ} {x : Value} → Token s c.at x j → r.at ≡ j → Sits N s r
-    → Reads c (λ p w. Gone N s c.at c.k p w out out' r) → Stepped N s c out out' (step.Go r)
+    → Reads c (λ p w. Gone N s c.at c.k p w out out' r) → Stepped N s c out out' (Ok (Step.Go r))
 value_stepped {s = s} {c} t e h f =
     let l = t.low in
     (omega arith, record { low = omega arith; clear = subst (λ (n : ℕ). Clear s c.at n) (sym e) t.clear; sits = h; law = f })

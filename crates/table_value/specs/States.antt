@@ -1,5 +1,5 @@
 -- The state of the code within a line, how it keeps what the definition of reading keeps, and what the functions on one value ensure. Assumes nothing.
-use Rattle.std.specs.Prelude.{◌≡◌, true, false, List, [], map, ◌⊎◌, ℕ, ◌+◌, ◌<◌, ◌≤◌, leb, ℤ, length}
+use Rattle.std.specs.Prelude.{◌≡◌, true, false, List, [], map, ◌⊎◌, ℕ, ◌+◌, ◌<◌, ◌≤◌, leb, ℤ, length, Some, Result, Ok, Err}
 use Rattle.std.proofs.lemmas.List.Edits.{sets}
 use Rattle.alphabet_spec.specs.Entries.{entry_at}
 use Rattle.table_spec.specs.Frame.{entry_for}
@@ -7,12 +7,12 @@ use Rattle.table_spec.specs.Values.{times, Form, Own, Gap, By, Dup, Spot, first,
 use Rattle.table_spec.specs.Reading.{line, fresh}
 use Rattle.table_lines.specs.Seen.{seen, here}
 use Rattle.table_lines.specs.Ends.{end_at}
-use Rattle.table_lines.specs.declared.Ending.TheVariants as ending
 use Rattle.table_numbers.specs.Numbers.{value_at, Clear, Token, below}
 use Rattle.table_value.specs.LineValues.{broken, given, line_says}
 use Rattle.table_value.specs.declared.Cur.{Cur}
+use Rattle.terms.specs.declared.Reason.{Reason}
 use Rattle.table_value.specs.declared.Step.{Step}
-use Rattle.table_value.specs.declared.Step.TheVariants as step
+use Rattle.terms.specs.Refusals.{reason_number}
 
 -- how the code keeps the form of the value before, whose ordinate is q: 0 and 1 after a DUP; 2 for one of its own; 32 to 63 and its size for a difference, from 48 on for one that is minus
 pub data Codes : ℕ → ℕ → ℕ → Form → Type 0 where
@@ -80,11 +80,11 @@ pub record AtEnd (s : List ℕ) (c : Cur) (j : ℕ) (out out' : List ℤ) : Type
   pub high : j ≤ length s
   pub same : out' ≡ out
   pub ends : 160 ≤ entry_at s c.at
-  pub next : end_at s c.at ≡ ending.Next j
+  pub next : end_at s c.at ≡ Some j
   pub law : here s c.at ≡ line (seen s j fresh)
 
 -- one token: a value, or blanks; the line's end; or a refusal at the token, and nothing was stored
-abbrev pub Stepped : ℕ → List ℕ → Cur → List ℤ → List ℤ → Step → Type 0
-Stepped N s c out out' (step.Go r) = (c.at < r.at) × Went N s c r out out'
-Stepped N s c out out' (step.Line j) = AtEnd s c j out out'
-Stepped N s c out out' (step.Refused n) = (out' ≡ out) × Reads c (λ p w. line_says N (here s c.at) c.k p w ≡ broken [] n c.at)
+abbrev pub Stepped : ℕ → List ℕ → Cur → List ℤ → List ℤ → Result Step Reason → Type 0
+Stepped N s c out out' (Ok (Step.Go r)) = (c.at < r.at) × Went N s c r out out'
+Stepped N s c out out' (Ok (Step.Line j)) = AtEnd s c j out out'
+Stepped N s c out out' (Err x) = (out' ≡ out) × Reads c (λ p w. line_says N (here s c.at) c.k p w ≡ broken [] (reason_number x) c.at)

@@ -17,7 +17,6 @@ use Rattle.table_value.specs.LineValues.{broken, given, line_says}
 use Rattle.table_values.specs.Lines.{dif_form, row_after, last_at, LineDone, LineBroken}
 use Rattle.table_value.specs.States.{Codes, own, gap, dif, dup_not, dup_dif, Holds, opening, checking, going, Gone}
 use Rattle.table_value.specs.declared.Cur.{Cur}
-use Rattle.table_value.specs.declared.Step.TheVariants as step
 
 -- ---- what says nothing
 

@@ -8,10 +8,11 @@ use Rattle.table_lines.specs.Ends.{Blanked}
 use Rattle.table_values.specs.Lines.{placed, row_after, Lined}
 use Rattle.table_value.specs.States.{Sits, Went, Stepped}
 use Rattle.table_value.specs.declared.Cur.{Cur}
-use Rattle.table_value.specs.declared.Step.TheVariants as step
-use Rattle.table_values.specs.declared.LineRead.TheVariants as linewise
 use Rattle.table_value.proofs.Walks.{went_went, went_over}
 use Rattle.table_values.proofs.Turns.{gone_done, gone_broken}
+use Rattle.std.specs.Prelude.{Ok, Err}
+use Rattle.table_value.specs.declared.Step.{Step}
+use Rattle.terms.specs.Refusals.{fault_at}
 
 -- ---- blanks
 
@@ -28,7 +29,7 @@ abbrev pub first_state : ℕ → ℕ → ℕ → Cur
 first_state at k want = record { at = at; k = k; q = 0; want = want; step = 0; form = 0 }
 
 module _ {N : ℕ} {s : List ℕ} {at k want : ℕ} {b : Cur} {out mid : List ℤ} (out' : List ℤ) (g : Went N s (first_state at k want) b out mid) where
-  pub went_line : {j : ℕ} → Stepped N s b mid out' (step.Line j) → Lined N s at k want out out' (linewise.Next (row_after b j))
+  pub went_line : {j : ℕ} → Stepped N s b mid out' (Ok (Step.Line j)) → Lined N s at k want out out' (Ok (row_after b j))
   went_line {j} h =
       let x = g.low in let y = h.low in let z = g.sits in let l = h.ends in
       record {
@@ -40,5 +41,5 @@ module _ {N : ℕ} {s : List ℕ} {at k want : ℕ} {b : Cur} {out mid : List �
         done = λ p w v. rw h.same (gone_done N s at k p w out mid b (g.law p w v) j h.law);
       }
 
-  pub went_refused : {n : ℕ} → Stepped N s b mid out' (step.Refused n) → Lined N s at k want out out' (linewise.Refused n b.at)
+  pub went_refused : {n : ℕ} → Stepped N s b mid out' (Err n) → Lined N s at k want out out' (Err (fault_at n b.at))
   went_refused {n} h = λ p w v. rw h.0 (gone_broken N s at k p w out mid b (g.law p w v) n b.at h.1)

@@ -1,5 +1,5 @@
 -- The state of the code along a line and between lines, and what the functions on the values of a line ensure. Assumes nothing.
-use Rattle.std.specs.Prelude.{◌≡◌, Bool, true, List, map, ℕ, ◌+◌, ◌<◌, ◌≤◌, leb, eqb, ℤ, length}
+use Rattle.std.specs.Prelude.{◌≡◌, Bool, true, List, map, ℕ, ◌+◌, ◌<◌, ◌≤◌, leb, eqb, ℤ, length, Some, Result, Ok, Err}
 use Rattle.std.proofs.lemmas.List.Edits.{sets}
 use Rattle.terms.specs.Logic.{pick}
 use Rattle.alphabet_spec.specs.Entries.{entry_at}
@@ -8,15 +8,12 @@ use Rattle.table_spec.specs.Values.{Spot, first, after}
 use Rattle.table_spec.specs.Reading.{line, fresh, dif_before}
 use Rattle.table_lines.specs.Seen.{seen, here}
 use Rattle.table_lines.specs.Ends.{end_at}
-use Rattle.table_lines.specs.declared.Ending.TheVariants as ending
 use Rattle.table_numbers.specs.Numbers.{Clear}
 use Rattle.table_value.specs.LineValues.{whole, broken, line_says}
 use Rattle.table_value.specs.declared.Cur.{Cur}
-use Rattle.table_value.specs.declared.Step.TheVariants as step
 use Rattle.table_values.specs.declared.Row.{Row}
-use Rattle.table_values.specs.declared.LineRead.{LineRead}
-use Rattle.table_values.specs.declared.LineRead.TheVariants as linewise
 use Rattle.table_value.specs.States.{Holds}
+use Rattle.terms.specs.declared.Fault.{Fault}
 
 -- is a form, as the code keeps it, DIF?
 abbrev pub dif_form : ℕ → Bool
@@ -39,7 +36,7 @@ pub record LineEnds (s : List ℕ) (i j : ℕ) : Type 0 where
   pub low : i ≤ stop
   pub clear : Clear s i stop
   pub ends : 160 ≤ entry_at s stop
-  pub next : end_at s stop ≡ ending.Next j
+  pub next : end_at s stop ≡ Some j
 
 -- the state after a line, from the last one within it
 abbrev pub row_after : Cur → ℕ → Row
@@ -82,6 +79,6 @@ pub record LineWhole (N : ℕ) (s : List ℕ) (i k want : ℕ) (out out' : List 
   pub done : Starts want (λ p w. LineDone N s i k p w out out' r)
 
 -- the values of a line: the state after it, or a refusal and its place
-abbrev pub Lined : ℕ → List ℕ → ℕ → ℕ → ℕ → List ℤ → List ℤ → LineRead → Type 0
-Lined N s i k want out out' (linewise.Next r) = LineWhole N s i k want out out' r
-Lined N s i k want out out' (linewise.Refused n a) = Starts want (λ p w. LineBroken N s i k p w out out' n a)
+abbrev pub Lined : ℕ → List ℕ → ℕ → ℕ → ℕ → List ℤ → List ℤ → Result Row Fault → Type 0
+Lined N s i k want out out' (Ok r) = LineWhole N s i k want out out' r
+Lined N s i k want out out' (Err x) = Starts want (λ p w. LineBroken N s i k p w out out' x.number x.place)

@@ -7,12 +7,14 @@ ghost use Rattle.table_values.specs.Lines.{dif_form, placed, row_after, FirstVal
 ghost use Rattle.table_value.specs.States.{Sits, Stepped, Went};
 
 use alphabet::{DIF, MISSING, POINT, entry_there, is_blank, standing};
-use table_lines::{Ending, blanks, line_end};
-use table_numbers::{NumberRead, number};
+use table_lines::{blanks, line_end};
+use table_numbers::number;
 use table_owns::owns;
 use table_runs::differences;
 use table_shorts::PERCENT;
 use table_value::{Cur, Step, missing, value};
+use terms::{Fault, Reason};
+use plain_expand::Next;
 
 // Between lines: the place, how many points, the last ordinate (0: missing, or none on that line), and whether the line before ended in DIF form.
 #[derive(Drop)]
@@ -21,13 +23,6 @@ pub struct Row {
     pub k: usize,
     pub q: u64,
     pub dif: bool,
-}
-
-// What a line did: the state after it, or a refusal number and place.
-#[derive(Drop)]
-pub enum LineRead {
-    Next(Row),
-    Refused(u64, usize),
 }
 
 // The state past the blanks that stand at its place: they say nothing.
@@ -47,27 +42,27 @@ fn past_blanks(s: &[u8], c: Cur) -> Cur
 }
 
 // Whatever stands next on a line.
-fn token(s: &[u8], points: usize, out: &mut [i32], c: Cur) -> Step
+fn token(s: &[u8], points: usize, out: &mut [i32], c: Cur) -> Result<Step, Reason>
     requires { (points ≤ 65536) × Sits points s.now c }
     ensures { Stepped points s.now c out.old out.new result }
 {
     let at = c.at;
     if is_blank(standing(s, at)) {
-        return Step::Go(past_blanks(s, c));
+        return Ok(Step::Go(past_blanks(s, c)));
     }
     let e = entry_there(s, at);
     if e >= POINT {
         return match line_end(s, at, e) {
-            Ending::Next(j) => Step::Line(j),
-            Ending::Bad => Step::Refused(3),
+            Some(j) => Ok(Step::Line(j)),
+            None => Err(Reason::StrayByte),
         };
     }
     if e == MISSING {
         return missing(s, points, out, c);
     }
     match number(s, at, e) {
-        NumberRead::Misspelled => Step::Refused(5),
-        NumberRead::Read(v, j) => value(s, points, out, c, e, v, j),
+        None => Err(Reason::Misspelled),
+        Some((v, j)) => value(s, points, out, c, e, v, j),
     }
 }
 
@@ -115,7 +110,7 @@ fn row_after(c: Cur, at: usize) -> Row
 }
 
 // The values of a line, from a place on, with k points given; the first must equal `want`, if that is not 0.
-pub fn values(s: &[u8], points: usize, out: &mut [i32], at: usize, k: usize, want: u64) -> LineRead
+pub fn values(s: &[u8], points: usize, out: &mut [i32], at: usize, k: usize, want: u64) -> Result<Row, Fault>
     requires { FirstValue points s.now at k }
     ensures { Lined points s.now at k want out.old out.new result }
 {
@@ -131,14 +126,14 @@ pub fn values(s: &[u8], points: usize, out: &mut [i32], at: usize, k: usize, wan
         let a = past_blanks(s, c);
         let b = run(s, points, out, a);
         match token(s, points, out, b) {
-            Step::Go(d) => {
+            Ok(Step::Go(d)) => {
                 c = d;
             }
-            Step::Line(j) => {
-                return LineRead::Next(row_after(b, j));
+            Ok(Step::Line(j)) => {
+                return Ok(row_after(b, j));
             }
-            Step::Refused(n) => {
-                return LineRead::Refused(n, b.at);
+            Err(why) => {
+                return Err(Fault::new(n, b.at));
             }
         }
     }

@@ -8,14 +8,14 @@ ghost use Rattle.table_text.specs.Answers.{Answered, FramedAnswer};
 ghost use Rattle.table_write.specs.Room.{Measured};
 
 use frame::Frame;
-use table_given::{Checked, check};
+use table_given::check;
 use table_spec::Style;
 use table_text::refused;
-use terms::TableWritten;
 use text_forms::{fits, lay, length_of};
+use terms::Fault;
 
 // Writing in a legal frame, with an ordinate for each point: refusal 15, or the text.
-fn write_framed(style: Style, fr: Frame, ordinates: &[i32], text: &mut [u8]) -> TableWritten
+fn write_framed(style: Style, fr: Frame, ordinates: &[i32], text: &mut [u8]) -> Result<usize, Fault>
     requires { Sound fr × (fr.points ≤ length ordinates.now) }
     ensures { FramedAnswer style fr ordinates.now text.old text.new result }
 {
@@ -23,7 +23,7 @@ fn write_framed(style: Style, fr: Frame, ordinates: &[i32], text: &mut [u8]) -> 
     let ys = &ordinates[..n];
     if fits(style, ys, fr, text.len()) {
         let length = lay(style, ys, text, fr);
-        return TableWritten::Length(length);
+        return Ok(length);
     }
     refused(15)
 }
@@ -36,12 +36,12 @@ pub fn write_form(
     points: usize,
     ordinates: &[i32],
     text: &mut [u8],
-) -> TableWritten
+) -> Result<usize, Fault>
     ensures { Answered style first last points ordinates.now text.old text.new result }
 {
     match check(first, last, points, ordinates) {
-        Checked::Refused(number) => refused(number),
-        Checked::Taken(fr) => write_framed(style, fr, ordinates, text),
+        Err(why) => refused(number),
+        Ok(fr) => write_framed(style, fr, ordinates, text),
     }
 }
 
@@ -52,15 +52,15 @@ pub fn text_length(
     last: i64,
     points: usize,
     ordinates: &[i32],
-) -> TableWritten
+) -> Result<usize, Fault>
     ensures { Measured style first last points ordinates.now result }
 {
     match check(first, last, points, ordinates) {
-        Checked::Refused(number) => refused(number),
-        Checked::Taken(fr) => {
+        Err(why) => refused(number),
+        Ok(fr) => {
             let n = fr.points;
             let bytes = length_of(style, &ordinates[..n], fr);
-            TableWritten::Length(bytes)
+            Ok(bytes)
         }
     }
 }
@@ -72,7 +72,7 @@ pub fn write_table(
     points: usize,
     ordinates: &[i32],
     text: &mut [u8],
-) -> TableWritten
+) -> Result<usize, Fault>
     ensures { Answered Difdup first last points ordinates.now text.old text.new result }
 {
     write_form(Style::Difdup, first, last, points, ordinates, text)

@@ -10,7 +10,6 @@ use mir.Facts.{to_z-of_z}
 use Rattle.table_spec.specs.Frame.{ordinate_of}
 use Rattle.table_spec.specs.Reading.{Answer, read_table}
 use Rattle.table_read.specs.Answers.{told_first}
-use Rattle.table_read.specs.declared.Checked.TheVariants as checks
 use Rattle.file_spec.specs.Texts.{text_in}
 use Rattle.file_spec.specs.Figures.{ratio, agrees, exactness_of}
 use Rattle.figure.specs.Carried.{carried_exact}
@@ -20,6 +19,7 @@ use Rattle.file_spec.specs.Places.{body_from}
 use Rattle.file_spec.specs.PlaceLaws.{body_is}
 use Rattle.file_body.proofs.BodyLaws.{stage_refused, place_bound, body_small, body_refused, body_unequal, body_equal}
 use Rattle.file_body.proofs.check_body.Goals as goal
+use Rattle.std.specs.Prelude.{Ok}
 
 pub refused_in-requires : goal.refused_in-requires
 refused_in-requires c =
@@ -41,7 +41,7 @@ returns-then-not-agree c =
     let place : ℕ = c.args.x.xydata.from + c.args.start in
     let body : List ℕ = drop c.args.start (text_in file c.args.x.xydata) in
     let answer : Answer = read_table c.args.first c.args.last c.args.n.npoints body room in
-    let first_said : checks.First ordinate ≡ told_first answer = let a = c.args in
+    let first_said : Ok ordinate ≡ told_first answer = let a = c.args in
     rw (to_z-of_z c.ranges.first, to_z-of_z c.ranges.last, body_is a.file.now a.x.xydata a.start) at (sym c.in-First.is ∙ c.check_table.ensures) in
     let a = c.args in
     let unequal = sym compared ∙ c.if-not-agree.true in
@@ -72,7 +72,7 @@ returns-else-not-agree c =
     let place : ℕ = c.args.x.xydata.from + c.args.start in
     let body : List ℕ = drop c.args.start (text_in file c.args.x.xydata) in
     let answer : Answer = read_table c.args.first c.args.last c.args.n.npoints body room in
-    let first_said : checks.First ordinate ≡ told_first answer = let a = c.args in
+    let first_said : Ok ordinate ≡ told_first answer = let a = c.args in
     rw (to_z-of_z c.ranges.first, to_z-of_z c.ranges.last, body_is a.file.now a.x.xydata a.start) at (sym c.in-First.is ∙ c.check_table.ensures) in
     let exact_here : c.exact_with-exact.result ≡ exactness_of c.args.n (ordinate_of ordinate) = let small = c.in-First.known_told-in-First-1-own.given.0.1 in
     rw (to_z-of_z (record { sfits = small }), c.ratio_of-q.ensures.0) at c.exact_with-exact.ensures ∙ carried_exact (ordinate_of ordinate) c.requires.4 in

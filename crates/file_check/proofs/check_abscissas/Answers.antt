@@ -6,14 +6,15 @@ use Prim.Native.Nat.{ℕ}
 use mir.Syntax.{w64}
 use mir.Facts.{to_z-of_z}
 use borrow.Author.Rules.{sfits_of}
-use Rattle.decimal_spec.specs.declared.Rounded.{Rounded}
 use Rattle.decimal_spec.specs.declared.Quotient.{Quotient}
 use Rattle.file_spec.specs.Figures.{ratio}
 use Rattle.file_body.proofs.BodyLaws.{stage_refused, stage_same}
 use Rattle.file_check.proofs.StageLaws.{first_beyond, last_beyond, both_whole}
 use Rattle.file_check.proofs.check_abscissas.Goals as goal
+use Rattle.std.specs.Prelude.{Option}
+use Rattle.decimal_spec.specs.declared.Whole.{Whole}
 
-rounded_is : {q r : Quotient} {x : Rounded} → q ≡ r → q.rounded ≡ x → r.rounded ≡ x
+rounded_is : {q r : Quotient} {x : Option Whole} → q ≡ r → q.rounded ≡ x → r.rounded ≡ x
 rounded_is e h = ap (λ (q : Quotient). q.rounded) (sym e) ∙ h
 
 exact_is : {q r : Quotient} → q ≡ r → q.exact ≡ r.exact
@@ -34,7 +35,7 @@ pub returns-in-Beyond : goal.returns-in-Beyond
 returns-in-Beyond c =
     let file : List ℕ = c.args.file.now in
     let room : ℕ = c.args.room in
-    let quotient : Rounded = (ratio 3 c.args.n.firstx c.args.n.xfactor).rounded in
+    let quotient : Option Whole = (ratio 3 c.args.n.firstx c.args.n.xfactor).rounded in
     let a = c.args in
     let beyond = rounded_is c.ratio_of-f.ensures.0 c.in-Beyond.is in
     stage_refused c.refused.ensures (rw c.mark_in.ensures (first_beyond file room a.x a.n a.start quotient beyond))
@@ -43,7 +44,7 @@ pub returns-in-Beyond-last_rounded : goal.returns-in-Beyond-last_rounded
 returns-in-Beyond-last_rounded c =
     let file : List ℕ = c.args.file.now in
     let room : ℕ = c.args.room in
-    let quotient : Rounded = (ratio 3 c.args.n.firstx c.args.n.xfactor).rounded in
+    let quotient : Option Whole = (ratio 3 c.args.n.firstx c.args.n.xfactor).rounded in
     let a = c.args in
     let is = rounded_is c.ratio_of-f.ensures.0 c.in-Whole.is in
     let beyond = rounded_is c.ratio_of-l.ensures.0 c.in-Beyond-last_rounded.is in
@@ -53,7 +54,7 @@ pub returns-in-Whole-last_rounded : goal.returns-in-Whole-last_rounded
 returns-in-Whole-last_rounded c =
     let file : List ℕ = c.args.file.now in
     let room : ℕ = c.args.room in
-    let quotient : Rounded = (ratio 3 c.args.n.firstx c.args.n.xfactor).rounded in
+    let quotient : Option Whole = (ratio 3 c.args.n.firstx c.args.n.xfactor).rounded in
     let a = c.args in
     let is_first = rounded_is c.ratio_of-f.ensures.0 c.in-Whole.is in
     let is_last = rounded_is c.ratio_of-l.ensures.0 c.in-Whole-last_rounded.is in

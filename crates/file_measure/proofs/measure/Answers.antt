@@ -6,14 +6,14 @@ use native.Mathlib.Omega.{arith}
 use lib.ListN.{length}
 use mir.Facts.{to_z-of_z}
 use Rattle.terms.specs.Logic.{zero_one}
-use Rattle.terms.specs.declared.TableWritten.TheVariants.{Length}
 use Rattle.file_plan.specs.Stages.{body_of}
 use Rattle.file_lay.proofs.LaySteps.{body_bound, table_measured, length_whole}
 use Rattle.file_measure.proofs.measure.Goals as goal
+use Rattle.std.specs.Prelude.{Ok}
 
 pub overflow_add-length : goal.overflow_add-length
 overflow_add-length c =
-    let table_at : c.text_length.result ≡ Length (length (body_of c.args.first c.args.last c.args.n.npoints c.args.ordinates.now)) = let a = c.args in
+    let table_at : c.text_length.result ≡ Ok (length (body_of c.args.first c.args.last c.args.n.npoints c.args.ordinates.now)) = let a = c.args in
     table_measured a.first a.last a.n.npoints a.ordinates.now c.requires.2
     (rw (to_z-of_z c.ranges.first, to_z-of_z c.ranges.last) at c.text_length.ensures) in
     let length_at : let a = c.args in c.in-Length.k ≡ length (body_of a.first a.last a.n.npoints a.ordinates.now) = let e = sym c.in-Length.is ∙ table_at in cc in
@@ -23,7 +23,7 @@ overflow_add-length c =
 
 pub overflow_add-length-in-Length : goal.overflow_add-length-in-Length
 overflow_add-length-in-Length c =
-    let table_at : c.text_length.result ≡ Length (length (body_of c.args.first c.args.last c.args.n.npoints c.args.ordinates.now)) = let a = c.args in
+    let table_at : c.text_length.result ≡ Ok (length (body_of c.args.first c.args.last c.args.n.npoints c.args.ordinates.now)) = let a = c.args in
     table_measured a.first a.last a.n.npoints a.ordinates.now c.requires.2
     (rw (to_z-of_z c.ranges.first, to_z-of_z c.ranges.last) at c.text_length.ensures) in
     let length_at : let a = c.args in c.in-Length.k ≡ length (body_of a.first a.last a.n.npoints a.ordinates.now) = let e = sym c.in-Length.is ∙ table_at in cc in
@@ -33,14 +33,14 @@ overflow_add-length-in-Length c =
 
 pub returns-in-Refused : goal.returns-in-Refused
 returns-in-Refused c =
-    let table_at : c.text_length.result ≡ Length (length (body_of c.args.first c.args.last c.args.n.npoints c.args.ordinates.now)) = let a = c.args in
+    let table_at : c.text_length.result ≡ Ok (length (body_of c.args.first c.args.last c.args.n.npoints c.args.ordinates.now)) = let a = c.args in
     table_measured a.first a.last a.n.npoints a.ordinates.now c.requires.2
     (rw (to_z-of_z c.ranges.first, to_z-of_z c.ranges.last) at c.text_length.ensures) in
     let e = sym c.in-Refused.is ∙ table_at in zero_one cc
 
 pub returns-in-Length : goal.returns-in-Length
 returns-in-Length c =
-    let table_at : c.text_length.result ≡ Length (length (body_of c.args.first c.args.last c.args.n.npoints c.args.ordinates.now)) = let a = c.args in
+    let table_at : c.text_length.result ≡ Ok (length (body_of c.args.first c.args.last c.args.n.npoints c.args.ordinates.now)) = let a = c.args in
     table_measured a.first a.last a.n.npoints a.ordinates.now c.requires.2
     (rw (to_z-of_z c.ranges.first, to_z-of_z c.ranges.last) at c.text_length.ensures) in
     let length_at : let a = c.args in c.in-Length.k ≡ length (body_of a.first a.last a.n.npoints a.ordinates.now) = let e = sym c.in-Length.is ∙ table_at in cc in

@@ -4,12 +4,13 @@ use mathlib.Core.Path.{◌≡◌, sym, ap, ◌∙◌}
 use mir.Syntax.{w64}
 use mir.Facts.{to_z-of_z}
 use borrow.Author.Rules.{sfits_of}
-use Rattle.decimal_spec.specs.declared.Rounded.{Rounded}
 use Rattle.decimal_spec.specs.declared.Quotient.{Quotient}
 use Rattle.file_plan.proofs.StageSteps.{plans_same, first_beyond, last_beyond, both_whole}
 use Rattle.file_plan.proofs.plan_numbers.Goals as goal
+use Rattle.std.specs.Prelude.{Option}
+use Rattle.decimal_spec.specs.declared.Whole.{Whole}
 
-rounded_is : {q r : Quotient} {x : Rounded} → q ≡ r → q.rounded ≡ x → r.rounded ≡ x
+rounded_is : {q r : Quotient} {x : Option Whole} → q ≡ r → q.rounded ≡ x → r.rounded ≡ x
 rounded_is e h = ap (λ (q : Quotient). q.rounded) (sym e) ∙ h
 
 exact_is : {q r : Quotient} → q ≡ r → q.exact ≡ r.exact

@@ -2,14 +2,14 @@
 -- where the frame is legal: it is that of the numbers given
 use mathlib.Core.Path.{◌≡◌, sym, ◌∙◌}
 use mir.Facts.{to_z-of_z}
-use Rattle.frame.specs.declared.Framed.TheVariants.{Legal}
 use Rattle.frame.specs.Legal.{framed}
 use Rattle.table_given.proofs.CheckSteps.{outside_refused, few_refused}
 use Rattle.table_given.proofs.check.Goals as goal
+use Rattle.std.specs.Prelude.{Some}
 
 pub returns-then-ordinates-points : goal.returns-then-ordinates-points
 returns-then-ordinates-points c =
-    let legal_at : framed c.args.first c.args.last c.args.points ≡ Legal c.in-Legal.fr = sym (rw (to_z-of_z c.ranges.first, to_z-of_z c.ranges.last) at c.new.ensures) ∙ c.in-Legal.is in
+    let legal_at : framed c.args.first c.args.last c.args.points ≡ Some c.in-Legal.fr = sym (rw (to_z-of_z c.ranges.first, to_z-of_z c.ranges.last) at c.new.ensures) ∙ c.in-Legal.is in
     few_refused _ _ _ _ legal_at c.if-ordinates-points.true
 
 pub returns-in-Outside : goal.returns-in-Outside
@@ -18,5 +18,5 @@ returns-in-Outside c =
 
 pub returns-else-ordinates-points : goal.returns-else-ordinates-points
 returns-else-ordinates-points c =
-    let legal_at : framed c.args.first c.args.last c.args.points ≡ Legal c.in-Legal.fr = sym (rw (to_z-of_z c.ranges.first, to_z-of_z c.ranges.last) at c.new.ensures) ∙ c.in-Legal.is in
+    let legal_at : framed c.args.first c.args.last c.args.points ≡ Some c.in-Legal.fr = sym (rw (to_z-of_z c.ranges.first, to_z-of_z c.ranges.last) at c.new.ensures) ∙ c.in-Legal.is in
     (legal_at, c.if-ordinates-points.false)

@@ -5,18 +5,18 @@ use mir.Facts.{to_z-of_z}
 use Rattle.frame.specs.FrameLaws.{framed_legal}
 use Rattle.table_text.specs.Answers.{told}
 use Rattle.table_given.specs.Checks.{Checks}
-use Rattle.table_given.specs.declared.Checked.{Checked}
 use Rattle.table_write.proofs.RoomSteps.{as_many, measured}
 use Rattle.table_write.proofs.text_length.Goals as goal
+use Rattle.std.specs.Prelude.{Ok}
 
 pub slice_bounds-length_of-end : goal.slice_bounds-length_of-end
 slice_bounds-length_of-end c =
-    let taken : let a = c.args in Checks a.first a.last a.points a.ordinates.now (Checked.Taken c.in-Taken.fr) = rw (to_z-of_z c.ranges.first, to_z-of_z c.ranges.last, c.in-Taken.is) at c.check.ensures in
+    let taken : let a = c.args in Checks a.first a.last a.points a.ordinates.now (Ok c.in-Taken.fr) = rw (to_z-of_z c.ranges.first, to_z-of_z c.ranges.last, c.in-Taken.is) at c.check.ensures in
     let t = taken in sym (as_many _ _ _ _ t.0 t.1)
 
 pub length_of-bytes-requires : goal.length_of-bytes-requires
 length_of-bytes-requires c =
-    let taken : let a = c.args in Checks a.first a.last a.points a.ordinates.now (Checked.Taken c.in-Taken.fr) = rw (to_z-of_z c.ranges.first, to_z-of_z c.ranges.last, c.in-Taken.is) at c.check.ensures in
+    let taken : let a = c.args in Checks a.first a.last a.points a.ordinates.now (Ok c.in-Taken.fr) = rw (to_z-of_z c.ranges.first, to_z-of_z c.ranges.last, c.in-Taken.is) at c.check.ensures in
     let t = taken in ((framed_legal _ _ _ t.0).sound, as_many _ _ _ _ t.0 t.1)
 
 pub returns-in-Refused : goal.returns-in-Refused
@@ -26,6 +26,6 @@ returns-in-Refused c =
 
 pub returns-in-Taken : goal.returns-in-Taken
 returns-in-Taken c =
-    let taken : let a = c.args in Checks a.first a.last a.points a.ordinates.now (Checked.Taken c.in-Taken.fr) = rw (to_z-of_z c.ranges.first, to_z-of_z c.ranges.last, c.in-Taken.is) at c.check.ensures in
+    let taken : let a = c.args in Checks a.first a.last a.points a.ordinates.now (Ok c.in-Taken.fr) = rw (to_z-of_z c.ranges.first, to_z-of_z c.ranges.last, c.in-Taken.is) at c.check.ensures in
     let t = taken in
     measured _ _ _ _ t.0 t.1 c.args.style c.length_of-bytes.ensures

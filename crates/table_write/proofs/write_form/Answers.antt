@@ -4,13 +4,13 @@ use mir.Facts.{to_z-of_z}
 use Rattle.frame.specs.FrameLaws.{framed_legal}
 use Rattle.table_text.proofs.AnswerSteps.{inside}
 use Rattle.table_given.specs.Checks.{Checks}
-use Rattle.table_given.specs.declared.Checked.{Checked}
 use Rattle.table_write.proofs.RoomSteps.{refused_tells, enough_ordinates}
 use Rattle.table_write.proofs.write_form.Goals as goal
+use Rattle.std.specs.Prelude.{Ok}
 
 pub write_framed-requires : goal.write_framed-requires
 write_framed-requires c =
-    let taken : let a = c.args in Checks a.first a.last a.points a.ordinates.now (Checked.Taken c.in-Taken.fr) = rw (to_z-of_z c.ranges.first, to_z-of_z c.ranges.last, c.in-Taken.is) at c.check.ensures in
+    let taken : let a = c.args in Checks a.first a.last a.points a.ordinates.now (Ok c.in-Taken.fr) = rw (to_z-of_z c.ranges.first, to_z-of_z c.ranges.last, c.in-Taken.is) at c.check.ensures in
     let t = taken in
     ((framed_legal _ _ _ t.0).sound, enough_ordinates _ _ _ c.args.ordinates.now t.0 t.1)
 
@@ -21,6 +21,6 @@ returns-in-Refused c =
 
 pub returns-in-Taken : goal.returns-in-Taken
 returns-in-Taken c =
-    let taken : let a = c.args in Checks a.first a.last a.points a.ordinates.now (Checked.Taken c.in-Taken.fr) = rw (to_z-of_z c.ranges.first, to_z-of_z c.ranges.last, c.in-Taken.is) at c.check.ensures in
+    let taken : let a = c.args in Checks a.first a.last a.points a.ordinates.now (Ok c.in-Taken.fr) = rw (to_z-of_z c.ranges.first, to_z-of_z c.ranges.last, c.in-Taken.is) at c.check.ensures in
     let a = c.args in
     inside a.style _ _ _ a.ordinates.now _ taken.0 c.write_framed.ensures

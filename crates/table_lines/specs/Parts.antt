@@ -1,0 +1,7 @@
+-- A head, by its parts. Assumes nothing.
+use Rattle.std.specs.Prelude.{ℕ}
+use Rattle.table_lines.specs.declared.Head.{Head}
+
+-- the abscissa of a head plus 10,000,000,000, its unit, and the place after it
+abbrev pub head_with : ℕ → ℕ → ℕ → Head
+head_with a b c = record { abscissa = a; unit = b; at = c }
