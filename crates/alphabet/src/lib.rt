@@ -16,7 +16,7 @@ pub use byte_entry::{
 pub const END: u64 = 256;
 
 // A run of digits: its number, the place after it, and the byte that stands there, END at the end of the text.
-#[derive(Drop)]
+#[derive(Clone, Copy)]
 pub struct Run {
     pub v: u64,
     pub at: usize,

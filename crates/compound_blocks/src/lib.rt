@@ -15,7 +15,7 @@ use label_names::{is_end, is_title};
 use label_spec::Label;
 
 // What the next label is to the pass: the walk is over; END; TITLE; a DATA TYPE that is LINK; or another.
-#[derive(Drop)]
+#[derive(Clone, Copy)]
 enum Seen {
     Over,
     End { mark: usize, eq: usize },

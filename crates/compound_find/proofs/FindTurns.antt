@@ -27,10 +27,9 @@ use Rattle.compound_law.specs.Found.{found}
 use Rattle.compound_law.specs.Flat.{plain, flat}
 use Rattle.compound_law.proofs.Flat.{flat_is}
 use Rattle.compound_survey.specs.Told.{own_of, told, Surveys}
-use Rattle.compound_find.specs.Answers.{FindsBlocks, counted_by, blocks_on, judged_by, Stores}
+use Rattle.compound_find.specs.Answers.{FindsBlocks, count_on, counted_by, blocks_on, judged_by, Stores}
 use Rattle.std.specs.Prelude.{Option, Some, None, Result, Ok, Err}
 use Rattle.decimal_spec.specs.declared.Count.{Count}
-use Rattle.decimal_spec.specs.declared.Whole.{Whole}
 use Rattle.compound_spec.specs.declared.Blocks.{Blocks}
 use Rattle.label_spec.specs.Parts.{span_of, edges_with}
 use Rattle.decimal_spec.specs.Parts.{count_with}
@@ -44,7 +43,7 @@ module _ (s : List ℕ) (t : Span) (n : ℕ) where
   count_bad c e f p g r h = rw (sym e ∙ f, ← g) h
 
   module _ (c : Option Count) (e : c ≡ count_in (text_in s t)) (v j : ℕ) (f : c ≡ Some (count_with v j)) where
-    pub count_right : v ≡ n → Whole.Compound ≡ counted_by s t n
+    pub count_right : v ≡ n → Ok (Blocks.Compound n) ≡ counted_by s t n
     unfolding counted_by
     count_right g = rw (sym e ∙ f, eq-eqb v n g) refl
 
@@ -53,7 +52,7 @@ module _ (s : List ℕ) (t : Span) (n : ℕ) where
     count_wrong g p k r h = rw (sym e ∙ f, ne_eqb v n g, ← k) h
 
 module _ (s : List ℕ) (end : ℕ) (o : Own) (n : ℕ) where
-  pub whole_one : o.link ≡ false → Whole.One ≡ judged_by s end o n
+  pub whole_one : o.link ≡ false → Ok Blocks.One ≡ judged_by s end o n
   unfolding judged_by
   whole_one h = rw h refl
 
@@ -65,6 +64,28 @@ module _ (s : List ℕ) (end : ℕ) (o : Own) (n : ℕ) where
     pub whole_text : (a b : ℕ) → x ≡ Some (span_of a b) → (r : Result Blocks Fault) → r ≡ counted_by s (span_of a b) n → r ≡ judged_by s end o n
     unfolding judged_by
     whole_text a b f r g = rw (h, e, f) g
+
+-- a compound file has as many data blocks as were counted
+count_counts : (s : List ℕ) (t : Span) (n k : ℕ) (c : Option Count) → Ok (Blocks.Compound k) ≡ count_on s t n c → k ≡ n
+count_counts s t n k None e = zero_one cc
+count_counts s t n k (Some x) e = cases (eqb x.value n) e
+  where
+    cases : (q : Bool) → Ok (Blocks.Compound k) ≡ pick q (Ok (Blocks.Compound n)) (Err (fault_at 32 (mark_of s t))) → k ≡ n
+    cases true f = cc
+    cases false f = zero_one cc
+
+blocks_count : (s : List ℕ) (end n k : ℕ) (x : Option Span) → Ok (Blocks.Compound k) ≡ blocks_on s end n x → k ≡ n
+unfolding counted_by
+blocks_count s end n k None e = zero_one cc
+blocks_count s end n k (Some x) e = count_counts s x n k (count_in (text_in s x)) e
+
+whole_counts : (s : List ℕ) (end : ℕ) (o : Own) (n k : ℕ) → Ok (Blocks.Compound k) ≡ judged_by s end o n → k ≡ n
+unfolding judged_by
+whole_counts s end o n k e = cases o.link e
+  where
+    cases : (q : Bool) → Ok (Blocks.Compound k) ≡ pick q (blocks_on s end n o.blocks) (Ok Blocks.One) → k ≡ n
+    cases true f = blocks_count s end n k o.blocks f
+    cases false f = zero_one cc
 
 -- ---- `store_fitting`
 
@@ -106,8 +127,8 @@ known s o w n (ended l b bs) e f =
 -- the answer for each case of the whole
 abbrev answer_of : Block → List Block → Result Blocks Fault → BlocksAnswer
 answer_of o bs (Err f) = refuse_blocks f.number f.place
-answer_of o bs Whole.One = one_block o
-answer_of o bs Whole.Compound = all_blocks bs
+answer_of o bs (Ok Blocks.One) = one_block o
+answer_of o bs (Ok (Blocks.Compound n)) = all_blocks bs
 
 module _ (s : List ℕ) (l : Level) (o : Block) (bs : List Block) where
   count_is : (a b : ℕ) (c : Option Count) → count_in (text_in s (span_of a b)) ≡ c → by_count s (span_of a b) bs c ≡ answer_of o bs (counted_by s (span_of a b) (length bs))
@@ -115,7 +136,7 @@ module _ (s : List ℕ) (l : Level) (o : Block) (bs : List Block) where
   count_is a b None e = rw e refl
   count_is a b (Some x) e = rw e (cases (eqb x.value (length bs)))
     where
-      cases : (t : Bool) → pick t (all_blocks bs) (refuse_blocks 32 (mark_of s (span_of a b))) ≡ answer_of o bs (pick t Whole.Compound (Err (fault_at 32 (mark_of s (span_of a b)))))
+      cases : (t : Bool) → pick t (all_blocks bs) (refuse_blocks 32 (mark_of s (span_of a b))) ≡ answer_of o bs (pick t (Ok (Blocks.Compound (length bs))) (Err (fault_at 32 (mark_of s (span_of a b)))))
       cases true = refl
       cases false = refl
 
@@ -128,7 +149,7 @@ module _ (s : List ℕ) (l : Level) (o : Block) (bs : List Block) where
   unfolding by_survey judged_by
   whole_is = cases l.link
     where
-      cases : (t : Bool) → pick t (by_blocks s o bs l.blocks) (one_block o) ≡ answer_of o bs (pick t (blocks_on s o.end (length bs) l.blocks) Whole.One)
+      cases : (t : Bool) → pick t (by_blocks s o bs l.blocks) (one_block o) ≡ answer_of o bs (pick t (blocks_on s o.end (length bs) l.blocks) (Ok Blocks.One))
       cases true = blocks_is l.blocks
       cases false = refl
 
@@ -192,13 +213,19 @@ module _ (s out : List ℕ) where
     pub found_fault : (f : Fault) → Err f ≡ judged_by s o.end w n → (q : Refusal) → q ≡ refusal_in s f.number f.place → FindsBlocks s out out (Err q)
     found_fault f e q h = let z = judged (Err f) e in record { answers = rw (z, h) refl; leaves = rw z refl }
 
-    pub found_all : Whole.Compound ≡ judged_by s o.end w n → (out' : List ℕ) → Stores s out o.title o.eq n out' → FindsBlocks s out out' (Ok (Blocks.Compound n))
-    found_all e out' g = let z = judged Whole.Compound e in record { answers = ap Ok (Blocks.Compound is.count) ∙ rw z refl; leaves = rw z (stored out' g) }
+    found_all : (k : ℕ) → Ok (Blocks.Compound k) ≡ judged_by s o.end w n → (out' : List ℕ) → Stores s out o.title o.eq n out' → FindsBlocks s out out' (Ok (Blocks.Compound k))
+    found_all k e out' g =
+        let z = judged (Ok (Blocks.Compound k)) e in
+        record { answers = rw (whole_counts s o.end w n k e, is.count, z) refl; leaves = rw z (stored out' g) }
 
-    pub found_one : Whole.One ≡ judged_by s o.end w n → (out' : List ℕ) → Stores s out o.title o.eq n out' → FindsBlocks s out out' (Ok Blocks.One)
+    found_one : Ok Blocks.One ≡ judged_by s o.end w n → (out' : List ℕ) → Stores s out o.title o.eq n out' → FindsBlocks s out out' (Ok Blocks.One)
     unfolding find_blocks
     found_one e out' g =
-        let z = judged Whole.One e in
+        let z = judged (Ok Blocks.One) e in
         let k = unlinked s is.level o is.blocks (sym (rw is.is at z)) in
         let b = promised_one s is.level o is.blocks (surveyed s) is.is (found s) k in
         record { answers = rw z refl; leaves = rw z (rw b at (stored out' g)) }
+
+    pub found_whole : (b : Blocks) → Ok b ≡ judged_by s o.end w n → (out' : List ℕ) → Stores s out o.title o.eq n out' → FindsBlocks s out out' (Ok b)
+    found_whole Blocks.One e out' g = found_one e out' g
+    found_whole (Blocks.Compound k) e out' g = found_all k e out' g

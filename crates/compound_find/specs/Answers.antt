@@ -1,5 +1,5 @@
 -- The public contract of finding the data blocks of a file, and that its outcome is unique; and what its inner functions ensure. Assumes nothing.
-use Rattle.std.specs.Prelude.{◌≡◌, false, List, ℕ, ◌+◌, ◌≤◌, eqb, length, take, Option, Some, None, Result, Err}
+use Rattle.std.specs.Prelude.{◌≡◌, false, List, ℕ, ◌+◌, ◌≤◌, eqb, length, take, Option, Some, None, Result, Ok, Err}
 use Rattle.std.proofs.Common.{sym, ◌∙◌}
 use Rattle.terms.specs.Logic.{pick}
 use Rattle.terms.specs.Refusals.{fault_at}
@@ -13,7 +13,6 @@ use Rattle.compound_spec.specs.Compound.{find_blocks}
 use Rattle.compound_spec.specs.Answers.{told_blocks, laid, stored_blocks}
 use Rattle.compound_law.specs.Flat.{plain, flat}
 use Rattle.decimal_spec.specs.declared.Count.{Count}
-use Rattle.decimal_spec.specs.declared.Whole.{Whole}
 use Rattle.terms.specs.declared.Fault.{Fault}
 use Rattle.terms.specs.declared.Refusal.{Refusal}
 use Rattle.compound_spec.specs.declared.Blocks.{Blocks}
@@ -30,7 +29,7 @@ outcome_unique file x y = (x.answers ∙ sym y.answers, x.leaves ∙ sym y.leave
 -- 32, as `by_count` has it, of n data blocks
 abbrev pub count_on : List ℕ → Span → ℕ → Option Count → Result Blocks Fault
 count_on s t n None = Err (fault_at 32 (mark_of s t))
-count_on s t n (Some x) = pick (eqb x.value n) Whole.Compound (Err (fault_at 32 (mark_of s t)))
+count_on s t n (Some x) = pick (eqb x.value n) (Ok (Blocks.Compound n)) (Err (fault_at 32 (mark_of s t)))
 
 unfoldable pub counted_by : List ℕ → Span → ℕ → Result Blocks Fault
 counted_by s t n = count_on s t n (count_in (text_in s t))
@@ -42,7 +41,7 @@ blocks_on s end n (Some x) = counted_by s x n
 
 -- the whole, as `by_survey` has it
 unfoldable pub judged_by : List ℕ → ℕ → Own → ℕ → Result Blocks Fault
-judged_by s end o n = pick o.link (blocks_on s end n o.blocks) Whole.One
+judged_by s end o n = pick o.link (blocks_on s end n o.blocks) (Ok Blocks.One)
 
 -- where the flat list is that of the data blocks, as many of them as fit are stored
 pub record Stores (s out : List ℕ) (m e n : ℕ) (out' : List ℕ) : Type 0 where

@@ -12,17 +12,10 @@ use compound_spec::{Blocks, Own, Surveyed};
 use compound_survey::survey;
 use decimal_spec::Count;
 use file_marks::mark_in;
-use file_spec::Span;
+use label_spec::Span;
 use file_texts::count_in;
-use terms::{Fault, Refusal};
+use terms::{Fault, Reason, Refusal};
 use text::refusal_in;
-
-// A fault of the whole file.
-fn fault(number: u64, place: usize) -> Result<Blocks, Fault>
-    ensures { result ≡ Err (fault_at number place) }
-{
-    Err(Fault::new(number, place))
-}
 
 // BLOCKS, whose text this is, against the number of data blocks (32).
 fn judge_count(file: &[u8], x: Span, count: usize) -> Result<Blocks, Fault>
@@ -30,12 +23,12 @@ fn judge_count(file: &[u8], x: Span, count: usize) -> Result<Blocks, Fault>
     ensures { result ≡ counted_by file.now x count }
 {
     match count_in(file, x) {
-        None => fault(32, mark_in(file, x)),
+        None => Err(Fault::new(Reason::WrongBlocks, mark_in(file, x))),
         Some(Count { value, end: _ }) => {
             if value == count as u64 {
-                return Whole::Compound;
+                return Ok(Blocks::Compound(count));
             }
-            fault(32, mark_in(file, x))
+            Err(Fault::new(Reason::WrongBlocks, mark_in(file, x)))
         }
     }
 }
@@ -46,12 +39,11 @@ fn judge_whole(file: &[u8], end: usize, own: Own, count: usize) -> Result<Blocks
     ensures { result ≡ judged_by file.now end own count }
 {
     if !own.link {
-        return Whole::One;
+        return Ok(Blocks::One);
     }
-    let blocks = own.blocks;
-    match blocks {
-        None => fault(25, end),
-        Some(Span { from, to }) => judge_count(file, Span { from, to }, count),
+    match own.blocks {
+        None => Err(Fault::new(Reason::NoRecord, end)),
+        Some(x) => judge_count(file, x, count),
     }
 }
 
@@ -84,13 +76,9 @@ pub fn find_blocks(file: &[u8], blocks: &mut [u64]) -> Result<Blocks, Refusal>
             let eq = outermost.eq;
             match judge_whole(file, outermost.end, own, count) {
                 Err(f) => Err(refusal_in(file, f.number, f.place)),
-                Whole::One => {
+                Ok(found) => {
                     store_fitting(file, blocks, title, eq, count);
-                    Ok(Blocks::One)
-                }
-                Whole::Compound => {
-                    store_fitting(file, blocks, title, eq, count);
-                    Ok(Blocks::Compound(count))
+                    Ok(found)
                 }
             }
         }

@@ -13,7 +13,7 @@ use label_names::{differ, first_of, is_empty, is_end, is_title, same_name};
 use label_spec::Label;
 
 // What one label means to a scan for a name among a block's own labels: it has the name; the block is over; or so many blocks down the scan goes on.
-#[derive(Drop)]
+#[derive(Clone, Copy)]
 enum Meet {
     Known,
     Over,

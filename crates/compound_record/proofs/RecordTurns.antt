@@ -11,7 +11,7 @@ use Rattle.terms.specs.declared.Refusal.{Refusal}
 use Rattle.label_spec.specs.Labels.{from, hashed}
 use Rattle.label_spec.specs.File.{longest_file}
 use Rattle.label_spec.specs.Records.{record_of, as_record}
-use Rattle.label.specs.Answers.{FindIn}
+use Rattle.label.specs.Answers.{found_in, FindIn}
 use Rattle.label_page.specs.Post.{FindsFrom}
 use Rattle.compound_spec.specs.Answers.{record_in_block}
 use Rattle.std.specs.Prelude.{Option, Some, None, Result, Ok, Err}
@@ -41,10 +41,10 @@ module _ (s : List ℕ) (m end : ℕ) (w : List ℕ) where
           there : record_in_block s m end w ≡ as_record (record_of (length s) end w (from s m true))
           there = unfold record_in_block in rw (le-leb (length s) longest_file h, le-leb end (length s) g, lt-ltb m end f, k) refl
 
-          pub in_text : (a b : ℕ) → FindsFrom s m end w (Some (span_of a b)) → FindsIn s m end w (Ok (Some (span_of a b)))
-          unfolding as_record
-          in_text a b x = (sym (there ∙ rw (← x.0) refl), (x.1.1, x.1.2))
+          inside : (f : Option Span) → found_in 0 (length s) f → FindIn (length s) (Ok f)
+          inside (Some y) h = (h.1, h.2)
+          inside None h = tt
 
-          pub in_absent : FindsFrom s m end w None → FindsIn s m end w (Ok None)
+          pub in_found : (f : Option Span) → FindsFrom s m end w f → FindsIn s m end w (Ok f)
           unfolding as_record
-          in_absent x = (sym (there ∙ rw (← x.0) refl), tt)
+          in_found f x = (sym (there ∙ rw (← x.0) refl), inside f x.1)

@@ -31,8 +31,5 @@ pub fn find_in_block(file: &[u8], from: usize, end: usize, name: &[u8]) -> Resul
     if !is_hashed(file, from) {
         return Ok(None);
     }
-    match find_from_mark(file, from, end, name) {
-        Some(Span { from: a, to }) => Ok(Some(Span { from: a, to })),
-        None => Ok(None),
-    }
+    Ok(find_from_mark(file, from, end, name))
 }

@@ -1,8 +1,6 @@
 // The types that the definition of what a compound file says and its code share (02, T-07).
 #![tactic(auto)]
 
-use file_spec::FileTable;
-use terms::{Fault, Refusal};
 use label_spec::Span;
 
 // A block of a file: the places of TITLE's `##` and `=`, and of END's `##` and `=`.

@@ -4,10 +4,9 @@
 ghost use Rattle.compound_survey.specs.Told.{Surveys};
 
 use compound_spec::{Block, Surveyed};
-use compound_walk::{Closing, count_more, walk_block};
+use compound_walk::{count_more, walk_block};
 use label_title::open_title;
 use terms::{Fault, Reason};
-use label_spec::Edges;
 
 // The most bytes of a file.
 const LONGEST_FILE: usize = 1048576;
@@ -19,29 +18,16 @@ pub fn survey(file: &[u8]) -> Result<Surveyed, Fault>
     if file.len() > LONGEST_FILE {
         return Err(Fault::new(Reason::LongFile, 0));
     }
-    match open_title(file) {
-        Err(r) => Err(r),
-        Ok(Edges { mark, eq }) => match walk_block(file, mark, eq, 7) {
-            Err(r) => Err(r),
-            Ok(Closing {
-                end,
-                last,
-                own,
-                count: within,
-            }) => {
-                let count = count_more(own.link, 0, within);
-                let outermost = Block {
-                    title: mark,
-                    eq,
-                    end,
-                    last,
-                };
-                Ok(Surveyed {
-                    outermost,
-                    own,
-                    count,
-                })
-            }
+    let title = open_title(file)?;
+    let closing = walk_block(file, title.mark, title.eq, 7)?;
+    Ok(Surveyed {
+        outermost: Block {
+            title: title.mark,
+            eq: title.eq,
+            end: closing.end,
+            last: closing.last,
         },
-    }
+        own: closing.own,
+        count: count_more(closing.own.link, 0, closing.count),
+    })
 }

@@ -12,22 +12,15 @@ use compound_words::note;
 use label_lines::{next_label, next_mark};
 use label_names::{is_end, is_title};
 use label_spec::Label;
-use terms::Fault;
+use terms::{Fault, Reason};
 
 // Where the walk over a block ends, at its END: the places of its `##` and `=`, what the block's own labels said, and how many data blocks stand in it.
-#[derive(Clone, Copy, Debug, PartialEq, Eq)]
+#[derive(Clone, Copy)]
 pub struct Closing {
     pub end: usize,
     pub last: usize,
     pub own: Own,
     pub count: usize,
-}
-
-// A fault of the walk.
-fn fault(number: u64, place: usize) -> Result<Closing, Fault>
-    ensures { result ≡ Err (fault_at number place) }
-{
-    Err(Fault::new(number, place))
 }
 
 // Both of two.
@@ -66,10 +59,10 @@ pub fn walk_block(s: &[u8], title: usize, eq: usize, left: usize) -> Result<Clos
     loop {
         match next_label(s, at) {
             Label::None => {
-                return fault(22, s.len());
+                return Err(Fault::new(Reason::NoEnd, s.len()));
             }
             Label::Bad { mark } => {
-                return fault(20, mark);
+                return Err(Fault::new(Reason::BadLabel, mark));
             }
             Label::At {
                 mark,
@@ -87,33 +80,22 @@ pub fn walk_block(s: &[u8], title: usize, eq: usize, left: usize) -> Result<Clos
                 }
                 if is_title(s, name, e) {
                     if !own.link {
-                        return fault(24, mark);
+                        return Err(Fault::new(Reason::StrayTitle, mark));
                     }
                     if left == 0 {
-                        return fault(24, mark);
+                        return Err(Fault::new(Reason::StrayTitle, mark));
                     }
-                    match walk_block(s, mark, e, left - 1) {
-                        Err(r) => {
-                            return Err(r);
-                        }
-                        Ok(Closing {
-                            end: _,
-                            last,
-                            own: inner,
-                            count: within,
-                        }) => {
-                            count = count_more(inner.link, count, within);
-                            at = last + 1;
-                        }
-                    }
+                    let inner = walk_block(s, mark, e, left - 1)?;
+                    count = count_more(inner.own.link, count, inner.count);
+                    at = inner.last + 1;
                 } else {
                     if own_clash(s, first, mark, name, e) {
-                        return fault(23, mark);
+                        return Err(Fault::new(Reason::LabelTwice, mark));
                     }
                     let to = next_mark(s, next);
                     own = note(s, name, e, next, to, own);
                     if is_both(own.link, own.table) {
-                        return fault(33, mark);
+                        return Err(Fault::new(Reason::TableInLink, mark));
                     }
                     at = next;
                 }

@@ -6,7 +6,7 @@ ghost use Rattle.decimal.specs.Found.{UnsignedFound, NumberFound};
 
 use decimal_digits::mantissa;
 use decimal_power::exponent;
-use decimal_spec::{Exponent, Mantissa, Number};
+use decimal_spec::Number;
 use text::byte_at;
 
 // A number after its sign.
@@ -14,21 +14,14 @@ fn unsigned(s: &[u8], at: usize, minus: bool) -> Option<Number>
     requires { at ≤ length s.now }
     ensures { UnsignedFound s.now at minus result }
 {
-    match mantissa(s, at) {
-        None => None,
-        Some(Mantissa { value, behind, end }) => match exponent(s, end) {
-            None => None,
-            Some(Exponent { power, end: past }) => {
-                let lowered = power - behind;
-                Some(Number {
-                    minus,
-                    mantissa: value,
-                    power: lowered,
-                    end: past,
-                })
-            }
-        },
-    }
+    let digits = mantissa(s, at)?;
+    let raised = exponent(s, digits.end)?;
+    Some(Number {
+        minus,
+        mantissa: digits.value,
+        power: raised.power - digits.behind,
+        end: raised.end,
+    })
 }
 
 // The number at a place of a text. An inner function: the place is one of the text or its end.

@@ -5,7 +5,7 @@ use Rattle.std.proofs.Common.{sym, ap, ◌∙◌, subst, arith, add-one, add-zer
 use Rattle.std.proofs.Math.Bool.{true, false}
 use Rattle.std.proofs.Math.Dec.{eqb}
 use Rattle.std.proofs.Math.ListN.{get_or}
-use Rattle.terms.specs.Logic.{pick, both, by_case}
+use Rattle.terms.specs.Logic.{pick, both, by_case, some_same}
 use Rattle.terms.specs.Places.{inside}
 use Rattle.alphabet_spec.specs.Digits.{Run, long, run, digits}
 use Rattle.alphabet_spec.specs.SpelledDigits.{SpelledDigits, none, more}
@@ -134,8 +134,8 @@ pub number_unique : {m n : Bool} {v w p q : ℕ} {t u z : List ℕ} → SpelledN
 number_unique {t = t} x y h l =
     let a = number_read t 0 x refl h in
     let b = number_read t 0 y refl l in
-    let e = sym a.1 ∙ b.1 in
-    (cc, cc, cc)
+    let e = some_same (sym a.1 ∙ b.1) in
+    (ap (λ r. r.minus) e, ap (λ r. r.mantissa) e, ap (λ r. r.power) e)
 
 -- ---- what is read is spelled
 

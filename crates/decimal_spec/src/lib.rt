@@ -1,7 +1,5 @@
 // The types that the definitions and the code of the numbers of a file share (01, The file).
 #![tactic(auto)]
-use file_spec::Decimal;
-
 // Digits with at most one point: the number that they make, how many of them stand behind the point, and the place after them.
 #[derive(Clone, Copy, Debug, PartialEq, Eq)]
 pub struct Mantissa {
@@ -41,7 +39,7 @@ pub struct Whole {
 }
 
 // The answer of the division of two decimals: the rounded quotient, none where it lies beyond its limit, and whether it is exact, nothing being rounded (02, T-08).
-#[derive(Drop)]
+#[derive(Clone, Copy, Debug, PartialEq, Eq)]
 pub struct Quotient {
     pub rounded: Option<Whole>,
     pub exact: bool,

@@ -33,14 +33,9 @@ fn settle(file: &[u8], out: &mut [i32], c: Result<TablePlace, Fault>) -> Result<
     requires { LaidIn file.now (length out.old) c }
     ensures { (result ≡ staged_by c) × (out.new ≡ left_by file.now out.old c) }
 {
-    match c {
-        Err(r) => Err(r),
-        Ok(k) => {
-            let table = k.table;
-            store_file(file, out, k);
-            Ok(table)
-        }
-    }
+    let k = c?;
+    store_file(file, out, k);
+    Ok(k.table)
 }
 
 // Reads the records from the place `start`, after TITLE's `=`, up to END's `##`. The reader of the blocks of a file calls it.

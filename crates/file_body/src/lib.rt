@@ -12,9 +12,10 @@ ghost use Rattle.file_body.specs.Checks.{StageChecks};
 
 use figure::{agree, exact_with, ratio_of};
 use file_marks::mark_in;
-use file_spec::{Needed, Numbers};
-use file_tabled::{TablePlace, accepted, refused, refused_in};
-use terms::Fault;
+use file_spec::{FileTable, Needed, Numbers};
+use file_tabled::{TablePlace, moved_in};
+use label_spec::Span;
+use terms::{Fault, Reason};
 
 // The table, in the frame that was found: 1 to 13 and 16, then 29.
 pub fn check_body(
@@ -38,7 +39,7 @@ pub fn check_body(
     let body = &file[place..to];
     let points = n.npoints as usize;
     match table_read::check_table(first, last, points, body, room) {
-        Err(r) => refused_in(r, place),
+        Err(fault) => Err(moved_in(fault, place)),
         Ok(y) => {
             let firsty = n.firsty;
             let yfactor = n.yfactor;
@@ -46,10 +47,18 @@ pub fn check_body(
             let rounded = q.rounded;
             if !agree(y, rounded) {
                 let t = x.firsty;
-                return refused(29, mark_in(file, t));
+                return Err(Fault::new(Reason::WrongFirst, mark_in(file, t)));
             }
             let exact = exact_with(first_exact, last_exact, q.exact, y);
-            accepted(points, first, last, exact, place, to)
+            Ok(TablePlace {
+                table: FileTable {
+                    points,
+                    first,
+                    last,
+                    exact,
+                },
+                body: Span { from: place, to },
+            })
         }
     }
 }

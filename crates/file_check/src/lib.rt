@@ -17,10 +17,8 @@ use file_gather::gather;
 use file_marks::{list_in, mark_in};
 use file_records::figures;
 use file_spec::{Needed, Numbers};
-use file_tabled::{TablePlace, refused};
-use label_spec::Places;
-use decimal_spec::Whole;
-use terms::Fault;
+use file_tabled::TablePlace;
+use terms::{Fault, Reason};
 
 // F and L (28), then the table.
 fn check_abscissas(file: &[u8], room: usize, x: Needed, n: Numbers, start: usize) -> Result<TablePlace, Fault>
@@ -31,28 +29,16 @@ fn check_abscissas(file: &[u8], room: usize, x: Needed, n: Numbers, start: usize
     let lastx = n.lastx;
     let xfactor = n.xfactor;
     let f = ratio_of(3, firstx, xfactor);
-    let first_rounded = f.rounded;
-    match first_rounded {
-        None => {
-            let t = x.firstx;
-            refused(28, mark_in(file, t))
-        }
-        Some(Whole { minus: m, size: p }) => {
-            let l = ratio_of(3, lastx, xfactor);
-            let last_rounded = l.rounded;
-            match last_rounded {
-                None => {
-                    let t = x.lastx;
-                    refused(28, mark_in(file, t))
-                }
-                Some(Whole { minus: k, size: q }) => {
-                    let first = whole_of(m, p);
-                    let last = whole_of(k, q);
-                    check_body(file, room, x, n, start, first, last, f.exact, l.exact)
-                }
-            }
-        }
-    }
+    let Some(p) = f.rounded else {
+        return Err(Fault::new(Reason::FarAbscissa, mark_in(file, x.firstx)));
+    };
+    let l = ratio_of(3, lastx, xfactor);
+    let Some(q) = l.rounded else {
+        return Err(Fault::new(Reason::FarAbscissa, mark_in(file, x.lastx)));
+    };
+    let first = whole_of(p.minus, p.size);
+    let last = whole_of(q.minus, q.size);
+    check_body(file, room, x, n, start, first, last, f.exact, l.exact)
 }
 
 // The numbers (26), the list (27), then the rest.
@@ -61,11 +47,11 @@ fn check_records(file: &[u8], room: usize, x: Needed) -> Result<TablePlace, Faul
     ensures { StageChecks file.now room (body_at x (listed_in (text_in file.now x.xydata))) (by_figures file.now room x (figures_of file.now x)) result }
 {
     match figures(file, x) {
-        Err(a) => refused(26, a),
+        Err(a) => Err(Fault::new(Reason::BadNumber, a)),
         Ok(n) => {
             let s = x.xydata;
             match list_in(file, s) {
-                None => refused(27, mark_in(file, s)),
+                None => Err(Fault::new(Reason::OtherForm, mark_in(file, s))),
                 Some(start) => check_abscissas(file, room, x, n, start),
             }
         }
@@ -79,7 +65,7 @@ pub fn check_part(file: &[u8], room: usize, start: usize, end: usize) -> Result<
         (by_records file.now room end (gathered_from file.now start end)) result }
 {
     match gather(file, start, end) {
-        None => refused(25, end),
+        None => Err(Fault::new(Reason::NoRecord, end)),
         Some(x) => check_records(file, room, x),
     }
 }
@@ -88,11 +74,6 @@ pub fn check_part(file: &[u8], room: usize, start: usize, end: usize) -> Result<
 pub fn check_file(file: &[u8], room: usize) -> Result<TablePlace, Fault>
     ensures { StageChecks file.now room (body_of file.now) (read_file file.now room) result }
 {
-    match label_walk::labels(file) {
-        Err(r) => Err(r),
-        Ok(Places { title: _, eq, end }) => {
-            let start = eq + 1;
-            check_part(file, room, start, end)
-        }
-    }
+    let places = label_walk::labels(file)?;
+    check_part(file, room, places.eq + 1, places.end)
 }

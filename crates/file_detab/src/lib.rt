@@ -9,8 +9,8 @@ ghost use Rattle.file_detab.specs.Answers.{FoundWithin, FileDetabs};
 
 use file_gather::gather;
 use file_marks::list_in;
-use file_spec::{Needed, Span};
-use label_spec::Places;
+use file_spec::Needed;
+use label_spec::{Places, Span};
 
 // The body, from the line after XYDATA's list on, if that is the one asked for.
 fn body_at(file: &[u8], x: Needed) -> Option<Span>
@@ -18,14 +18,11 @@ fn body_at(file: &[u8], x: Needed) -> Option<Span>
     ensures { (result ≡ found_at x (listed_in (text_in file.now x.xydata))) × FoundWithin (length file.now) result }
 {
     let s = x.xydata;
-    match list_in(file, s) {
-        None => None,
-        Some(start) => {
-            let to = s.to;
-            let from = s.from + start;
-            Some(Span { from, to })
-        }
-    }
+    let start = list_in(file, s)?;
+    Some(Span {
+        from: s.from + start,
+        to: s.to,
+    })
 }
 
 // Where the body of a file's table stands, as `file_check::check_file` finds it; the numbers of the file are not looked at.
@@ -36,10 +33,8 @@ pub fn find_body(file: &[u8]) -> Option<Span>
         Err(_) => None,
         Ok(Places { title: _, eq, end }) => {
             let start = eq + 1;
-            match gather(file, start, end) {
-                None => None,
-                Some(x) => body_at(file, x),
-            }
+            let x = gather(file, start, end)?;
+            body_at(file, x)
         }
     }
 }

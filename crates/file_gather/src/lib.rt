@@ -48,10 +48,7 @@ pub fn gather(file: &[u8], start: usize, stop: usize) -> Option<Needed>
 {
     let mut texts = [Span { from: 0, to: 0 }; 7];
     for k in 0..7 {
-        let Some(Span { from, to }) = record_at(file, start, stop, k) else {
-            return None;
-        };
-        texts[k] = Span { from, to };
+        texts[k] = record_at(file, start, stop, k)?;
     }
     Some(needed(texts))
 }

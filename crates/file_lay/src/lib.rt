@@ -13,17 +13,10 @@ use file_lines::{put_heading, put_line};
 use file_spec::{Exactness, Numbers};
 use file_write_spec::FileLength;
 use table_write::write_table;
-use terms::Fault;
+use terms::{Fault, Reason};
 
 // How many bytes END's record has, with its line end.
 pub const END_LINE: usize = 8;
-
-// A refusal of the writer: its place is 0.
-pub fn refused(number: u64) -> Result<FileLength, Fault>
-    ensures { result ≡ Err (fault_at number 0) }
-{
-    Err(Fault::new(number, 0))
-}
 
 // How long all that stands before the body is: nothing is stored.
 pub fn heading_length(title: &[u8], n: Numbers) -> usize
@@ -51,12 +44,12 @@ pub fn lay(
     let head = heading_length(title, n);
     let len = text.len();
     if len < head + END_LINE {
-        return refused(15);
+        return Err(Fault::new(Reason::NoFit, 0));
     }
     let stop = len - END_LINE;
     let points = n.npoints as usize;
     match write_table(first, last, points, ordinates, &mut text[head..stop]) {
-        Err(_) => refused(15),
+        Err(_) => Err(Fault::new(Reason::NoFit, 0)),
         Ok(k) => {
             put_heading(text, title, n);
             let at = head + k;

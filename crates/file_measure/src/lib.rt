@@ -28,11 +28,9 @@ pub fn measure(
 {
     let head = heading_length(title, n);
     let points = n.npoints as usize;
-    match text_length(Style::Difdup, first, last, points, ordinates) {
-        Err(fault) => Err(fault),
-        Ok(k) => {
-            let length = head + k + END_LINE;
-            Ok(FileLength { length, exact })
-        }
-    }
+    let body = text_length(Style::Difdup, first, last, points, ordinates)?;
+    Ok(FileLength {
+        length: head + body + END_LINE,
+        exact,
+    })
 }

@@ -10,11 +10,10 @@ use file_given::{figures_of, title_fair};
 use file_spec::{Exactness, Numbers};
 use file_write_spec::Scales;
 use frame::Frame;
-use decimal_spec::Whole;
 use terms::Reason;
 
 // A file that can be written: its numbers, F and L, and what of it is exact (02, T-08).
-#[derive(Drop)]
+#[derive(Clone, Copy)]
 pub struct Plan {
     pub numbers: Numbers,
     pub first: i64,
@@ -68,22 +67,16 @@ fn plan_numbers(n: Numbers, ordinates: &[i32]) -> Result<Plan, Reason>
     let lastx = n.lastx;
     let xfactor = n.xfactor;
     let f = ratio_of(3, firstx, xfactor);
-    let first_rounded = f.rounded;
-    match first_rounded {
-        None => Err(Reason::FarAbscissa),
-        Some(Whole { minus: m, size: p }) => {
-            let l = ratio_of(3, lastx, xfactor);
-            let last_rounded = l.rounded;
-            match last_rounded {
-                None => Err(Reason::FarAbscissa),
-                Some(Whole { minus: k, size: q }) => {
-                    let first = whole_of(m, p);
-                    let last = whole_of(k, q);
-                    plan_in(n, first, last, f.exact, l.exact, ordinates)
-                }
-            }
-        }
-    }
+    let Some(p) = f.rounded else {
+        return Err(Reason::FarAbscissa);
+    };
+    let l = ratio_of(3, lastx, xfactor);
+    let Some(q) = l.rounded else {
+        return Err(Reason::FarAbscissa);
+    };
+    let first = whole_of(p.minus, p.size);
+    let last = whole_of(q.minus, q.size);
+    plan_in(n, first, last, f.exact, l.exact, ordinates)
 }
 
 // The tests of a file, in the order of the refusals: the title (37), the decimals (26), then what their numbers say.

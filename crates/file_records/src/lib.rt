@@ -8,7 +8,6 @@ ghost use Rattle.file_gather.specs.Bounds.{AllWithin};
 ghost use Rattle.file_records.specs.Order.{from_firstx, from_npoints};
 ghost use Rattle.file_records.specs.Bounds.{FactorsRead, FiguresIn};
 
-use decimal_spec::Count;
 use file_marks::mark_in;
 use file_spec::{Decimal, Needed, Numbers};
 use file_texts::{count_in, decimal_in, factor_in};
@@ -58,11 +57,7 @@ fn figures_from_npoints(
     ensures { (result ≡ from_npoints file.now x xfactor yfactor firstx lastx) × FiguresIn result }
 {
     let one = x.npoints;
-    let Some(Count {
-        value: npoints,
-        end: _,
-    }) = count_in(file, one)
-    else {
+    let Some(npoints) = count_in(file, one) else {
         return Err(mark_in(file, one));
     };
     let two = x.firsty;
@@ -74,7 +69,7 @@ fn figures_from_npoints(
         yfactor,
         firstx,
         lastx,
-        npoints,
+        npoints: npoints.value,
         firsty,
     })
 }

@@ -21,7 +21,7 @@ use Rattle.decimal_spec.specs.declared.Whole.{Whole}
 
 by_limit : {A : Type 0} (q : Option Whole) → (q ≡ None → A) → (Limited q → A) → A
 by_limit None f g = f refl
-by_limit (Some x) f g = g (record { x.minus = x.minus; x.size = x.size; is = refl })
+by_limit (Some x) f g = g (record { minus = x.minus; size = x.size; is = refl })
 
 beyond : (q : Option Whole) (x : Outcome) → q ≡ None → limited q x ≡ declined 28
 beyond q x e = rw e refl

@@ -25,7 +25,7 @@ ends_there p j = eqb (past_space p j) (length p)
 
 unfoldable pub alone : List ℕ → Option Number → Option Decimal
 alone p None = None
-alone p (Some x) = pick (ends_there p x.end) (Some (record { x.minus = x.minus; mantissa = x.mantissa; power = x.power })) None
+alone p (Some x) = pick (ends_there p x.end) (Some (record { minus = x.minus; mantissa = x.mantissa; power = x.power })) None
 
 -- the number that a text is
 unfoldable pub decimal_in : List ℕ → Option Decimal

@@ -4,7 +4,7 @@
 use label_spec::Span;
 
 // The texts of the seven records that a table needs.
-#[derive(Clone, Copy)]
+#[derive(Clone, Copy, Debug, PartialEq, Eq)]
 pub struct Needed {
     pub xfactor: Span,
     pub yfactor: Span,
@@ -16,7 +16,7 @@ pub struct Needed {
 }
 
 // A decimal: a mantissa below 10^9 with its sign, and its power of ten, counted from -200 on.
-#[derive(Clone, Copy)]
+#[derive(Clone, Copy, Debug, PartialEq, Eq)]
 pub struct Decimal {
     pub minus: bool,
     pub mantissa: u64,
@@ -24,7 +24,7 @@ pub struct Decimal {
 }
 
 // The numbers of the six records before the table.
-#[derive(Clone, Copy)]
+#[derive(Clone, Copy, Debug, PartialEq, Eq)]
 pub struct Numbers {
     pub xfactor: Decimal,
     pub yfactor: Decimal,
@@ -35,7 +35,7 @@ pub struct Numbers {
 }
 
 // Whether the quotients of a file are exact, nothing being rounded (02, T-08): F's, L's, and FIRSTY's, which is exact too where it is not compared.
-#[derive(Clone, Copy)]
+#[derive(Clone, Copy, Debug, PartialEq, Eq)]
 pub struct Exactness {
     pub first: bool,
     pub last: bool,
@@ -43,7 +43,7 @@ pub struct Exactness {
 }
 
 // What a file's table has: how many points, its first and last abscissa in whole thousandths, and what of it is exact.
-#[derive(Clone, Copy)]
+#[derive(Clone, Copy, Debug, PartialEq, Eq)]
 pub struct FileTable {
     pub points: usize,
     pub first: i64,

@@ -6,52 +6,28 @@ ghost use Rattle.label_spec.specs.File.{longest_file};
 ghost use Rattle.terms.specs.Refusals.{fault_at};
 ghost use Rattle.file_spec.specs.File.{in_file};
 
-use file_spec::{Exactness, FileTable, Span};
+use file_spec::FileTable;
+use label_spec::Span;
 use terms::Fault;
 
 // A table that was checked: N, F, L and what is exact, and the part of the file that is its body.
-#[derive(Drop)]
+#[derive(Clone, Copy)]
 pub struct TablePlace {
     pub table: FileTable,
     pub body: Span,
 }
 
-// A fault.
-pub fn refused(number: u64, place: usize) -> Result<TablePlace, Fault>
-    ensures { result ≡ Err (fault_at number place) }
-{
-    Err(Fault::new(number, place))
-}
-
-// The table of a file that has no fault.
-pub fn accepted(
-    points: usize,
-    first: i64,
-    last: i64,
-    exact: Exactness,
-    from: usize,
-    to: usize,
-) -> Result<TablePlace, Fault>
-    ensures { result ≡ Ok (record { table = record { points = points; first = first; last = last; exact = exact }; body = record { from = from; to = to } }) }
-{
-    let table = FileTable {
-        points,
-        first,
-        last,
-        exact,
-    };
-    let body = Span { from, to };
-    Ok(TablePlace { table, body })
-}
-
 // A fault of the body, with its place counted in the file; 1 and 2 stand at 0.
-pub fn refused_in(r: Fault, start: usize) -> Result<TablePlace, Fault>
-    requires { start + r.place ≤ longest_file }
-    ensures { result ≡ Err (fault_at r.number (in_file start r.number r.place)) }
+pub fn moved_in(fault: Fault, start: usize) -> Fault
+    requires { start + fault.place ≤ longest_file }
+    ensures { result ≡ fault_at fault.number (in_file start fault.number fault.place) }
 {
-    let number = r.number;
+    let number = fault.number;
     if number <= 2 {
-        return refused(number, 0);
+        return Fault { number, place: 0 };
     }
-    refused(number, start + r.place)
+    Fault {
+        number,
+        place: start + fault.place,
+    }
 }

@@ -11,11 +11,6 @@ use night_spec::Account;
 pub fn report_file(file: &[u8], out: &mut [i32]) -> Result<Account, Refusal>
     ensures { ReportSays file.now out.old out.new result }
 {
-    match file::read_file(file, out) {
-        Err(r) => Err(r),
-        Ok(t) => {
-            let n = t.points;
-            Ok(account(out, n))
-        }
-    }
+    let table = file::read_file(file, out)?;
+    Ok(account(out, table.points))
 }

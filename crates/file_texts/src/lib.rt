@@ -8,7 +8,7 @@ ghost use Rattle.file_marks.specs.Spans.{Within};
 ghost use Rattle.file_texts.specs.Counts.{CountSmall};
 ghost use Rattle.figure.specs.Bounds.{GivenIn, FactorIn};
 
-use decimal_spec::{Count, Number};
+use decimal_spec::Count;
 use figure::exceed;
 use file_spec::{Decimal, Span};
 use label_space::past_space;
@@ -28,24 +28,15 @@ fn decimal_alone(part: &[u8]) -> Option<Decimal>
     ensures { (result ≡ decimal_in part.now) × GivenIn result }
 {
     let at = past_space(part, 0);
-    match decimal::number(part, at) {
-        None => None,
-        Some(Number {
-            minus,
-            mantissa,
-            power,
-            end,
-        }) => {
-            if past_space(part, end) != part.len() {
-                return None;
-            }
-            Some(Decimal {
-                minus,
-                mantissa,
-                power,
-            })
-        }
+    let number = decimal::number(part, at)?;
+    if past_space(part, number.end) != part.len() {
+        return None;
     }
+    Some(Decimal {
+        minus: number.minus,
+        mantissa: number.mantissa,
+        power: number.power,
+    })
 }
 
 // The factor that the text of a record is.
@@ -61,15 +52,11 @@ fn count_alone(part: &[u8]) -> Option<Count>
     ensures { (result ≡ count_in part.now) × CountSmall result }
 {
     let at = past_space(part, 0);
-    match decimal_digits::count(part, at) {
-        None => None,
-        Some(Count { value, end }) => {
-            if past_space(part, end) != part.len() {
-                return None;
-            }
-            Some(Count { value, end })
-        }
+    let count = decimal_digits::count(part, at)?;
+    if past_space(part, count.end) != part.len() {
+        return None;
     }
+    Some(count)
 }
 
 // The count that the text of a record is.

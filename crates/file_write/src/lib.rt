@@ -6,7 +6,7 @@ ghost use Rattle.file_write_spec.specs.File.{file_exact, write_file};
 ghost use Rattle.file_lay.specs.Answers.{FileTells};
 ghost use Rattle.file_write.specs.Room.{FileMeasured};
 
-use file_lay::{lay, refused};
+use file_lay::lay;
 use file_measure::measure;
 use file_plan::plan_file;
 use file_write_spec::{FileLength, Scales};
@@ -24,18 +24,14 @@ pub fn write_file(
     ensures { FileTells (file_exact scales points ordinates.now)
         (write_file title.now points scales ordinates.now (length text.old)) text.old text.new result }
 {
-    match plan_file(title, points, scales, ordinates) {
-        Err(why) => refused(number),
-        Ok(p) => lay(title, p.numbers, p.first, p.last, p.exact, ordinates, text),
-    }
+    let p = plan_file(title, points, scales, ordinates)?;
+    lay(title, p.numbers, p.first, p.last, p.exact, ordinates, text)
 }
 
 // The length of the file that `write_file` would write, however little room there is, and what of it is exact; or its refusal, which is never 15 (02, T-10). Nothing is written.
 pub fn file_length(title: &[u8], points: usize, scales: Scales, ordinates: &[i32]) -> Result<FileLength, Fault>
     ensures { FileMeasured title.now points scales ordinates.now result }
 {
-    match plan_file(title, points, scales, ordinates) {
-        Err(why) => refused(number),
-        Ok(p) => measure(title, p.numbers, p.first, p.last, p.exact, ordinates),
-    }
+    let p = plan_file(title, points, scales, ordinates)?;
+    measure(title, p.numbers, p.first, p.last, p.exact, ordinates)
 }

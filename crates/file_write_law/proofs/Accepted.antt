@@ -117,7 +117,7 @@ module _ (title : List ℕ) (n : ℕ) (c : Scales) (es : List ℤ) where
     spared false x k e f = f refl e
 
     bounded : {A : Type 0} (r : Option Whole) (x : Outcome) → limited r x ≡ wrote s → (Limited r → x ≡ wrote s → A) → A
-    bounded (Some y) x e f = f (record { y.minus = y.minus; size = y.size; is = refl }) e
+    bounded (Some y) x e f = f (record { minus = y.minus; size = y.size; is = refl }) e
     bounded None x e f = never e
 
     -- the writer took all this, and the text is the one defined

@@ -2,17 +2,16 @@
 #![tactic(auto)]
 
 use file_spec::Exactness;
-use terms::Fault;
 
 // A decimal as the caller gives it: a whole mantissa, and the exponent of ten.
-#[derive(Clone, Copy)]
+#[derive(Clone, Copy, Debug, PartialEq, Eq)]
 pub struct GivenDecimal {
     pub mantissa: i64,
     pub exponent: i64,
 }
 
 // The five decimals of a file.
-#[derive(Drop)]
+#[derive(Clone, Copy, Debug, PartialEq, Eq)]
 pub struct Scales {
     pub xfactor: GivenDecimal,
     pub yfactor: GivenDecimal,
@@ -22,7 +21,7 @@ pub struct Scales {
 }
 
 // The length of a written file, and what of it is exact, as its reader finds it (02, T-08).
-#[derive(Drop)]
+#[derive(Clone, Copy, Debug, PartialEq, Eq)]
 pub struct FileLength {
     pub length: usize,
     pub exact: Exactness,

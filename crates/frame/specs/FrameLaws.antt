@@ -1,5 +1,5 @@
 -- What the answer of the frame's constructor says of F, L and N. Assumes nothing.
-use Rattle.std.specs.Prelude.{◌≡◌, true, false, ℕ, suc, ◌<◌, leb, ℤ, pos, negsuc, Some, None}
+use Rattle.std.specs.Prelude.{◌≡◌, true, false, ℕ, suc, ◌<◌, leb, ℤ, pos, negsuc, Option, Some, None}
 use Rattle.std.proofs.Math.Path.{refl}
 use Rattle.std.proofs.Common.{arith, leb-true}
 use Rattle.terms.specs.Logic.{pick, by_case, zero_one, both_true}
@@ -28,7 +28,7 @@ module _ (f l : ℤ) (n : ℕ) where
   pub framed_outside : framed f l n ≡ None → frame_legal f l n ≡ false
   unfolding framed
   framed_outside =
-      by_case (λ t. pick t (Some (record { first = abscissa f; last = abscissa l; points = n })) None ≡ None → t ≡ false) (frame_legal f l n) (λ _ e. zero_one cc) (λ _ e. refl)
+      by_case (λ t. ◌≡◌ {A = Option Frame} (pick t (Some (record { first = abscissa f; last = abscissa l; points = n })) None) None → t ≡ false) (frame_legal f l n) (λ _ e. zero_one cc) (λ _ e. refl)
 
   pub framed_legal : {fr : Frame} → framed f l n ≡ Some fr → Framing f l n fr
   unfolding framed

@@ -29,6 +29,5 @@ blocks_numbers (Ok (Blocks.Compound n)) = 0 ∷ 0 ∷ 0 ∷ 0 ∷ 1 ∷ n ∷ []
 
 -- a data block, as a file; or no block
 abbrev pub block_numbers : Option (Result FileTable Refusal) → List ℕ
-block_numbers (Some (Ok t)) = file_numbers (Ok t)
-block_numbers (Some (Err r)) = file_numbers (Err r)
+block_numbers (Some r) = file_numbers r
 block_numbers None = absent ∷ 0 ∷ 0 ∷ 0 ∷ 0 ∷ 0 ∷ 0 ∷ no_flags

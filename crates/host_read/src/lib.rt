@@ -52,8 +52,7 @@ pub fn tell_block(read: Option<Result<FileTable, Refusal>>, answer: &mut [u64; 1
     ensures { Told (block_numbers read) answer.new result }
 {
     match read {
-        Some(Ok(t)) => tell_file(Ok(t), answer),
-        Some(Err(r)) => tell_file(Err(r), answer),
+        Some(read) => tell_file(read, answer),
         None => {
             *answer = [ABSENT, 0, 0, 0, 0, 0, 0, 0, 0, 0];
             ABSENT

@@ -14,7 +14,7 @@ use terms::Fault;
 const NO_FORM: u64 = 18446744073709551615;
 
 // The form of a number of the header, or that it is no form's.
-#[derive(Drop)]
+#[derive(Clone, Copy)]
 enum Form {
     Of(Style),
     NoForm,

@@ -92,13 +92,8 @@ pub fn find(file: &[u8], name: &[u8]) -> Result<Option<Span>, Refusal>
     ensures { (result ≡ record_for file.now (norm name.now)) × FindIn (length file.now) result }
 {
     match labels(file) {
-        Err(fault) => {
-            Err(refusal_in(file, fault.number, fault.place))
-        },
-        Ok(Places { title, eq, end }) => match find_from_title(file, title, eq, end, name) {
-            Some(Span { from, to }) => Ok(Some(Span { from, to })),
-            None => Ok(None),
-        },
+        Err(fault) => Err(refusal_in(file, fault.number, fault.place)),
+        Ok(Places { title, eq, end }) => Ok(find_from_title(file, title, eq, end, name)),
     }
 }
 

@@ -10,10 +10,10 @@ ghost use Rattle.label_judged.specs.Post.{Alike, Told};
 use label_lines::{name_end, next_label};
 use label_names::{differ, first_of, is_empty, is_end, is_title, same_name};
 use label_spec::{Edges, Label};
-use terms::Fault;
+use terms::{Fault, Reason};
 
 // What the next label says by itself, before it is compared with those before it: the walk is done, or goes on after its `=`.
-#[derive(Drop)]
+#[derive(Clone, Copy)]
 pub enum Judged {
     Done(Result<Edges, Fault>),
     Empty {
@@ -26,27 +26,20 @@ pub enum Judged {
     },
 }
 
-// A fault of the walk.
-pub fn fault(number: u64, place: usize) -> Result<Edges, Fault>
-    ensures { result ≡ Walked.Refused (fault_at number place) }
-{
-    Err(Fault::new(number, place))
-}
-
 // The next label by itself: 22 without one, 20 if it is bad, END, and 24 if it is TITLE.
 pub fn next_judged(s: &[u8], at: usize) -> Judged
     requires { at ≤ length s.now }
     ensures { Told s.now at result }
 {
     match next_label(s, at) {
-        Label::None => Judged::Done(fault(22, s.len())),
-        Label::Bad { mark } => Judged::Done(fault(20, mark)),
+        Label::None => Judged::Done(Err(Fault::new(Reason::NoEnd, s.len()))),
+        Label::Bad { mark } => Judged::Done(Err(Fault::new(Reason::BadLabel, mark))),
         Label::At { mark, start, eq } => {
             if is_end(s, start, eq) {
                 return Judged::Done(Ok(Edges { mark, eq }));
             }
             if is_title(s, start, eq) {
-                return Judged::Done(fault(24, mark));
+                return Judged::Done(Err(Fault::new(Reason::StrayTitle, mark)));
             }
             if is_empty(s, start, eq) {
                 return Judged::Empty { eq };

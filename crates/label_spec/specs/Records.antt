@@ -25,8 +25,7 @@ record_of len stop w (bad x rest) = record_of len stop w rest
 record_of len stop w (label x n e v rest) = pick (ltb x stop) (pick (sames v w) (Some (span_of (e + 1) (mark_of len rest))) (record_of len stop w rest)) None
 
 unfoldable pub as_record : Option Span → Result (Option Span) Refusal
-as_record (Some x) = Ok (Some x)
-as_record None = Ok None
+as_record f = Ok f
 
 unfoldable pub record_in : List ℕ → List ℕ → Result Places Fault → Result (Option Span) Refusal
 record_in s w (Ok y) = as_record (record_of (length s) y.end w (from s y.title true))

@@ -1,10 +1,8 @@
 // What is found in a file. Definitions and code share these types (01, The file).
 #![tactic(auto)]
 
-use terms::{Fault, Refusal};
-
 // A label: the places of its `##`, of its name and of its `=`; or a `##` without `=`, or with a name too long.
-#[derive(Drop)]
+#[derive(Clone, Copy, Debug, PartialEq, Eq)]
 pub enum Label {
     At {
         mark: usize,

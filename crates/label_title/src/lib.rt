@@ -13,26 +13,19 @@ use label_space::past_space;
 use label_spec::{Edges, Label};
 use terms::{Fault, Reason};
 
-// TITLE is not first: another byte stands there, or the end (21).
-fn untitled(place: usize) -> Result<Edges, Fault>
-    ensures { result ≡ Opened.Refused (fault_at 21 place) }
-{
-    Err(Fault::new(Reason::NoTitle, place))
-}
-
 // The label whose `##` stands here, if it is TITLE.
 fn title_here(s: &[u8], at: usize) -> Result<Edges, Fault>
     requires { hashed s.now at ≡ true }
     ensures { (result ≡ opened_at s.now at) × OpenIn s.now result }
 {
     match label_here(s, at) {
-        Label::None => untitled(at),
-        Label::Bad { mark: _ } => untitled(at),
+        Label::None => Err(Fault::new(Reason::NoTitle, at)),
+        Label::Bad { mark: _ } => Err(Fault::new(Reason::NoTitle, at)),
         Label::At { mark, start, eq } => {
             if is_title(s, start, eq) {
                 Ok(Edges { mark, eq })
             } else {
-                untitled(at)
+                Err(Fault::new(Reason::NoTitle, at))
             }
         }
     }
@@ -44,10 +37,10 @@ pub fn open_title(file: &[u8]) -> Result<Edges, Fault>
 {
     let place = past_space(file, 0);
     if place >= file.len() {
-        return untitled(place);
+        return Err(Fault::new(Reason::NoTitle, place));
     }
     if !is_hashed(file, place) {
-        return untitled(place);
+        return Err(Fault::new(Reason::NoTitle, place));
     }
     title_here(file, place)
 }

@@ -8,7 +8,7 @@ ghost use Rattle.label_spec.specs.File.{judged, labelled};
 ghost use Rattle.label_judged.specs.Answers.{WalkedIn};
 ghost use Rattle.label_walk.specs.Answers.{LabelledIn};
 
-use label_judged::{Judged, fault, is_same, next_judged};
+use label_judged::{Judged, is_same, next_judged};
 use label_lines::next_mark;
 use label_names::first_of;
 use label_title::open_title;
@@ -57,14 +57,7 @@ pub fn walk(part: &[u8], start: usize) -> Result<Edges, Fault>
             }
         }
     }
-    fault(23, second)
-}
-
-// The file is longer than a file may be (19).
-fn too_long() -> Result<Places, Fault>
-    ensures { result ≡ Labelled.Refused (fault_at 19 0) }
-{
-    Err(Fault::new(Reason::LongFile, 0))
+    Err(Fault::new(Reason::LabelTwice, second))
 }
 
 // What the labels of a file say: 19, 21, then 20, 22, 23, 24 in one walk; or the places of TITLE and END.
@@ -72,20 +65,13 @@ pub fn labels(file: &[u8]) -> Result<Places, Fault>
     ensures { (result ≡ labelled file.now) × LabelledIn file.now result }
 {
     if file.len() > LONGEST_FILE {
-        return too_long();
+        return Err(Fault::new(Reason::LongFile, 0));
     }
-    match open_title(file) {
-        Err(fault) => Err(fault),
-        Ok(Edges { mark, eq }) => {
-            let start = eq + 1;
-            match walk(file, start) {
-                Err(fault) => Err(fault),
-                Ok(Edges { mark: end, eq: _ }) => Ok(Places {
-                    title: mark,
-                    eq,
-                    end,
-                }),
-            }
-        }
-    }
+    let title = open_title(file)?;
+    let end = walk(file, title.eq + 1)?;
+    Ok(Places {
+        title: title.mark,
+        eq: title.eq,
+        end: end.mark,
+    })
 }

@@ -22,26 +22,21 @@ unfoldable pub magnitudes : List ℕ → List ℕ
 magnitudes [] = []
 magnitudes (u ∷ ys) = pick (eqb u 0) (magnitudes ys) (pick (eqb u zero_ordinate) (magnitudes ys) (apart u zero_ordinate ∷ magnitudes ys))
 
--- one of a list; or there is none
-pub data Some : Type 0 where
-  none : Some
-  some : ℕ → Some
+abbrev pub lesser : ℕ → Option ℕ → ℕ
+lesser x None = x
+lesser x (Some y) = pick (ltb y x) y x
 
-abbrev pub lesser : ℕ → Some → ℕ
-lesser x none = x
-lesser x (some y) = pick (ltb y x) y x
+unfoldable pub least : List ℕ → Option ℕ
+least [] = None
+least (x ∷ l) = Some (lesser x (least l))
 
-unfoldable pub least : List ℕ → Some
-least [] = none
-least (x ∷ l) = some (lesser x (least l))
+abbrev pub greater : ℕ → Option ℕ → ℕ
+greater x None = x
+greater x (Some y) = pick (ltb x y) y x
 
-abbrev pub greater : ℕ → Some → ℕ
-greater x none = x
-greater x (some y) = pick (ltb x y) y x
-
-unfoldable pub greatest : List ℕ → Some
-greatest [] = none
-greatest (x ∷ l) = some (greater x (greatest l))
+unfoldable pub greatest : List ℕ → Option ℕ
+greatest [] = None
+greatest (x ∷ l) = Some (greater x (greatest l))
 
 -- the sum, with signs
 unfoldable pub sum_of : List ℕ → ℤ
@@ -49,13 +44,13 @@ sum_of [] = pos 0
 sum_of (u ∷ l) = entry_for u +ℤ sum_of l
 
 -- an ordinate, or a magnitude, as the report says it
-abbrev pub ordinate_level : Some → Option ℤ
-ordinate_level none = None
-ordinate_level (some u) = Some (entry_for u)
+abbrev pub ordinate_level : Option ℕ → Option ℤ
+ordinate_level None = None
+ordinate_level (Some u) = Some (entry_for u)
 
-abbrev pub size_level : Some → Option ℤ
-size_level none = None
-size_level (some m) = Some (pos m)
+abbrev pub size_level : Option ℕ → Option ℤ
+size_level None = None
+size_level (Some m) = Some (pos m)
 
 -- what the report says of a file with these ordinates
 unfoldable pub account_of : List ℕ → Account

@@ -2,10 +2,9 @@
 #![tactic(auto)]
 
 use terms::{Fault, Refusal};
-use decimal_spec::Whole;
 
 // What the report says of a file that was read: N, how many points are missing, the lowest and the highest ordinate, their sum, which is at most 2^47 in magnitude, and the faintest.
-#[derive(Clone, Copy)]
+#[derive(Clone, Copy, Debug, PartialEq, Eq)]
 pub struct Account {
     pub points: u64,
     pub missing: u64,
@@ -16,7 +15,7 @@ pub struct Account {
 }
 
 // The totals over accepted files. The sum is below 2^57 in magnitude.
-#[derive(Clone, Copy)]
+#[derive(Clone, Copy, Debug, PartialEq, Eq)]
 pub struct Totals {
     pub files: u64,
     pub points: u64,
@@ -25,14 +24,14 @@ pub struct Totals {
 }
 
 // The last lines of the report.
-#[derive(Drop)]
+#[derive(Clone, Copy, Debug, PartialEq, Eq)]
 pub struct Night {
     pub totals: Totals,
     pub end: Result<(), Fault>,
 }
 
 // How far a walk has come: the place, how many files stood before it, refused ones too, and the totals over the accepted ones among them.
-#[derive(Clone, Copy)]
+#[derive(Clone, Copy, Debug, PartialEq, Eq)]
 pub struct Progress {
     pub at: usize,
     pub seen: usize,
@@ -40,7 +39,7 @@ pub struct Progress {
 }
 
 // What a step of the walk answers: the report of a file, and how far the walk has come then; or how the spool ends, with the totals; or that no walk comes as far as that.
-#[derive(Drop)]
+#[derive(Clone, Copy, Debug, PartialEq, Eq)]
 pub enum Reported {
     File { report: Result<Account, Refusal>, then: Progress },
     Over(Totals),

@@ -8,26 +8,10 @@ ghost use Rattle.night_totals.specs.Bounds.{TotalsIn};
 ghost use Rattle.ordinate_account.specs.Bounds.{ReportIn};
 
 use file_tally::report_file;
-use night_spec::{Account, Progress, Reported, Totals};
+use night_spec::{Progress, Reported};
 use night_totals::{walk_legal, with_report};
 use spool::next_record;
 use label_spec::Span;
-use terms::Refusal;
-
-// A report, and the totals with it. A report is no value that can be used twice, so it is handed back.
-fn counted(t: Totals, f: Result<Account, Refusal>) -> (Result<Account, Refusal>, Totals)
-    requires { TotalsIn 1000 t × ReportIn f }
-    ensures same { result.0 ≡ f }
-    ensures totals { result.1 ≡ with_report f t }
-{
-    match f {
-        Err(why) => (Err(why), t),
-        Ok(a) => {
-            let more = with_report(t, Ok(a));
-            (Ok(a), more)
-        }
-    }
-}
 
 // One step of the walk: any bytes, any slice, any progress. From `start` on, each step is handed what the one before it answered, and each file is read once.
 pub fn report_next(spool: &[u8], p: Progress, out: &mut [i32]) -> Reported
@@ -45,12 +29,10 @@ pub fn report_next(spool: &[u8], p: Progress, out: &mut [i32]) -> Reported
         Err(why) => Reported::Refused { why, totals },
         Ok(Some(Span { from, to })) => {
             let report = report_file(&spool[from..to], out);
-            let (report, more) = counted(totals, report);
-            let next = seen + 1;
             let then = Progress {
                 at: to,
-                seen: next,
-                totals: more,
+                seen: seen + 1,
+                totals: with_report(totals, report),
             };
             Reported::File { report, then }
         }

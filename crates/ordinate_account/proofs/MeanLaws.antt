@@ -1,4 +1,5 @@
 -- What the code adds up is what the plain definition over the list of ordinates says. No place of the code is named here. Assumes nothing.
+use Rattle.std.specs.Prelude.{Option, Some, None}
 use mathlib.Core.Path.{◌≡◌, refl, sym, ap, ◌∙◌}
 use mathlib.Core.Bool.{Bool, true, false}
 use mathlib.Core.List.{List, [], ◌∷◌}
@@ -13,7 +14,7 @@ use mir.Val.{SFits}
 use borrow.Author.Tests.{ltb-true, ltb-false, le-ltb, eqb-false, eq-eqb, ne_eqb}
 use Rattle.terms.specs.Logic.{pick, by_case}
 use Rattle.table_spec.specs.Frame.{zero_ordinate, entry_for, apart}
-use Rattle.night_spec.specs.Report.{given, missing, magnitudes, Some, none, some, lesser, least, greater, greatest, sum_of, ordinate_level, size_level, account_of}
+use Rattle.night_spec.specs.Report.{given, missing, magnitudes, lesser, least, greater, greatest, sum_of, ordinate_level, size_level, account_of}
 use Rattle.ordinate_tally.specs.declared.Tally.{Tally}
 use Rattle.ordinate_tally.specs.Tally.{less_of, great_of, faint_of, with_given, with_ordinate, tally_of}
 use Rattle.ordinate_account.specs.Account.{level_from, account_from}
@@ -41,23 +42,23 @@ sub_add a b c d =
     ap (λ x. x +ℤ sub_ℕ c d) (sym (minus_is a b)) ∙ ap (λ x. (pos a -ℤ pos b) +ℤ x) (sym (minus_is c d)) ∙ crossed (pos a) (neg_ℤ (pos b)) (pos c) (neg_ℤ (pos d))
     ∙ ap (λ x. (pos a +ℤ pos c) +ℤ x) (sym (neg_ℤ-+ℤ (pos b) (pos d))) ∙ minus_is (a + c) (b + d)
 
--- ---- 0 stands for none
+-- ---- 0 stands for no number
 
-abbrev pub CodesAs : ℕ → Some → Type 0
-CodesAs l none = l ≡ 0
-CodesAs l (some y) = (l ≡ y) × (0 < y)
+abbrev pub CodesAs : ℕ → Option ℕ → Type 0
+CodesAs l None = l ≡ 0
+CodesAs l (Some y) = (l ≡ y) × (0 < y)
 
 -- ---- one ordinate more: u is not missing
 
-less_as : (x : Some) (l u : ℕ) → 0 < u → CodesAs l x → CodesAs (less_of l u) (some (lesser u x))
-less_as none l u h c = (rw (eq-eqb l 0 c) refl, h)
-less_as (some y) l u h c =
+less_as : (x : Option ℕ) (l u : ℕ) → 0 < u → CodesAs l x → CodesAs (less_of l u) (Some (lesser u x))
+less_as None l u h c = (rw (eq-eqb l 0 c) refl, h)
+less_as (Some y) l u h c =
     let e : l ≡ y = c.0 in
     (rw (e, ne_eqb y 0 (λ z. omega (arith, c.1))) refl, by_case (λ q. 0 < pick q y u) (ltb y u) (λ _. c.1) (λ _. h))
 
-great_as : (x : Some) (l u : ℕ) → 0 < u → CodesAs l x → CodesAs (great_of l u) (some (greater u x))
-great_as none l u h c = (rw (c, le-ltb u 0 (omega arith)) refl, h)
-great_as (some y) l u h c =
+great_as : (x : Option ℕ) (l u : ℕ) → 0 < u → CodesAs l x → CodesAs (great_of l u) (Some (greater u x))
+great_as None l u h c = (rw (c, le-ltb u 0 (omega arith)) refl, h)
+great_as (Some y) l u h c =
     let e : l ≡ y = c.0 in
     (rw e refl, by_case (λ q. 0 < pick q y u) (ltb u y) (λ _. c.1) (λ _. h))
 
@@ -124,13 +125,13 @@ missing_given (u ∷ ys) =
 
 -- ---- as the report says it
 
-ordinate_as : (x : Some) (l : ℕ) → CodesAs l x → level_from l 1 ≡ ordinate_level x
-ordinate_as none l c = rw c refl
-ordinate_as (some y) l c = let e : l ≡ y = c.0 in rw (e, ne_eqb y 0 (λ z. omega (arith, c.1))) refl
+ordinate_as : (x : Option ℕ) (l : ℕ) → CodesAs l x → level_from l 1 ≡ ordinate_level x
+ordinate_as None l c = rw c refl
+ordinate_as (Some y) l c = let e : l ≡ y = c.0 in rw (e, ne_eqb y 0 (λ z. omega (arith, c.1))) refl
 
-size_as : (x : Some) (l : ℕ) → CodesAs l x → level_from l 0 ≡ size_level x
-size_as none l c = rw c refl
-size_as (some y) l c =
+size_as : (x : Option ℕ) (l : ℕ) → CodesAs l x → level_from l 0 ≡ size_level x
+size_as None l c = rw c refl
+size_as (Some y) l c =
     let e : l ≡ y = c.0 in let z : y - 0 ≡ y = omega arith in rw (e, ne_eqb y 0 (λ z. omega (arith, c.1)), le-ltb y 0 (omega arith), z) refl
 
 -- the account of so many ordinates is the plain one

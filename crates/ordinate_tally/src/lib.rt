@@ -6,7 +6,7 @@ ghost use Rattle.table_spec.specs.Frame.{ordinate_of};
 ghost use Rattle.ordinate_tally.specs.Tally.{less_of, great_of, faint_of, with_ordinate, Tallied};
 
 // What ordinates come to: how many are not missing and what they add up to, each as y + 2^31; the lowest and the highest of them and the faintest magnitude, 0 for none.
-#[derive(Drop)]
+#[derive(Clone, Copy)]
 pub struct Tally {
     pub given: u64,
     pub raised: u64,

@@ -13,14 +13,14 @@ use table_ordinates::repeat;
 use terms::{Fault, Reason};
 
 // What stands next on a line: its end, and the place of the next line; or a value that stands for ordinates, its place and the place after it.
-#[derive(Drop)]
+#[derive(Clone, Copy)]
 pub enum Next {
     End(usize),
     Gives(Points, usize, usize),
 }
 
 // A row that grows: the place; how many points there are with it; its last ordinate, and the form of its last value.
-#[derive(Drop)]
+#[derive(Clone, Copy)]
 pub struct Grows {
     pub at: usize,
     pub k: usize,
@@ -49,7 +49,7 @@ pub fn next_value(s: &[u8], from: usize, q: u64, form: Form) -> Result<Next, Fau
     match number(s, at, e) {
         None => Err(Fault::new(Reason::Misspelled, at)),
         Some((v, j)) => match stands_for(q, form, e, v) {
-            Err(why) => Err(Fault::new(n, at)),
+            Err(why) => Err(Fault::new(why, at)),
             Ok(p) => Ok(Next::Gives(p, at, j)),
         },
     }
@@ -64,14 +64,11 @@ pub fn expand(s: &[u8], points: usize, out: &mut [i32], start: Grows) -> Result<
     loop {
         let k = r.k;
         let f = r.form;
-        match next_value(s, r.at, r.q, f) {
-            Ok(Next::End(j)) => {
+        match next_value(s, r.at, r.q, f)? {
+            Next::End(j) => {
                 return Ok((r, j));
             }
-            Err(fault) => {
-                return Err(Fault::new(n, a));
-            }
-            Ok(Next::Gives(p, a, j)) => {
+            Next::Gives(p, a, j) => {
                 let n = p.n;
                 let form = p.form;
                 let end = k + n;

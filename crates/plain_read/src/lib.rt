@@ -38,14 +38,9 @@ fn rows(s: &[u8], fr: Frame, out: &mut [i32]) -> Result<(), Fault>
             Start::Bad(j) => {
                 return Err(Fault::new(Reason::StrayByte, j));
             }
-            Start::Head(j, e) => match plain_line(s, fr, out, r, j, e) {
-                Err(fault) => {
-                    return Err(Fault::new(n, p));
-                }
-                Ok(next) => {
-                    r = next;
-                }
-            },
+            Start::Head(j, e) => {
+                r = plain_line(s, fr, out, r, j, e)?;
+            }
         }
     }
 }
@@ -56,10 +51,8 @@ fn check_rows(body: &[u8], fr: Frame) -> Result<i32, Fault>
     ensures { result ≡ told_first (read_lines (frame_rules fr) body.now) }
 {
     let mut one = [0i32; 1];
-    match rows(body, fr, &mut one) {
-        Err(fault) => Err(Fault::new(n, p)),
-        Ok(()) => Ok(one[0]),
-    }
+    rows(body, fr, &mut one)?;
+    Ok(one[0])
 }
 
 // A line over 80 bytes is refused before it is expanded (02, T-06): 16, unless a fault stands before that line.
@@ -77,7 +70,7 @@ fn lay_rows(body: &[u8], fr: Frame, out: &mut [i32])
     requires { Sound fr × Accepts (read (frame_rules fr) body.now) }
     ensures { out.new ≡ stored out.old (read (frame_rules fr) body.now) }
 {
-    rows(body, fr, out);
+    let _ = rows(body, fr, out);
 }
 
 // Reads a table in the plain way: any F, L and N, any body, any slice. The same answer, and the same entries of the slice, as `table_read::read_table` gives: `engines_agree`.

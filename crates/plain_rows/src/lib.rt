@@ -11,7 +11,7 @@ ghost use Rattle.plain_rows.specs.Rows.{after_head, after_rest, start_of, Fronts
 use frame::Frame;
 use plain_expand::{Grows, Next, expand, next_value};
 use plain_values::{Form, Points, is_dif};
-use table_lines::{Head, head};
+use table_lines::{HeadRead, head};
 use table_ordinates::put;
 use table_pass::index_of;
 use table_values::Row;
@@ -29,14 +29,14 @@ pub struct Front {
 
 // ---- 1. its row is checked
 
-// A fault of a row, if its head passes: else 6, at the head.
-fn refused(passes: bool, at: usize, n: u64, a: usize) -> Result<Row, Fault>
-    ensures { result ≡ after_head passes at n a }
+// The fault of a row, if its head passes: else 6, at the head.
+fn refused(passes: bool, at: usize, fault: Fault) -> Fault
+    ensures { Err result ≡ after_head passes at fault.number fault.place }
 {
     if passes {
-        return Err(Fault::new(n, a));
+        return fault;
     }
-    Err(Fault::new(Reason::WrongHead, at))
+    Fault::new(Reason::WrongHead, at)
 }
 
 // What a line did, by the check of its head and the rest of its row.
@@ -44,7 +44,7 @@ fn checked(passes: bool, at: usize, rest: Result<(Grows, usize), Fault>) -> Resu
     ensures { result ≡ after_rest passes at rest }
 {
     match rest {
-        Err(fault) => refused(passes, at, n, a),
+        Err(fault) => Err(refused(passes, at, fault)),
         Ok((g, next)) => {
             if !passes {
                 return Err(Fault::new(Reason::WrongHead, at));
@@ -84,7 +84,7 @@ fn check_row(s: &[u8], fr: Frame, out: &mut [i32], r: Row, f: Front) -> Result<R
     let start = row_from(f, r.k);
     let rest = expand(s, fr.points, out, start);
     if f.p.last != r.q {
-        return refused(f.passes, f.at, 10, f.a);
+        return Err(refused(f.passes, f.at, Fault::new(Reason::CheckFailed, f.a)));
     }
     checked(f.passes, f.at, rest)
 }
@@ -96,7 +96,7 @@ fn new_row(s: &[u8], fr: Frame, out: &mut [i32], r: Row, f: Front) -> Result<Row
 {
     let k = r.k;
     if k >= fr.points {
-        return refused(f.passes, f.at, 11, f.a);
+        return Err(refused(f.passes, f.at, Fault::new(Reason::TooMany, f.a)));
     }
     put(out, k, f.p.last);
     let next = k + 1;
@@ -115,11 +115,11 @@ pub fn plain_line(s: &[u8], fr: Frame, out: &mut [i32], r: Row, at: usize, e: u6
     let k = r.k;
     match head(s, at, e) {
         None => Err(Fault::new(Reason::NoHead, at)),
-        Some(Head { abscissa: h, unit, at: j }) => {
+        Some(HeadRead { abscissa: h, unit, at: j }) => {
             let passes = fr.passes(h, unit, index_of(dif, k));
             match next_value(s, j, 0, Form::Dup(false)) {
-                Ok(Next::End(_)) => refused(passes, at, 7, at),
-                Err(fault) => refused(passes, at, c, a),
+                Ok(Next::End(_)) => Err(refused(passes, at, Fault::new(Reason::BareHead, at))),
+                Err(fault) => Err(refused(passes, at, fault)),
                 Ok(Next::Gives(p, a, b)) => {
                     let f = Front {
                         at,

@@ -12,7 +12,7 @@ use profile_spec::Unfit;
 use terms::{Fault, Reason};
 
 // The fault of a profile: its place is counted on the page or in the file.
-#[derive(Clone, Copy, Debug, PartialEq, Eq)]
+#[derive(Clone, Copy)]
 pub struct PageFault {
     pub page: bool,
     pub fault: Fault,

@@ -46,11 +46,8 @@ fn judge(file: &[u8], page: &[u8], x: Shown, k: usize) -> Result<(), Unfit>
 fn first_fault(said: Result<(), Unfit>, next: Result<(), Unfit>) -> Result<(), Unfit>
     ensures { result ≡ after said next }
 {
-    match said {
-        Ok(()) => next,
-        Err(Unfit::Lacking) => Err(Unfit::Lacking),
-        Err(Unfit::Unlisted { page, place }) => Err(Unfit::Unlisted { page, place }),
-    }
+    said?;
+    next
 }
 
 // Whether a text is on the page, as a number: 1, or 0.

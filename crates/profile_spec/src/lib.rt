@@ -4,7 +4,7 @@
 use terms::Refusal;
 
 // Where the text of a record stands: on the site's page or in the file, from one place up to another.
-#[derive(Clone, Copy)]
+#[derive(Clone, Copy, Debug, PartialEq, Eq)]
 pub struct Shown {
     pub page: bool,
     pub from: usize,
@@ -12,7 +12,7 @@ pub struct Shown {
 }
 
 // Why the fifteen records are refused: one is absent from both the page and the file (30); or a word is unlisted, the first one, where it stands (31).
-#[derive(Drop)]
+#[derive(Clone, Copy, Debug, PartialEq, Eq)]
 pub enum Unfit {
     Lacking,
     Unlisted { page: bool, place: usize },

@@ -8,7 +8,7 @@ use replay_input::{Asked, next_number, next_scales, take_bytes, take_ordinates};
 use replay_show::show_touched_text;
 use std::io;
 use std::io::{Print, Read};
-use terms::{Fault, Reason};
+use terms::Fault;
 
 // Room for the title of a file that is written.
 const TITLE: usize = 256;
@@ -22,7 +22,7 @@ fn write_file(title: &[u8], a: Asked, c: Scales, ys: &[i32], text: &mut [u8]) ->
             return file_write::write_file(title, a.points, c, &ys[0..count], &mut text[0..room]);
         }
     }
-    Err(Fault::new(Reason::0, 0))
+    Err(Fault { number: 0, place: 0 })
 }
 
 // The answer to a file to write.

@@ -7,7 +7,7 @@ use replay_show::show_touched_text;
 use std::io;
 use std::io::{Print, Read};
 use table_spec::Style;
-use terms::{Fault, Reason};
+use terms::Fault;
 
 // The text in the first n bytes: whether it reads back, and from the next line on itself.
 fn show_text(output: &impl Print, a: Asked, ys: &[i32], text: &[u8], n: usize) -> io::Result<()> {
@@ -61,7 +61,7 @@ fn write_form(style: Style, a: Asked, ys: &[i32], text: &mut [u8]) -> Result<usi
             );
         }
     }
-    Err(Fault::new(Reason::0, 0))
+    Err(Fault { number: 0, place: 0 })
 }
 
 // A table to write in a form: its ordinates follow.

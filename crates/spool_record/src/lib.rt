@@ -4,7 +4,7 @@
 ghost use Rattle.std.specs.Prelude.{◌≡◌, ◌+◌, ◌<◌, ◌≤◌, length};
 ghost use Rattle.night_spec.specs.Spool.{record_at, length_at, refused_at};
 
-use terms::Fault;
+use terms::{Fault, Reason};
 use label_spec::Span;
 
 // A byte as a number.
@@ -25,13 +25,6 @@ fn length_at(s: &[u8], at: usize) -> usize
     high * 65536 + middle * 256 + low
 }
 
-// The refusal of a spool.
-fn refused(number: u64, place: usize) -> Result<Option<Span>, Fault>
-    ensures { result ≡ refused_at number place }
-{
-    Err(Fault::new(number, place))
-}
-
 // What stands at a place of a spool, where so many files may still come.
 pub fn record_at(s: &[u8], at: usize, left: usize) -> Result<Option<Span>, Fault>
     ensures { result ≡ record_at left s.now at }
@@ -41,21 +34,21 @@ pub fn record_at(s: &[u8], at: usize, left: usize) -> Result<Option<Span>, Fault
         return Ok(None);
     }
     if left == 0 {
-        return refused(36, at);
+        return Err(Fault::new(Reason::ManyFiles, at));
     }
     let rest = len - at;
     if rest < 5 {
-        return refused(35, at);
+        return Err(Fault::new(Reason::CutOff, at));
     }
     if s[at] != 74 {
-        return refused(34, at);
+        return Err(Fault::new(Reason::NoMark, at));
     }
     if s[at + 1] != 68 {
-        return refused(34, at);
+        return Err(Fault::new(Reason::NoMark, at));
     }
     let size = length_at(s, at);
     if size > rest - 5 {
-        return refused(35, at);
+        return Err(Fault::new(Reason::CutOff, at));
     }
     let from = at + 5;
     let to = from + size;

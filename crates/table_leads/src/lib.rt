@@ -21,7 +21,7 @@ const LOWER: u64 = 97;
 const NONE: u64 = 10000000000;
 
 // With what an ordinate of its own begins: its first digit, and the place after that; 10 in place of a digit, if none begins there.
-#[derive(Drop)]
+#[derive(Clone, Copy)]
 struct Lead {
     v: u64,
     at: usize,

@@ -26,7 +26,7 @@ use Rattle.table_lines.specs.Ends.{LineOpens}
 use Rattle.table_lines.specs.Heads.{Scaled, Pointed, Topped, Headed}
 use Rattle.table_lines.proofs.LineEnds.{starts_not, starts_kind}
 use Rattle.std.specs.Prelude.{Option, Some, None}
-use Rattle.table_lines.specs.declared.Head.{Head}
+use Rattle.table_lines.specs.declared.HeadRead.{HeadRead}
 use Rattle.table_lines.specs.Parts.{head_with}
 
 -- the place after a run, with no blank behind it; after one digit or more, whatever stood before them
@@ -145,7 +145,7 @@ module _ (s : List ℕ) (i w j e : ℕ) (minus : Bool) (c : Byte) (h : i < lengt
       }
 
   -- whatever follows the whole number
-  pub headed_by : 16 ≤ e → (x : Option Head) → Pointed s j w minus x → Headed s i x
+  pub headed_by : 16 ≤ e → (x : Option HeadRead) → Pointed s j w minus x → Headed s i x
   headed_by l (Some y) p = topped l p
   headed_by l None p = no_fraction l p
 
@@ -237,7 +237,7 @@ module _ (s : List ℕ) (i e : ℕ) {w j x : ℕ} (o : LineOpens s i e) where
     digit_long =
         no_head s i w j x false (digit e) o.inside (ap kind_of (sym o.stands) ∙ digit_kind e l) digit_low (clear_run r digit_low) (digit_opens s i e o.stands l r)
 
-    digit_headed : 16 ≤ x → (y : Option Head) → Pointed s j w false y → Headed s i y
+    digit_headed : 16 ≤ x → (y : Option HeadRead) → Pointed s j w false y → Headed s i y
     digit_headed =
         headed_by s i w j x false (digit e) o.inside (ap kind_of (sym o.stands) ∙ digit_kind e l) digit_low (clear_run r digit_low) (digit_opens s i e o.stands l r)
 
@@ -252,7 +252,7 @@ module _ (s : List ℕ) (i e : ℕ) {w j x : ℕ} (o : LineOpens s i e) where
     sign_long =
         no_head s i w j x (leb 144 e) (sign (leb 144 e)) o.inside (ap kind_of (sym o.stands) ∙ sign_kind e l o.before_point) sign_low sign_clear (sign_opens s i (leb 144 e) r m)
 
-    sign_headed : 16 ≤ x → (y : Option Head) → Pointed s j w (leb 144 e) y → Headed s i y
+    sign_headed : 16 ≤ x → (y : Option HeadRead) → Pointed s j w (leb 144 e) y → Headed s i y
     sign_headed =
         headed_by s i w j x (leb 144 e) (sign (leb 144 e)) o.inside (ap kind_of (sym o.stands) ∙ sign_kind e l o.before_point) sign_low sign_clear (sign_opens s i (leb 144 e) r m)
 
@@ -287,7 +287,7 @@ module _ (s : List ℕ) (i e : ℕ) {from w j x : ℕ} (o : LineOpens s i e) (k 
       (λ _ y. value_first s i e o (ltb-false e 16 y) q.0) refl)
       (λ q. let a = q.1 in sign_alone s i e o q.0 (sign_run a) (omega arith)) k
 
-  pub head_headed : 16 ≤ x → (j ≡ from → ⊥) → (y : Option Head) → Pointed s j w (leb 144 e) y → Headed s i y
+  pub head_headed : 16 ≤ x → (j ≡ from → ⊥) → (y : Option HeadRead) → Pointed s j w (leb 144 e) y → Headed s i y
   head_headed h n y p =
       ⊎_elim (λ q. let a = q.1 in let b = r.low in let l = q.0 in
       digit_headed s i e o (digit_first a (omega (arith, n))) (digit_run a) h y (rw (lt-leb 144 e (omega arith)) at p))

@@ -5,7 +5,7 @@ use Rattle.alphabet_spec.specs.Bytes.{kind}
 use Rattle.table_spec.specs.Values.{headed_at}
 use Rattle.table_spec.specs.Reading.{head, fault, no_head, sized, fresh, inner, pointed, Rest, opening}
 use Rattle.table_lines.specs.Seen.{seen, behind}
-use Rattle.table_lines.specs.declared.Head.{Head}
+use Rattle.table_lines.specs.declared.HeadRead.{HeadRead}
 
 -- what follows the whole number w of a head, at the place i: its thousandths, its unit u and the place j after them
 pub record Scaled (s : List ℕ) (i w : ℕ) (minus : Bool) (h u j : ℕ) : Type 0 where
@@ -18,7 +18,7 @@ pub record Scaled (s : List ℕ) (i w : ℕ) (minus : Bool) (h u j : ℕ) : Type
   pub coarsest : u ≤ 1000
   pub law : (n : ℕ) → pointed (drop i s) w n ≡ sized size u (n + (j - i))
 
-abbrev pub Pointed : List ℕ → ℕ → ℕ → Bool → Option Head → Type 0
+abbrev pub Pointed : List ℕ → ℕ → ℕ → Bool → Option HeadRead → Type 0
 Pointed s i w minus (Some x) = Scaled s i w minus x.abscissa x.unit x.at
 Pointed s i w minus None = (n : ℕ) → pointed (drop i s) w n ≡ no_head
 
@@ -33,6 +33,6 @@ pub record Topped (s : List ℕ) (i h u j : ℕ) : Type 0 where
   pub law : seen s i fresh ≡ head i h u (seen s j (inner false))
 
 -- that; or what stands at the place is no head
-abbrev pub Headed : List ℕ → ℕ → Option Head → Type 0
+abbrev pub Headed : List ℕ → ℕ → Option HeadRead → Type 0
 Headed s i (Some x) = Topped s i x.abscissa x.unit x.at
 Headed s i None = seen s i fresh ≡ fault 4 i

@@ -13,7 +13,7 @@ use Rattle.table_lines.specs.Ends.{Blanked, Ended, Started}
 use Rattle.table_lines.specs.Heads.{Topped, Headed}
 use Rattle.table_lines.specs.declared.Start.{Start}
 use Rattle.table_lines.specs.declared.Start.TheVariants as start
-use Rattle.table_lines.specs.declared.Head.{Head}
+use Rattle.table_lines.specs.declared.HeadRead.{HeadRead}
 use Rattle.table_lines.specs.Parts.{head_with}
 
 -- ---- blanks
@@ -98,7 +98,7 @@ topped_same {i = i} {h} {u} {j} {g} {v} {k} x y =
     let l = x.low in let m = y.low in let c : j ≡ k = omega arith in
     rw (a, d, c) refl
 
-pub head_unique : (s : List ℕ) (i : ℕ) (x y : Option Head) → Headed s i x → Headed s i y → x ≡ y
+pub head_unique : (s : List ℕ) (i : ℕ) (x y : Option HeadRead) → Headed s i x → Headed s i y → x ≡ y
 head_unique s i (Some x) (Some y) a b = topped_same a b
 head_unique s i (Some x) None a b = let z = sym a.law ∙ b in zero_one cc
 head_unique s i None (Some x) a b = let z = sym b.law ∙ a in zero_one cc

@@ -12,10 +12,9 @@ ghost use Rattle.table_lines.specs.Heads.{Pointed, Headed};
 ghost use Rattle.table_lines.specs.Parts.{head_with};
 
 use alphabet::{CR, DOLLAR, END, LF, MINUS, PLUS, POINT, Run, digits, entry_at, entry_there, is_blank, is_digit, standing};
-use plain_expand::Next;
 
 // The next line that is not passed over: the place of its first token and the entry there; the end of the body; or a byte that cannot stand there.
-#[derive(Drop)]
+#[derive(Clone, Copy)]
 pub enum Start {
     Head(usize, u64),
     End,
@@ -23,8 +22,8 @@ pub enum Start {
 }
 
 // A head: its abscissa plus 10,000,000,000, what its last written place is worth in thousandths, and the place after it.
-#[derive(Clone, Copy, Debug, PartialEq, Eq)]
-pub struct Head {
+#[derive(Clone, Copy)]
+pub struct HeadRead {
     pub abscissa: u64,
     pub unit: u64,
     pub at: usize,
@@ -141,21 +140,21 @@ fn worth(n: usize) -> u64
 }
 
 // A head of so many thousandths, with its unit.
-fn abscissa(minus: bool, size: u64, unit: u64, at: usize) -> Option<Head>
+fn abscissa(minus: bool, size: u64, unit: u64, at: usize) -> Option<HeadRead>
     requires { size ≤ 9999999999 }
     ensures { result ≡ Some (head_with (headed_at minus size) unit at) }
 {
     if minus {
-        return Some(Head { abscissa: 10000000000 - size, unit, at });
+        return Some(HeadRead { abscissa: 10000000000 - size, unit, at });
     }
-    Some(Head { abscissa: 10000000000 + size, unit, at })
+    Some(HeadRead { abscissa: 10000000000 + size, unit, at })
 }
 
 // The byte of a point.
 const FULL_STOP: u64 = 46;
 
 // After the whole number of a head, which was read as w: perhaps a point and at most three digits.
-fn fraction(s: &[u8], w: Run, minus: bool) -> Option<Head>
+fn fraction(s: &[u8], w: Run, minus: bool) -> Option<HeadRead>
     requires { (w.at ≤ length s.now) × (w.b ≡ standing s.now w.at) × (w.v < 10000000) × (16 ≤ entry_at s.now w.at) }
     ensures { Pointed s.now w.at w.v minus result }
 {
@@ -176,7 +175,7 @@ fn fraction(s: &[u8], w: Run, minus: bool) -> Option<Head>
 }
 
 // The head at a place whose entry is e: one to seven digits, perhaps a sign before them, and perhaps a fraction.
-pub fn head(s: &[u8], at: usize, e: u64) -> Option<Head>
+pub fn head(s: &[u8], at: usize, e: u64) -> Option<HeadRead>
     requires { LineOpens s.now at e }
     ensures { Headed s.now at result }
 {

@@ -9,7 +9,7 @@ ghost use Rattle.table_spec.specs.Values.{index};
 ghost use Rattle.table_pass.specs.Rows.{frame_rules, Rests, LineSays, finished, PassSays};
 
 use frame::Frame;
-use table_lines::{Head, Start, bare_line, head, row_start};
+use table_lines::{HeadRead, Start, bare_line, head, row_start};
 use table_values::{Row, values};
 use terms::{Fault, Reason};
 
@@ -46,7 +46,7 @@ fn read_line(s: &[u8], fr: Frame, out: &mut [i32], r: Row, at: usize, e: u64) ->
     let q = r.q;
     match head(s, at, e) {
         None => Err(Fault::new(Reason::NoHead, at)),
-        Some(Head { abscissa: h, unit, at: j }) => {
+        Some(HeadRead { abscissa: h, unit, at: j }) => {
             if !fr.passes(h, unit, index_of(dif, k)) {
                 return Err(Fault::new(Reason::WrongHead, at));
             }
@@ -93,14 +93,9 @@ pub fn pass(s: &[u8], fr: Frame, out: &mut [i32]) -> Result<(), Fault>
             Start::Bad(j) => {
                 return Err(Fault::new(Reason::StrayByte, j));
             }
-            Start::Head(j, e) => match read_line(s, fr, out, r, j, e) {
-                Err(fault) => {
-                    return Err(Fault::new(n, p));
-                }
-                Ok(next) => {
-                    r = next;
-                }
-            },
+            Start::Head(j, e) => {
+                r = read_line(s, fr, out, r, j, e)?;
+            }
         }
     }
 }

@@ -20,10 +20,8 @@ fn check_lines(body: &[u8], fr: Frame) -> Result<i32, Fault>
     ensures { result ≡ told_first (read_lines (frame_rules fr) body.now) }
 {
     let mut one = [0i32; 1];
-    match pass(body, fr, &mut one) {
-        Err(fault) => Err(Fault::new(n, p)),
-        Ok(()) => Ok(one[0]),
-    }
+    pass(body, fr, &mut one)?;
+    Ok(one[0])
 }
 
 // 16, where a long line begins at what was found otherwise or before it (02, T-06).
@@ -59,7 +57,7 @@ fn store_body(body: &[u8], fr: Frame, out: &mut [i32])
     requires { Sound fr × Accepts (read (frame_rules fr) body.now) }
     ensures { out.new ≡ stored out.old (read (frame_rules fr) body.now) }
 {
-    pass(body, fr, out);
+    let _ = pass(body, fr, out);
 }
 
 // What a body says in a frame, with room for so many ordinates: its first ordinate, or a refusal (01, "Refusal numbers" 1 to 13; 02, T-06, 16). Nothing lent is written to.

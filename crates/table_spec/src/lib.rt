@@ -3,7 +3,7 @@
 #![tactic(auto)]
 
 // The published form that a whole text is written in (01, "The written text"; 02, T-02), in the order of their numbers for C. (`Values.Form` is the form of one value.)
-#[derive(Clone, Copy)]
+#[derive(Clone, Copy, Debug, PartialEq, Eq)]
 pub enum Style {
     Difdup,
     Affn,

@@ -14,7 +14,7 @@ const LOWER: u64 = 106;
 
 // How far a run has come: the place, how many points, the ordinate, and the one before the last difference; 0 for that, if a DUP stands last, or nothing yet. And before which place it
 // takes values: a difference takes a byte or more and adds a point, so that no more points come than bytes are left; the points of a DUP are taken from them.
-#[derive(Drop)]
+#[derive(Clone, Copy)]
 pub struct Way {
     pub at: usize,
     pub k: usize,

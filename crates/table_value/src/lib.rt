@@ -26,7 +26,7 @@ pub struct Cur {
 }
 
 // What one token did: the next state within the line, or the place of the next line.
-#[derive(Drop)]
+#[derive(Clone, Copy)]
 pub enum Step {
     Go(Cur),
     Line(usize),

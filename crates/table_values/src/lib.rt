@@ -14,10 +14,9 @@ use table_runs::differences;
 use table_shorts::PERCENT;
 use table_value::{Cur, Step, missing, value};
 use terms::{Fault, Reason};
-use plain_expand::Next;
 
 // Between lines: the place, how many points, the last ordinate (0: missing, or none on that line), and whether the line before ended in DIF form.
-#[derive(Drop)]
+#[derive(Clone, Copy)]
 pub struct Row {
     pub at: usize,
     pub k: usize,
@@ -31,14 +30,7 @@ fn past_blanks(s: &[u8], c: Cur) -> Cur
     ensures { Blanked s.now c.at result.at × (result ≡ placed c result.at) }
 {
     let at = blanks(s, c.at);
-    Cur {
-        at,
-        k: c.k,
-        q: c.q,
-        want: c.want,
-        step: c.step,
-        form: c.form,
-    }
+    Cur { at, ..c }
 }
 
 // Whatever stands next on a line.
@@ -133,7 +125,7 @@ pub fn values(s: &[u8], points: usize, out: &mut [i32], at: usize, k: usize, wan
                 return Ok(row_after(b, j));
             }
             Err(why) => {
-                return Err(Fault::new(n, b.at));
+                return Err(Fault::new(why, b.at));
             }
         }
     }

@@ -10,9 +10,8 @@ ghost use Rattle.table_write.specs.Room.{Measured};
 use frame::Frame;
 use table_given::check;
 use table_spec::Style;
-use table_text::refused;
 use text_forms::{fits, lay, length_of};
-use terms::Fault;
+use terms::{Fault, Reason};
 
 // Writing in a legal frame, with an ordinate for each point: refusal 15, or the text.
 fn write_framed(style: Style, fr: Frame, ordinates: &[i32], text: &mut [u8]) -> Result<usize, Fault>
@@ -25,7 +24,7 @@ fn write_framed(style: Style, fr: Frame, ordinates: &[i32], text: &mut [u8]) -> 
         let length = lay(style, ys, text, fr);
         return Ok(length);
     }
-    refused(15)
+    Err(Fault::new(Reason::NoFit, 0))
 }
 
 // Writes the table of a frame, its numbers as they come, and its ordinates in a form into the lent bytes; or refuses and leaves them as they were.
@@ -39,10 +38,8 @@ pub fn write_form(
 ) -> Result<usize, Fault>
     ensures { Answered style first last points ordinates.now text.old text.new result }
 {
-    match check(first, last, points, ordinates) {
-        Err(why) => refused(number),
-        Ok(fr) => write_framed(style, fr, ordinates, text),
-    }
+    let fr = check(first, last, points, ordinates)?;
+    write_framed(style, fr, ordinates, text)
 }
 
 // The length of the text that `write_form` would write, however little room there is; or its refusal, which is never 15 (02, T-10). One measuring pass, and nothing is written.
@@ -55,14 +52,8 @@ pub fn text_length(
 ) -> Result<usize, Fault>
     ensures { Measured style first last points ordinates.now result }
 {
-    match check(first, last, points, ordinates) {
-        Err(why) => refused(number),
-        Ok(fr) => {
-            let n = fr.points;
-            let bytes = length_of(style, &ordinates[..n], fr);
-            Ok(bytes)
-        }
-    }
+    let fr = check(first, last, points, ordinates)?;
+    Ok(length_of(style, &ordinates[..fr.points], fr))
 }
 
 // The same in DIFDUP form (01).

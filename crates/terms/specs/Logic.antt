@@ -1,5 +1,5 @@
 -- A choice by a test, and how a proof goes by its two cases. Assumes nothing.
-use Rattle.std.specs.Prelude.{◌≡◌, refl, Bool, true, false, ℕ, zero, suc, ◌<◌}
+use Rattle.std.specs.Prelude.{◌≡◌, refl, Bool, true, false, ℕ, zero, suc, ◌<◌, Option, Some, Result, Ok, Err}
 use Rattle.std.proofs.Common.{arith}
 
 -- a where the test holds, else b
@@ -20,6 +20,16 @@ zero_one e = absurd (omega arith)
 
 pub no_way : {A : Type 0} → false ≡ true → A
 no_way e = zero_one cc
+
+-- what stands in two equal answers is equal
+pub some_same : {A : Type 0} {x y : A} → ◌≡◌ {A = Option A} (Some x) (Some y) → x ≡ y
+some_same e = cc
+
+pub ok_same : {A B : Type 0} {x y : A} → ◌≡◌ {A = Result A B} (Ok x) (Ok y) → x ≡ y
+ok_same e = cc
+
+pub err_same : {A B : Type 0} {x y : B} → ◌≡◌ {A = Result A B} (Err x) (Err y) → x ≡ y
+err_same e = cc
 
 pub both_true : (a b : Bool) → both a b ≡ true → (a ≡ true) × (b ≡ true)
 both_true true b e = (refl, e)

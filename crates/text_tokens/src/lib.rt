@@ -19,7 +19,7 @@ pub struct Token {
 }
 
 // A group: its token, how many digits follow the token's first, how many more ordinates have the token, its bytes, and whether its form is DIF.
-#[derive(Drop)]
+#[derive(Clone, Copy)]
 pub struct Group {
     pub base: u64,
     pub size: u64,

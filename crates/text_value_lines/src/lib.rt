@@ -15,7 +15,7 @@ use text_marks::{Marks, width_of};
 use text_shows::put_value;
 
 // How far the writing has come: points given, the place after the last byte, and the bytes of the line so far.
-#[derive(Drop)]
+#[derive(Clone, Copy)]
 pub struct State {
     pub given: usize,
     pub at: usize,

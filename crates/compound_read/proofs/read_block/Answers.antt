@@ -12,12 +12,12 @@ returns-then-start-end c = read_crossed _ _ _ _ (omega (arith, c.if-file-gt-LONG
 pub returns-then-end-file : goal.returns-then-end-file
 returns-then-end-file c = read_outside _ _ _ _ (omega (arith, c.if-file-gt-LONGEST_FILE.false)) (omega (arith, c.if-start-end.false)) c.if-end-file.true
 
-pub returns-in-Accepted : goal.returns-in-Accepted
-returns-in-Accepted c =
-    read_table _ _ _ _ (omega (arith, c.if-file-gt-LONGEST_FILE.false)) (omega (arith, c.if-start-end.false)) (omega (arith, c.if-end-file.false)) _ _ (rw c.in-Accepted.is at
+pub returns-in-Ok : goal.returns-in-Ok
+returns-in-Ok c =
+    read_table _ _ _ _ (omega (arith, c.if-file-gt-LONGEST_FILE.false)) (omega (arith, c.if-start-end.false)) (omega (arith, c.if-end-file.false)) _ _ (rw c.in-Ok.is at
     c.read_part.ensures)
 
-pub returns-in-Refused : goal.returns-in-Refused
-returns-in-Refused c =
-    read_fault _ _ _ _ (omega (arith, c.if-file-gt-LONGEST_FILE.false)) (omega (arith, c.if-start-end.false)) (omega (arith, c.if-end-file.false)) _ _ (rw c.in-Refused.is at
-    c.read_part.ensures) _ c.refusal_in-in-Refused.ensures
+pub returns-in-Err : goal.returns-in-Err
+returns-in-Err c =
+    read_fault _ _ _ _ (omega (arith, c.if-file-gt-LONGEST_FILE.false)) (omega (arith, c.if-start-end.false)) (omega (arith, c.if-end-file.false)) _ _ (rw c.in-Err.is at
+    c.read_part.ensures) _ c.refusal_in-in-Err.ensures

@@ -1,7 +1,7 @@
 -- `compound_record::find_in_block` meets its contract: the places, then the block's records.
 use mathlib.Core.Path.{sym, ◌∙◌}
 use native.Mathlib.Omega.{arith}
-use Rattle.compound_record.proofs.RecordTurns.{in_long, in_outside, in_crossed, in_bare, in_text, in_absent}
+use Rattle.compound_record.proofs.RecordTurns.{in_long, in_outside, in_crossed, in_bare, in_found}
 use Rattle.compound_record.proofs.find_in_block.Goals as goal
 
 pub returns-then-file-gt-LONGEST_FILE : goal.returns-then-file-gt-LONGEST_FILE
@@ -21,12 +21,7 @@ returns-then-not-is_hashed c =
 pub find_from_mark-requires : goal.find_from_mark-requires
 find_from_mark-requires c = (sym c.is_hashed.ensures ∙ c.if-not-is_hashed.false, omega (arith, c.if-from-end.false))
 
-pub returns-in-Text : goal.returns-in-Text
-returns-in-Text c =
-    in_text _ _ _ _ (omega (arith, c.if-file-gt-LONGEST_FILE.false)) (omega (arith, c.if-end-file.false)) (omega (arith, c.if-from-end.false)) (sym c.is_hashed.ensures ∙
-    c.if-not-is_hashed.false) _ _ (rw c.in-Text.is at c.find_from_mark.ensures)
-
-pub returns-in-Absent : goal.returns-in-Absent
-returns-in-Absent c =
-    in_absent _ _ _ _ (omega (arith, c.if-file-gt-LONGEST_FILE.false)) (omega (arith, c.if-end-file.false)) (omega (arith, c.if-from-end.false)) (sym c.is_hashed.ensures ∙
-    c.if-not-is_hashed.false) (rw c.in-Absent.is at c.find_from_mark.ensures)
+pub returns : goal.returns
+returns c =
+    in_found _ _ _ _ (omega (arith, c.if-file-gt-LONGEST_FILE.false)) (omega (arith, c.if-end-file.false)) (omega (arith, c.if-from-end.false))
+    (sym c.is_hashed.ensures ∙ c.if-not-is_hashed.false) _ c.find_from_mark.ensures

@@ -1,4 +1,5 @@
 -- `compound_walk::walk_block` meets its contract: label by label; an inner block by its own contract, with one depth less left.
+use Rattle.std.proofs.lemmas.Result.{err_from_is_err_and}
 use mathlib.Core.Path.{sym, ◌∙◌}
 use Prim.Native.Nat.{◌-◌}
 use native.Mathlib.Omega.{arith}
@@ -16,11 +17,11 @@ next_label-requires t c = c.loop-mark.invariant.high
 
 pub returns-in-None : goal.returns-in-None
 returns-in-None t c =
-    rw c.fault.ensures (block_none _ _ _ _ _ _ _ c.loop-mark.invariant (rw c.in-None.is at c.next_label.ensures))
+    rw c.new.ensures (block_none _ _ _ _ _ _ _ c.loop-mark.invariant (rw c.in-None.is at c.next_label.ensures))
 
 pub returns-in-Bad : goal.returns-in-Bad
 returns-in-Bad t c =
-    rw c.fault-in-Bad.ensures (block_bad _ _ _ _ _ _ _ c.loop-mark.invariant _ (rw c.in-Bad.is at c.next_label.ensures))
+    rw c.new-in-Bad.ensures (block_bad _ _ _ _ _ _ _ c.loop-mark.invariant _ (rw c.in-Bad.is at c.next_label.ensures))
 
 pub overflow_add-next : goal.overflow_add-next
 overflow_add-next t c = let x = rw c.in-At.is at c.next_label.ensures in omega (arith, x.good)
@@ -39,46 +40,47 @@ is_title-requires t c =
 
 pub returns-then-not-own : goal.returns-then-not-own
 returns-then-not-own t c =
-    rw c.fault-then-not-own.ensures (block_closed _ _ _ _ _ _ _ c.loop-mark.invariant _ _ _ (rw c.in-At.is at c.next_label.ensures) (sym
+    rw c.new-then-not-own.ensures (block_closed _ _ _ _ _ _ _ c.loop-mark.invariant _ _ _ (rw c.in-At.is at c.next_label.ensures) (sym
     c.is_end.ensures ∙ c.if-is_end.false) (sym c.is_title.ensures ∙ c.if-is_title.true) (not-true _ c.if-not-own.true))
 
 pub returns-then-left-eq0 : goal.returns-then-left-eq0
 returns-then-left-eq0 t c =
-    rw c.fault-then-left-eq0.ensures (block_deep _ _ _ _ _ _ _ c.loop-mark.invariant _ _ _ (rw c.in-At.is at c.next_label.ensures) (sym c.is_end.ensures ∙ c.if-is_end.false) (sym c.is_title.ensures ∙ c.if-is_title.true) c.if-left-eq0.true)
+    rw c.new-then-left-eq0.ensures (block_deep _ _ _ _ _ _ _ c.loop-mark.invariant _ _ _ (rw c.in-At.is at c.next_label.ensures) (sym c.is_end.ensures ∙ c.if-is_end.false) (sym c.is_title.ensures ∙ c.if-is_title.true) c.if-left-eq0.true)
 
 pub walk_block-requires : goal.walk_block-requires
 walk_block-requires t c =
     let x = rw c.in-At.is at c.next_label.ensures in
     (omega (arith, c.requires, c.decreases, c.if-left-eq0.false), (omega (arith, x.good), omega (arith, c.requires.1)))
 
-pub returns-in-Refused : goal.returns-in-Refused
-returns-in-Refused t c =
-    block_fault _ _ _ _ _ _ _ c.loop-mark.invariant _ _ _ (rw c.in-At.is at c.next_label.ensures) (sym c.is_end.ensures ∙
-    c.if-is_end.false) (sym c.is_title.ensures ∙ c.if-is_title.true) (not-false _ c.if-not-own.false) _ (omega (arith, c.if-left-eq0.false)) _ (rw c.in-Refused.is at c.walk_block.ensures)
+pub returns-in_err-inner : goal.returns-in_err-inner
+returns-in_err-inner t c =
+    let p = err_from_is_err_and c.from_residual.result c.from_residual.ensures.1 in rw (p.1, p.2)
+    (block_fault _ _ _ _ _ _ _ c.loop-mark.invariant _ _ _ (rw c.in-At.is at c.next_label.ensures) (sym c.is_end.ensures ∙
+    c.if-is_end.false) (sym c.is_title.ensures ∙ c.if-is_title.true) (not-false _ c.if-not-own.false) _ (omega (arith, c.if-left-eq0.false)) _ c.in_err-inner.ensures)
 
 pub count_more-count-requires : goal.count_more-count-requires
 count_more-count-requires t c =
-    let w = rw c.in-Ended.is at c.walk_block.ensures in
+    let w = c.in_ok-inner.ensures in
     let x = rw c.in-At.is at c.next_label.ensures in
     let k = c.well_formed in
     omega (arith, k, w.few, w.mid, w.high, x.good, c.loop-mark.invariant.few)
 
 pub overflow_add-at : goal.overflow_add-at
 overflow_add-at t c =
-    let w = rw c.in-Ended.is at c.walk_block.ensures in
+    let w = c.in_ok-inner.ensures in
     let k = c.well_formed in
     omega (arith, k, w.high)
 
-pub loop-mark-smaller-in-Ended : goal.loop-mark-smaller-in-Ended
-loop-mark-smaller-in-Ended t c =
-    let w = rw c.in-Ended.is at c.walk_block.ensures in
+pub loop-mark-smaller-then-is_title : goal.loop-mark-smaller-then-is_title
+loop-mark-smaller-then-is_title t c =
+    let w = c.in_ok-inner.ensures in
     let x = rw c.in-At.is at c.next_label.ensures in
     omega (arith, w.low, w.mid, w.high, x.good)
 
-pub loop-mark-preserved-in-Ended : goal.loop-mark-preserved-in-Ended
-loop-mark-preserved-in-Ended t c =
+pub loop-mark-preserved-then-is_title : goal.loop-mark-preserved-then-is_title
+loop-mark-preserved-then-is_title t c =
     block_inner _ _ _ _ _ _ _ c.loop-mark.invariant _ _ _ (rw c.in-At.is at c.next_label.ensures) (sym c.is_end.ensures ∙
-    c.if-is_end.false) (sym c.is_title.ensures ∙ c.if-is_title.true) (not-false _ c.if-not-own.false) _ (omega (arith, c.if-left-eq0.false)) _ _ _ _ _ c.count_more-count.ensures (rw c.in-Ended.is at c.walk_block.ensures)
+    c.if-is_end.false) (sym c.is_title.ensures ∙ c.if-is_title.true) (not-false _ c.if-not-own.false) _ (omega (arith, c.if-left-eq0.false)) _ _ _ _ _ c.count_more-count.ensures (c.in_ok-inner.ensures)
 
 pub own_clash-requires : goal.own_clash-requires
 own_clash-requires t c =
@@ -87,7 +89,7 @@ own_clash-requires t c =
 
 pub returns-then-own_clash : goal.returns-then-own_clash
 returns-then-own_clash t c =
-    rw c.fault-then-own_clash.ensures (block_twice _ _ _ _ _ _ _ c.loop-mark.invariant _ _ _ (rw c.in-At.is at c.next_label.ensures) (sym c.is_end.ensures ∙ c.if-is_end.false) (sym c.is_title.ensures ∙ c.if-is_title.false) (sym c.own_clash.ensures ∙ c.if-own_clash.true))
+    rw c.new-then-own_clash.ensures (block_twice _ _ _ _ _ _ _ c.loop-mark.invariant _ _ _ (rw c.in-At.is at c.next_label.ensures) (sym c.is_end.ensures ∙ c.if-is_end.false) (sym c.is_title.ensures ∙ c.if-is_title.false) (sym c.own_clash.ensures ∙ c.if-own_clash.true))
 
 pub next_mark-to-requires : goal.next_mark-to-requires
 next_mark-to-requires t c =
@@ -101,7 +103,7 @@ note-own-requires t c =
 
 pub returns-then-is_both : goal.returns-then-is_both
 returns-then-is_both t c =
-    rw c.fault-then-is_both.ensures (block_table _ _ _ _ _ _ _ c.loop-mark.invariant _ _ _ (rw c.in-At.is at c.next_label.ensures) (sym c.is_end.ensures ∙ c.if-is_end.false) (sym c.is_title.ensures ∙ c.if-is_title.false) (sym c.own_clash.ensures ∙ c.if-own_clash.false) _
+    rw c.new-then-is_both.ensures (block_table _ _ _ _ _ _ _ c.loop-mark.invariant _ _ _ (rw c.in-At.is at c.next_label.ensures) (sym c.is_end.ensures ∙ c.if-is_end.false) (sym c.is_title.ensures ∙ c.if-is_title.false) (sym c.own_clash.ensures ∙ c.if-own_clash.false) _
     c.next_mark-to.ensures _ c.note-own.ensures (sym c.is_both.ensures ∙ c.if-is_both.true))
 
 pub loop-mark-smaller : goal.loop-mark-smaller

@@ -12,17 +12,17 @@ returns-then-u-eq0 c = let e = rw (to_z-of_z c.ranges.y) at c.ordinate_of-u.ensu
 
 pub equal_to-requires : goal.equal_to-requires
 equal_to-requires c =
-    let small = subst RoundedIn c.in-Whole.is c.requires in
+    let small = subst RoundedIn c.in-Some.is c.requires in
     let some = c.if-u-eq0.false in (omega (arith, some), small)
 
-pub returns-in-Beyond : goal.returns-in-Beyond
+pub returns-in-None : goal.returns-in-None
 unfolding equals
-returns-in-Beyond c =
+returns-in-None c =
     let e = rw (to_z-of_z c.ranges.y) at c.ordinate_of-u.ensures.0 in
-    rw (ne_eqb _ 0 (λ z. c.if-u-eq0.false (e ∙ z)), c.in-Beyond.is) refl
+    rw (ne_eqb _ 0 (λ z. c.if-u-eq0.false (e ∙ z)), c.in-None.is) refl
 
-pub returns-in-Whole : goal.returns-in-Whole
+pub returns-in-Some : goal.returns-in-Some
 unfolding equals
-returns-in-Whole c =
+returns-in-Some c =
     let e = rw (to_z-of_z c.ranges.y) at c.ordinate_of-u.ensures.0 in
-    rw (ne_eqb _ 0 (λ z. c.if-u-eq0.false (e ∙ z)), c.in-Whole.is) (rw e at c.equal_to.ensures)
+    rw (ne_eqb _ 0 (λ z. c.if-u-eq0.false (e ∙ z)), c.in-Some.is) (rw e at c.equal_to.ensures)

@@ -5,10 +5,10 @@ use Rattle.file.proofs.read_file.Goals as goal
 pub settle-requires : goal.settle-requires
 settle-requires c = c.check_file-c.ensures.laid
 
-pub returns-in-Accepted : goal.returns-in-Accepted
-returns-in-Accepted c =
-    file_table c.in-Accepted.is (stage_settled c.check_file-c.ensures c.settle.ensures)
+pub returns-in-Ok : goal.returns-in-Ok
+returns-in-Ok c =
+    file_table c.in-Ok.is (stage_settled c.check_file-c.ensures c.settle.ensures)
 
-pub returns-in-Refused : goal.returns-in-Refused
-returns-in-Refused c =
-    file_fault c.in-Refused.is c.refusal_in.ensures (stage_settled c.check_file-c.ensures c.settle.ensures)
+pub returns-in-Err : goal.returns-in-Err
+returns-in-Err c =
+    file_fault c.in-Err.is c.refusal_in.ensures (stage_settled c.check_file-c.ensures c.settle.ensures)

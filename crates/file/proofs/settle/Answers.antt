@@ -1,12 +1,14 @@
 -- `file::settle` meets its contract: a fault is handed on with nothing stored, a table with its ordinates.
+use Rattle.std.proofs.lemmas.Result.{err_from_is_err_and}
 use mathlib.Core.Path.{refl}
 use Rattle.file.proofs.settle.Goals as goal
 
 pub store_file-requires : goal.store_file-requires
-store_file-requires c = rw c.in-At.is at c.requires
+store_file-requires c = rw c.in_ok-k.was at c.requires
 
-pub returns-in-Refused : goal.returns-in-Refused
-returns-in-Refused c = rw c.in-Refused.is (refl, refl)
+pub returns-in_err-k : goal.returns-in_err-k
+returns-in_err-k c =
+    let p = err_from_is_err_and c.from_residual.result c.from_residual.ensures.1 in rw (p.1, p.2) (rw c.in_err-k.was (refl, refl))
 
-pub returns-in-At : goal.returns-in-At
-returns-in-At c = rw c.in-At.is (refl, c.store_file.ensures)
+pub returns : goal.returns
+returns c = rw c.in_ok-k.was (refl, c.store_file.ensures)

@@ -19,22 +19,22 @@ use Rattle.file_spec.specs.Places.{body_from}
 use Rattle.file_spec.specs.PlaceLaws.{body_is}
 use Rattle.file_body.proofs.BodyLaws.{stage_refused, place_bound, body_small, body_refused, body_unequal, body_equal}
 use Rattle.file_body.proofs.check_body.Goals as goal
-use Rattle.std.specs.Prelude.{Ok}
+use Rattle.std.specs.Prelude.{Ok, Err}
 
-pub refused_in-requires : goal.refused_in-requires
-refused_in-requires c =
+pub moved_in-requires : goal.moved_in-requires
+moved_in-requires c =
     let place : ℕ = c.args.x.xydata.from + c.args.start in
     let file : List ℕ = c.args.file.now in
     let a = c.args in let p = c.requires in
-    let low = place_bound _ _ _ (take (a.x.xydata.to - place) (drop place file)) _ (sym c.in-Refused.is ∙ c.check_table.ensures) in
+    let low = place_bound _ _ _ (take (a.x.xydata.to - place) (drop place file)) _ (sym c.in-Err.is ∙ c.check_table.ensures) in
     let short = body_small file place a.x.xydata.to in
     let least = p.0.xydata.low in let high = p.0.xydata.high in omega (arith, p.2, p.3)
 
 pub returns-then-not-agree : goal.returns-then-not-agree
 unfolding table_by
 returns-then-not-agree c =
-    let ordinate : ℤ = c.in-First.y in
-    let compared : c.agree.result ≡ agrees (ordinate_of ordinate) (ratio 0 c.args.n.firsty c.args.n.yfactor).rounded = let small = c.in-First.known_told-in-First-1-own.given.0.1 in
+    let ordinate : ℤ = c.in-Ok.y in
+    let compared : c.agree.result ≡ agrees (ordinate_of ordinate) (ratio 0 c.args.n.firsty c.args.n.yfactor).rounded = let small = c.in-Ok.known_told-in-Ok-1-own.given.0.1 in
     rw (to_z-of_z (record { sfits = small }), c.ratio_of-q.ensures.0) at c.agree.ensures in
     let file : List ℕ = c.args.file.now in
     let room : ℕ = c.args.room in
@@ -42,30 +42,30 @@ returns-then-not-agree c =
     let body : List ℕ = drop c.args.start (text_in file c.args.x.xydata) in
     let answer : Answer = read_table c.args.first c.args.last c.args.n.npoints body room in
     let first_said : Ok ordinate ≡ told_first answer = let a = c.args in
-    rw (to_z-of_z c.ranges.first, to_z-of_z c.ranges.last, body_is a.file.now a.x.xydata a.start) at (sym c.in-First.is ∙ c.check_table.ensures) in
+    rw (to_z-of_z c.ranges.first, to_z-of_z c.ranges.last, body_is a.file.now a.x.xydata a.start) at (sym c.in-Ok.is ∙ c.check_table.ensures) in
     let a = c.args in
     let unequal = sym compared ∙ c.if-not-agree.true in
-    stage_refused c.refused.ensures
+    stage_refused (ap Err c.new.ensures)
     (rw c.mark_in.ensures
     (body_unequal file room a.x a.n a.first a.last place answer first_said unequal))
 
-pub returns-in-Refused : goal.returns-in-Refused
+pub returns-in-Err : goal.returns-in-Err
 unfolding table_by
-returns-in-Refused c =
+returns-in-Err c =
     let file : List ℕ = c.args.file.now in
     let room : ℕ = c.args.room in
     let place : ℕ = c.args.x.xydata.from + c.args.start in
     let body : List ℕ = drop c.args.start (text_in file c.args.x.xydata) in
     let answer : Answer = read_table c.args.first c.args.last c.args.n.npoints body room in
     let a = c.args in
-    let said = rw (to_z-of_z c.ranges.first, to_z-of_z c.ranges.last, body_is a.file.now a.x.xydata a.start) at (sym c.in-Refused.is ∙ c.check_table.ensures) in
-    stage_refused c.refused_in.ensures (body_refused file room a.x a.n a.first a.last place answer said)
+    let said = rw (to_z-of_z c.ranges.first, to_z-of_z c.ranges.last, body_is a.file.now a.x.xydata a.start) at (sym c.in-Err.is ∙ c.check_table.ensures) in
+    stage_refused (ap Err c.moved_in.ensures) (body_refused file room a.x a.n a.first a.last place answer said)
 
 pub returns-else-not-agree : goal.returns-else-not-agree
 unfolding table_by
 returns-else-not-agree c =
-    let ordinate : ℤ = c.in-First.y in
-    let compared : c.agree.result ≡ agrees (ordinate_of ordinate) (ratio 0 c.args.n.firsty c.args.n.yfactor).rounded = let small = c.in-First.known_told-in-First-1-own.given.0.1 in
+    let ordinate : ℤ = c.in-Ok.y in
+    let compared : c.agree.result ≡ agrees (ordinate_of ordinate) (ratio 0 c.args.n.firsty c.args.n.yfactor).rounded = let small = c.in-Ok.known_told-in-Ok-1-own.given.0.1 in
     rw (to_z-of_z (record { sfits = small }), c.ratio_of-q.ensures.0) at c.agree.ensures in
     let file : List ℕ = c.args.file.now in
     let room : ℕ = c.args.room in
@@ -73,13 +73,13 @@ returns-else-not-agree c =
     let body : List ℕ = drop c.args.start (text_in file c.args.x.xydata) in
     let answer : Answer = read_table c.args.first c.args.last c.args.n.npoints body room in
     let first_said : Ok ordinate ≡ told_first answer = let a = c.args in
-    rw (to_z-of_z c.ranges.first, to_z-of_z c.ranges.last, body_is a.file.now a.x.xydata a.start) at (sym c.in-First.is ∙ c.check_table.ensures) in
-    let exact_here : c.exact_with-exact.result ≡ exactness_of c.args.n (ordinate_of ordinate) = let small = c.in-First.known_told-in-First-1-own.given.0.1 in
+    rw (to_z-of_z c.ranges.first, to_z-of_z c.ranges.last, body_is a.file.now a.x.xydata a.start) at (sym c.in-Ok.is ∙ c.check_table.ensures) in
+    let exact_here : c.exact_with-exact.result ≡ exactness_of c.args.n (ordinate_of ordinate) = let small = c.in-Ok.known_told-in-Ok-1-own.given.0.1 in
     rw (to_z-of_z (record { sfits = small }), c.ratio_of-q.ensures.0) at c.exact_with-exact.ensures ∙ carried_exact (ordinate_of ordinate) c.requires.4 in
     let a = c.args in
     let equal = sym compared ∙ c.if-not-agree.false in
     let high = c.requires.0.xydata.high in let low = c.requires.0.xydata.low in
     let inside : Within (length file) (body_from a.x a.start) = record { low = omega (arith, c.requires.2); high = high } in
     let same = ap (λ (p : List ℕ). read_table a.first a.last a.n.npoints p room) (body_is file a.x.xydata a.start) in
-    rw (c.accepted.ensures, to_z-of_z c.ranges.first, to_z-of_z c.ranges.last)
+    rw (to_z-of_z c.ranges.first, to_z-of_z c.ranges.last)
     (body_equal file room a.x a.n a.first a.last place answer first_said equal exact_here inside same)

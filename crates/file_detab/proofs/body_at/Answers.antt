@@ -10,17 +10,17 @@ use Rattle.file_detab.proofs.body_at.Goals as goal
 pub overflow_add-from : goal.overflow_add-from
 overflow_add-from c =
     let w = c.requires.xydata in
-    let h = rw c.in-Body.is at c.list_in.ensures.1 in
+    let h = c.in_ok-start.ensures.1 in
     omega (arith, h, w.low, w.high)
 
-pub returns-in-Unlisted : goal.returns-in-Unlisted
-returns-in-Unlisted c =
+pub returns-in_err-start : goal.returns-in_err-start
+returns-in_err-start c =
     let file : List ℕ = c.args.file.now in
-    (unlisted file c.args.x (sym c.list_in.ensures.0 ∙ c.in-Unlisted.is), tt)
+    rw c.from_residual.ensures (unlisted file c.args.x (sym c.in_err-start.ensures.0), tt)
 
-pub returns-in-Body : goal.returns-in-Body
-returns-in-Body c =
+pub returns : goal.returns
+returns c =
     let file : List ℕ = c.args.file.now in
     let w = c.requires.xydata in
-    let h = rw c.in-Body.is at c.list_in.ensures.1 in
-    (body_listed file c.args.x _ (sym c.list_in.ensures.0 ∙ c.in-Body.is), record { low = omega (arith, h, w.low); high = w.high })
+    let h = c.in_ok-start.ensures.1 in
+    (body_listed file c.args.x _ (sym c.in_ok-start.ensures.0), record { low = omega (arith, h, w.low); high = w.high })

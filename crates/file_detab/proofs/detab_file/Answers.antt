@@ -9,12 +9,12 @@ use Rattle.file_detab.proofs.detab_file.Goals as goal
 
 pub slice_bounds-detab-count : goal.slice_bounds-detab-count
 slice_bounds-detab-count c =
-    let within : Within (length c.args.file.now) c.in-At.b = rw c.in-At.is at c.find_body.ensures.1 in
+    let within : Within (length c.args.file.now) c.in-Some.b = rw c.in-Some.is at c.find_body.ensures.1 in
     let w = within in omega (arith, w.low, w.high)
 
-pub returns-in-Absent : goal.returns-in-Absent
-returns-in-Absent c = left_as_it_is _ (sym c.find_body.ensures.0 ∙ c.in-Absent.is)
+pub returns-in-None : goal.returns-in-None
+returns-in-None c = left_as_it_is _ (sym c.find_body.ensures.0 ∙ c.in-None.is)
 
-pub returns-in-At : goal.returns-in-At
-returns-in-At c =
-    body_converted _ c.in-At.b _ (sym c.find_body.ensures.0 ∙ c.in-At.is) c.detab.ensures
+pub returns-in-Some : goal.returns-in-Some
+returns-in-Some c =
+    body_converted _ c.in-Some.b _ (sym c.find_body.ensures.0 ∙ c.in-Some.is) c.detab.ensures

@@ -8,26 +8,26 @@ use Rattle.file_detab.proofs.Bodies.{labels_refused, records_lacking, records_al
 use Rattle.file_detab.proofs.find_body.Goals as goal
 
 pub overflow_add-start : goal.overflow_add-start
-overflow_add-start c = let x = rw c.in-Places.is at c.labels.ensures.1 in let h = x.0.high in omega arith
+overflow_add-start c = let x = rw c.in-Ok.is at c.labels.ensures.1 in let h = x.0.high in omega arith
 
 pub gather-requires : goal.gather-requires
-gather-requires c = let x = rw c.in-Places.is at c.labels.ensures.1 in let h = x.0.high in omega arith
+gather-requires c = let x = rw c.in-Ok.is at c.labels.ensures.1 in let h = x.0.high in omega arith
 
 pub body_at-requires : goal.body_at-requires
-body_at-requires c = rw c.in-All.is at c.gather.ensures.1
+body_at-requires c = c.in_ok-x.ensures.1
 
-pub returns-in-Refused : goal.returns-in-Refused
-returns-in-Refused c =
+pub returns-in-Err : goal.returns-in-Err
+returns-in-Err c =
     let file : List ℕ = c.args.file.now in
-    (labels_refused file _ (sym c.labels.ensures.0 ∙ c.in-Refused.is), tt)
+    (labels_refused file _ (sym c.labels.ensures.0 ∙ c.in-Err.is), tt)
 
-pub returns-in-Lacking : goal.returns-in-Lacking
-returns-in-Lacking c =
+pub returns-in_err-x : goal.returns-in_err-x
+returns-in_err-x c =
     let file : List ℕ = c.args.file.now in
-    (records_lacking file _ _ _ (sym c.labels.ensures.0 ∙ c.in-Places.is) (sym c.gather.ensures.0 ∙ c.in-Lacking.is), tt)
+    rw c.from_residual.ensures (records_lacking file _ _ _ (sym c.labels.ensures.0 ∙ c.in-Ok.is) (sym c.in_err-x.ensures.0), tt)
 
-pub returns-in-All : goal.returns-in-All
-returns-in-All c =
+pub returns-in-Ok : goal.returns-in-Ok
+returns-in-Ok c =
     let file : List ℕ = c.args.file.now in
-    let found = records_all file _ _ _ (sym c.labels.ensures.0 ∙ c.in-Places.is) _ (sym c.gather.ensures.0 ∙ c.in-All.is) in
+    let found = records_all file _ _ _ (sym c.labels.ensures.0 ∙ c.in-Ok.is) _ (sym c.in_ok-x.ensures.0) in
     (c.body_at.ensures.0 ∙ found, c.body_at.ensures.1)

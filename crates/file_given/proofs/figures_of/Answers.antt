@@ -10,12 +10,12 @@ returns-in_default c =
 pub returns-in_default-factor_of : goal.returns-in_default-factor_of
 returns-in_default-factor_of c =
     let a = c.args in
-    let one = sym c.factor_of.ensures.0 ∙ c.in-Is.is in
+    let one = sym c.factor_of.ensures.0 ∙ c.in-Some.is in
     yfactor_wrong a.c a.points one (sym c.factor_of-2.ensures.0 ∙ c.in_default-factor_of.is)
 
 pub returns : goal.returns
 returns c =
     let a = c.args in
-    let one = sym c.factor_of.ensures.0 ∙ c.in-Is.is in
-    let two = sym c.factor_of-2.ensures.0 ∙ c.in-Is-factor_of.is in
+    let one = sym c.factor_of.ensures.0 ∙ c.in-Some.is in
+    let two = sym c.factor_of-2.ensures.0 ∙ c.in-Some-factor_of.is in
     c.figures_from_firstx.ensures ∙ factors_right a.c a.points one two

@@ -1,5 +1,7 @@
 -- `file_lay::lay` meets its contract: where the body fits behind the heading, the three parts are the file; where it does not, nothing is altered.
 -- where the heading is measured, and where the table is written
+use Rattle.std.specs.Prelude.{Err}
+use mathlib.Core.Path.{ap}
 use mathlib.Core.List.{List}
 use Prim.Native.Nat.{ℕ}
 use native.Mathlib.Omega.{arith}
@@ -13,12 +15,12 @@ pub returns-then-len-head : goal.returns-then-len-head
 returns-then-len-head c =
     let body : List ℕ = body_of c.args.first c.args.last c.args.n.npoints c.args.ordinates.now in
     let a = c.args in let n = c.heading_length-head.ensures.0 in
-    too_short a.title.now a.n body a.text.now _ (omega arith) c.if-len-head.true c.refused.ensures
+    too_short a.title.now a.n body a.text.now _ (omega arith) c.if-len-head.true (ap Err c.new.ensures)
 
 pub overflow_add-at : goal.overflow_add-at
 overflow_add-at c =
     let a = c.args in
-    let w = table_wrote a.first a.last a.n.npoints a.ordinates.now c.requires.2 _ _ c.in-Length.is
+    let w = table_wrote a.first a.last a.n.npoints a.ordinates.now c.requires.2 _ _ c.in-Ok.is
     (rw (to_z-of_z c.ranges.first, to_z-of_z c.ranges.last) at c.write_table.ensures) in
     let most = body_bound a.first a.last a.n.npoints a.ordinates.now c.requires.2 in
     omega (arith, c.heading_length-head.ensures.1, w.1)
@@ -26,25 +28,25 @@ overflow_add-at c =
 pub put_line-length-requires : goal.put_line-length-requires
 put_line-length-requires c =
     let a = c.args in
-    let w = table_wrote a.first a.last a.n.npoints a.ordinates.now c.requires.2 _ _ c.in-Length.is
+    let w = table_wrote a.first a.last a.n.npoints a.ordinates.now c.requires.2 _ _ c.in-Ok.is
     (rw (to_z-of_z c.ranges.first, to_z-of_z c.ranges.last) at c.write_table.ensures) in
     let most = body_bound a.first a.last a.n.npoints a.ordinates.now c.requires.2 in
     (omega arith, omega arith, omega (arith, c.heading_length-head.ensures.1, w.1))
 
-pub returns-in-Refused : goal.returns-in-Refused
-returns-in-Refused c =
+pub returns-in-Err : goal.returns-in-Err
+returns-in-Err c =
     let body : List ℕ = body_of c.args.first c.args.last c.args.n.npoints c.args.ordinates.now in
     let a = c.args in let n = c.heading_length-head.ensures.0 in
-    let w = table_refused a.first a.last a.n.npoints a.ordinates.now c.requires.2 _ _ c.in-Refused.is
+    let w = table_refused a.first a.last a.n.npoints a.ordinates.now c.requires.2 _ _ c.in-Err.is
     (rw (to_z-of_z c.ranges.first, to_z-of_z c.ranges.last) at c.write_table.ensures) in
-    not_fitting a.title.now a.n body a.text.now _ (omega arith) c.if-len-head.false w.0 w.1 c.refused-in-Refused.ensures
+    not_fitting a.title.now a.n body a.text.now _ (omega arith) c.if-len-head.false w.0 w.1 (ap Err c.new-in-Err.ensures)
 
-pub returns-in-Length : goal.returns-in-Length
+pub returns-in-Ok : goal.returns-in-Ok
 unfolding END
-returns-in-Length c =
+returns-in-Ok c =
     let body : List ℕ = body_of c.args.first c.args.last c.args.n.npoints c.args.ordinates.now in
     let a = c.args in
-    let w = table_wrote a.first a.last a.n.npoints a.ordinates.now c.requires.2 _ _ c.in-Length.is
+    let w = table_wrote a.first a.last a.n.npoints a.ordinates.now c.requires.2 _ _ c.in-Ok.is
     (rw (to_z-of_z c.ranges.first, to_z-of_z c.ranges.last) at c.write_table.ensures) in
     let n = c.heading_length-head.ensures.0 in
     fitting a.title.now a.n body a.text.now _ _ (omega arith) c.if-len-head.false w.0 w.1 w.2

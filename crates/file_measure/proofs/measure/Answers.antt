@@ -16,33 +16,33 @@ overflow_add-length c =
     let table_at : c.text_length.result ≡ Ok (length (body_of c.args.first c.args.last c.args.n.npoints c.args.ordinates.now)) = let a = c.args in
     table_measured a.first a.last a.n.npoints a.ordinates.now c.requires.2
     (rw (to_z-of_z c.ranges.first, to_z-of_z c.ranges.last) at c.text_length.ensures) in
-    let length_at : let a = c.args in c.in-Length.k ≡ length (body_of a.first a.last a.n.npoints a.ordinates.now) = let e = sym c.in-Length.is ∙ table_at in cc in
+    let length_at : let a = c.args in c.in_ok-body.body ≡ length (body_of a.first a.last a.n.npoints a.ordinates.now) = let e = sym c.in_ok-body.was ∙ table_at in cc in
     let a = c.args in
     let most = body_bound a.first a.last a.n.npoints a.ordinates.now c.requires.2 in
     omega (arith, c.heading_length-head.ensures.1, length_at)
 
-pub overflow_add-length-in-Length : goal.overflow_add-length-in-Length
-overflow_add-length-in-Length c =
+pub overflow_add-length-2 : goal.overflow_add-length-2
+overflow_add-length-2 c =
     let table_at : c.text_length.result ≡ Ok (length (body_of c.args.first c.args.last c.args.n.npoints c.args.ordinates.now)) = let a = c.args in
     table_measured a.first a.last a.n.npoints a.ordinates.now c.requires.2
     (rw (to_z-of_z c.ranges.first, to_z-of_z c.ranges.last) at c.text_length.ensures) in
-    let length_at : let a = c.args in c.in-Length.k ≡ length (body_of a.first a.last a.n.npoints a.ordinates.now) = let e = sym c.in-Length.is ∙ table_at in cc in
+    let length_at : let a = c.args in c.in_ok-body.body ≡ length (body_of a.first a.last a.n.npoints a.ordinates.now) = let e = sym c.in_ok-body.was ∙ table_at in cc in
     let a = c.args in
     let most = body_bound a.first a.last a.n.npoints a.ordinates.now c.requires.2 in
     omega (arith, c.heading_length-head.ensures.1, length_at)
 
-pub returns-in-Refused : goal.returns-in-Refused
-returns-in-Refused c =
+pub returns-in_err-body : goal.returns-in_err-body
+returns-in_err-body c =
     let table_at : c.text_length.result ≡ Ok (length (body_of c.args.first c.args.last c.args.n.npoints c.args.ordinates.now)) = let a = c.args in
     table_measured a.first a.last a.n.npoints a.ordinates.now c.requires.2
     (rw (to_z-of_z c.ranges.first, to_z-of_z c.ranges.last) at c.text_length.ensures) in
-    let e = sym c.in-Refused.is ∙ table_at in zero_one cc
+    let e = sym c.in_err-body.was ∙ table_at in zero_one cc
 
-pub returns-in-Length : goal.returns-in-Length
-returns-in-Length c =
+pub returns : goal.returns
+returns c =
     let table_at : c.text_length.result ≡ Ok (length (body_of c.args.first c.args.last c.args.n.npoints c.args.ordinates.now)) = let a = c.args in
     table_measured a.first a.last a.n.npoints a.ordinates.now c.requires.2
     (rw (to_z-of_z c.ranges.first, to_z-of_z c.ranges.last) at c.text_length.ensures) in
-    let length_at : let a = c.args in c.in-Length.k ≡ length (body_of a.first a.last a.n.npoints a.ordinates.now) = let e = sym c.in-Length.is ∙ table_at in cc in
+    let length_at : let a = c.args in c.in_ok-body.body ≡ length (body_of a.first a.last a.n.npoints a.ordinates.now) = let e = sym c.in_ok-body.was ∙ table_at in cc in
     let a = c.args in
     length_whole a.title.now a.n (body_of a.first a.last a.n.npoints a.ordinates.now) [] _ _ c.heading_length-head.ensures.0 length_at

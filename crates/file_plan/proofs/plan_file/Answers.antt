@@ -16,22 +16,22 @@ returns-then-not-title_fair c =
 
 pub plan_numbers-requires : goal.plan_numbers-requires
 plan_numbers-requires c =
-    let numbers_are : (scales_legal c.args.scales ≡ true) × (c.in-All.n ≡ numbers c.args.scales c.args.points) = let a = c.args in
-    figures_all a.scales a.points (sym c.in-All.is ∙ c.figures_of.ensures) in
+    let numbers_are : (scales_legal c.args.scales ≡ true) × (c.in-Ok.n ≡ numbers c.args.scales c.args.points) = let a = c.args in
+    figures_all a.scales a.points (sym c.in-Ok.is ∙ c.figures_of.ensures) in
     let a = c.args in let k = numbers_are in
     subst Scaled (sym k.1) (all_scaled a.scales a.points k.0)
 
-pub returns-in-Wrong : goal.returns-in-Wrong
-returns-in-Wrong c =
+pub returns-in-Err : goal.returns-in-Err
+returns-in-Err c =
     let title_is : title_legal c.args.title.now ≡ true = sym c.title_fair.ensures ∙ c.if-not-title_fair.false in
     let a = c.args in
-    let wrong = figures_wrong a.scales a.points (sym c.in-Wrong.is ∙ c.figures_of.ensures) in
+    let wrong = figures_wrong a.scales a.points (sym c.in-Err.is ∙ c.figures_of.ensures) in
     λ space. scales_declined a.title.now a.points a.scales a.ordinates.now space title_is wrong
 
-pub returns-in-All : goal.returns-in-All
-returns-in-All c =
-    let numbers_are : (scales_legal c.args.scales ≡ true) × (c.in-All.n ≡ numbers c.args.scales c.args.points) = let a = c.args in
-    figures_all a.scales a.points (sym c.in-All.is ∙ c.figures_of.ensures) in
+pub returns-in-Ok : goal.returns-in-Ok
+returns-in-Ok c =
+    let numbers_are : (scales_legal c.args.scales ≡ true) × (c.in-Ok.n ≡ numbers c.args.scales c.args.points) = let a = c.args in
+    figures_all a.scales a.points (sym c.in-Ok.is ∙ c.figures_of.ensures) in
     let title_is : title_legal c.args.title.now ≡ true = sym c.title_fair.ensures ∙ c.if-not-title_fair.false in
     let a = c.args in let k = numbers_are in
     plans_same _ _ _ a.title.now a.ordinates.now c.plan_numbers.result

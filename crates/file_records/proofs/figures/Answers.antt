@@ -12,18 +12,18 @@ returns-in_default c =
 pub returns-in_default-factor_in : goal.returns-in_default-factor_in
 returns-in_default-factor_in c =
     let a = c.args in
-    let one = sym c.factor_in.ensures.0 ∙ c.in-Is.is in
+    let one = sym c.factor_in.ensures.0 ∙ c.in-Some.is in
     (rw c.mark_in-in_default-factor_in.ensures (yfactor_wrong a.file.now a.x one (sym c.factor_in-2.ensures.0 ∙ c.in_default-factor_in.is)), tt)
 
 pub figures_from_firstx-requires : goal.figures_from_firstx-requires
 figures_from_firstx-requires c =
-    let one = rw c.in-Is.is at c.factor_in.ensures.1 in
-    let two = rw c.in-Is-factor_in.is at c.factor_in-2.ensures.1 in
+    let one = rw c.in-Some.is at c.factor_in.ensures.1 in
+    let two = rw c.in-Some-factor_in.is at c.factor_in-2.ensures.1 in
     record { within = c.requires; xfactor = one; yfactor = two }
 
 pub returns : goal.returns
 returns c =
     let a = c.args in
-    let one = sym c.factor_in.ensures.0 ∙ c.in-Is.is in
-    let two = sym c.factor_in-2.ensures.0 ∙ c.in-Is-factor_in.is in
+    let one = sym c.factor_in.ensures.0 ∙ c.in-Some.is in
+    let two = sym c.factor_in-2.ensures.0 ∙ c.in-Some-factor_in.is in
     (c.figures_from_firstx.ensures.0 ∙ factors_right a.file.now a.x one two, c.figures_from_firstx.ensures.1)

@@ -12,18 +12,18 @@ returns-in_default c =
 pub returns-in_default-decimal_in : goal.returns-in_default-decimal_in
 returns-in_default-decimal_in c =
     let a = c.args in
-    let one = sym c.decimal_in.ensures.0 ∙ c.in-Is.is in
+    let one = sym c.decimal_in.ensures.0 ∙ c.in-Some.is in
     (rw c.mark_in-in_default-decimal_in.ensures (lastx_wrong a.file.now a.x a.xfactor a.yfactor one (sym c.decimal_in-2.ensures.0 ∙ c.in_default-decimal_in.is)), tt)
 
 pub figures_from_npoints-requires : goal.figures_from_npoints-requires
 figures_from_npoints-requires c =
-    let one = rw c.in-Is.is at c.decimal_in.ensures.1 in
-    let two = rw c.in-Is-decimal_in.is at c.decimal_in-2.ensures.1 in
+    let one = rw c.in-Some.is at c.decimal_in.ensures.1 in
+    let two = rw c.in-Some-decimal_in.is at c.decimal_in-2.ensures.1 in
     (c.requires, one, two)
 
 pub returns : goal.returns
 returns c =
     let a = c.args in
-    let one = sym c.decimal_in.ensures.0 ∙ c.in-Is.is in
-    let two = sym c.decimal_in-2.ensures.0 ∙ c.in-Is-decimal_in.is in
+    let one = sym c.decimal_in.ensures.0 ∙ c.in-Some.is in
+    let two = sym c.decimal_in-2.ensures.0 ∙ c.in-Some-decimal_in.is in
     (c.figures_from_npoints.ensures.0 ∙ abscissas_right a.file.now a.x a.xfactor a.yfactor one two, c.figures_from_npoints.ensures.1)

@@ -4,18 +4,18 @@ use Rattle.file_texts.proofs.NumberLaws.{count_no, count_late, count_is}
 use Rattle.file_texts.proofs.count_alone.Goals as goal
 
 pub past_space-requires : goal.past_space-requires
-past_space-requires c = let x = rw c.in-Counted.is at c.count.ensures.good in x.1
+past_space-requires c = let x = c.in_ok-count.ensures.good in x.1
 
 pub returns-then-past_space-part : goal.returns-then-past_space-part
 returns-then-past_space-part c =
-    let said = sym c.in-Counted.is ∙ c.count.ensures.says in
+    let said = c.in_ok-count.ensures.says in
     (count_late _ _ c.past_space-at.ensures.is _ _ said _ c.past_space.ensures.is c.if-past_space-part.true, tt)
 
-pub returns-in-Misspelled : goal.returns-in-Misspelled
-returns-in-Misspelled c = (count_no _ _ c.past_space-at.ensures.is (sym c.in-Misspelled.is ∙ c.count.ensures.says), tt)
+pub returns-in_err-count : goal.returns-in_err-count
+returns-in_err-count c = rw c.from_residual.ensures (count_no _ _ c.past_space-at.ensures.is c.in_err-count.ensures.says, tt)
 
 pub returns-else-past_space-part : goal.returns-else-past_space-part
 returns-else-past_space-part c =
-    let said = sym c.in-Counted.is ∙ c.count.ensures.says in
-    let good = rw c.in-Counted.is at c.count.ensures.good in
+    let said = c.in_ok-count.ensures.says in
+    let good = c.in_ok-count.ensures.good in
     (count_is _ _ c.past_space-at.ensures.is _ _ said _ c.past_space.ensures.is c.if-past_space-part.false, good.0)

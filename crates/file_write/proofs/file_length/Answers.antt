@@ -1,5 +1,7 @@
 -- `file_write::file_length` meets its contract: the refusal of the tests before it, or the length of what is planned.
 -- where the file is planned, and the start from there
+use Rattle.std.specs.Prelude.{Err}
+use Rattle.std.proofs.lemmas.Result.{err_from_is_err_and}
 use mathlib.Core.Path.{sym, ap, ◌∙◌}
 use mir.Syntax.{w64}
 use mir.Facts.{to_z-of_z}
@@ -12,18 +14,19 @@ use Rattle.file_write.proofs.file_length.Goals as goal
 
 pub measure-requires : goal.measure-requires
 measure-requires c =
-    let plan_at : let a = c.args in Planning (write_file a.title.now a.points a.scales a.ordinates.now) (file_exact a.scales a.points a.ordinates.now) a.title.now a.ordinates.now c.in-Taken.p = rw c.in-Taken.is at c.plan_file.ensures in
-    let p = c.in-Taken.p in let g = plan_at in
-    (g.titled, g.writable, rw (to_z-of_z {z = p.first} (sfits_of {w = w64} c.struct_told-1.given.1.0.1), to_z-of_z {z = p.last} (sfits_of {w = w64} c.struct_told-in-Taken-1.given.1.1.0.1)) g.framed)
+    let plan_at : let a = c.args in Planning (write_file a.title.now a.points a.scales a.ordinates.now) (file_exact a.scales a.points a.ordinates.now) a.title.now a.ordinates.now c.in_ok-p.p = c.in_ok-p.ensures in
+    let p = c.in_ok-p.p in let g = plan_at in
+    (g.titled, g.writable, rw (to_z-of_z {z = p.first} (sfits_of {w = w64} c.struct_told-1.given.1.0.1), to_z-of_z {z = p.last} (sfits_of {w = w64} c.struct_told-2.given.1.1.0.1)) g.framed)
 
-pub returns-in-Refused : goal.returns-in-Refused
-returns-in-Refused c =
+pub returns-in_err-p : goal.returns-in_err-p
+returns-in_err-p c =
     let a = c.args in
-    c.refused.ensures ∙ sym (ap (told_file_lem (file_exact a.scales a.points a.ordinates.now)) ((rw c.in-Refused.is at c.plan_file.ensures) _))
+    let p = err_from_is_err_and c.from_residual.result c.from_residual.ensures.1 in
+    p.1 ∙ ap Err p.2 ∙ sym (ap (told_file_lem (file_exact a.scales a.points a.ordinates.now)) (c.in_err-p.ensures _))
 
-pub returns-in-Taken : goal.returns-in-Taken
-returns-in-Taken c =
-    let plan_at : let a = c.args in Planning (write_file a.title.now a.points a.scales a.ordinates.now) (file_exact a.scales a.points a.ordinates.now) a.title.now a.ordinates.now c.in-Taken.p = rw c.in-Taken.is at c.plan_file.ensures in
-    let a = c.args in let p = c.in-Taken.p in
+pub returns : goal.returns
+returns c =
+    let plan_at : let a = c.args in Planning (write_file a.title.now a.points a.scales a.ordinates.now) (file_exact a.scales a.points a.ordinates.now) a.title.now a.ordinates.now c.in_ok-p.p = c.in_ok-p.ensures in
+    let a = c.args in let p = c.in_ok-p.p in
     measured_laid a.title.now a.points a.scales a.ordinates.now plan_at
-    (rw (to_z-of_z {z = p.first} (sfits_of {w = w64} c.struct_told-1.given.1.0.1), to_z-of_z {z = p.last} (sfits_of {w = w64} c.struct_told-in-Taken-1.given.1.1.0.1)) at c.measure.ensures)
+    (rw (to_z-of_z {z = p.first} (sfits_of {w = w64} c.struct_told-1.given.1.0.1), to_z-of_z {z = p.last} (sfits_of {w = w64} c.struct_told-2.given.1.1.0.1)) at c.measure.ensures)

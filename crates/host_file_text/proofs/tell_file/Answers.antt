@@ -2,9 +2,9 @@
 use Rattle.host_file_text.proofs.Tellings.{tells_file, tells_file_refusal}
 use Rattle.host_file_text.proofs.tell_file.Goals as goal
 
-pub returns-in-Length : goal.returns-in-Length
-returns-in-Length c =
-    tells_file c.in-Length.is c.flag_of-ef.ensures c.flag_of-el.ensures c.flag_of-ey.ensures
+pub returns-in-Ok : goal.returns-in-Ok
+returns-in-Ok c =
+    tells_file c.in-Ok.is c.flag_of-ef.ensures c.flag_of-el.ensures c.flag_of-ey.ensures
 
-pub returns-in-Refused : goal.returns-in-Refused
-returns-in-Refused c = tells_file_refusal c.in-Refused.is
+pub returns-in-Err : goal.returns-in-Err
+returns-in-Err c = tells_file_refusal c.in-Err.is

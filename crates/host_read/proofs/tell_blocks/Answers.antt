@@ -4,8 +4,8 @@ use Rattle.host_numbers.specs.NumberLaws.{tells}
 use Rattle.host_read.specs.Answers.{blocks_numbers}
 use Rattle.host_read.proofs.tell_blocks.Goals as goal
 
-pub returns-in-Refused : goal.returns-in-Refused
-returns-in-Refused c = tells _ (ap blocks_numbers c.in-Refused.is)
+pub returns-in-Err : goal.returns-in-Err
+returns-in-Err c = tells _ (ap blocks_numbers c.in-Err.is)
 
 pub returns-in-Compound : goal.returns-in-Compound
 returns-in-Compound c = tells _ (ap blocks_numbers c.in-Compound.is)

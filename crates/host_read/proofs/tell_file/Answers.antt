@@ -8,12 +8,12 @@ use Rattle.host_read.specs.Answers.{file_numbers}
 use Rattle.host_read.proofs.Tellings.{tells_accepted}
 use Rattle.host_read.proofs.tell_file.Goals as goal
 
-pub returns-in-Accepted : goal.returns-in-Accepted
-returns-in-Accepted c =
-    let k = c.struct_told-1.given in let j = c.struct_told-in-Accepted-1.given in
-    tells_accepted c.in-Accepted.is
+pub returns-in-Ok : goal.returns-in-Ok
+returns-in-Ok c =
+    let k = c.struct_told-1.given in let j = c.struct_told-in-Ok-1.given in
+    tells_accepted c.in-Ok.is
     (rw (to_z-of_z (sfits_of {w = w64} k.1.0.1)) at c.bits_of-f.ensures) (rw (to_z-of_z (sfits_of {w = w64} j.1.1.0.1)) at c.bits_of-l.ensures)
     c.flag_of-ef.ensures c.flag_of-el.ensures c.flag_of-ey.ensures
 
-pub returns-in-Refused : goal.returns-in-Refused
-returns-in-Refused c = tells _ (ap file_numbers c.in-Refused.is)
+pub returns-in-Err : goal.returns-in-Err
+returns-in-Err c = tells _ (ap file_numbers c.in-Err.is)

@@ -4,11 +4,11 @@ use Rattle.host_numbers.specs.NumberLaws.{tells}
 use Rattle.host_read.specs.Answers.{record_numbers}
 use Rattle.host_read.proofs.tell_record.Goals as goal
 
-pub returns-in-Text : goal.returns-in-Text
-returns-in-Text c = tells _ (ap record_numbers c.in-Text.is)
+pub returns-in-Ok-Some : goal.returns-in-Ok-Some
+returns-in-Ok-Some c = tells _ (ap record_numbers c.in-Ok-Some.is)
 
-pub returns-in-Absent : goal.returns-in-Absent
-returns-in-Absent c = tells _ (ap record_numbers c.in-Absent.is)
+pub returns-in-Ok-None : goal.returns-in-Ok-None
+returns-in-Ok-None c = tells _ (ap record_numbers c.in-Ok-None.is)
 
-pub returns-in-Refused : goal.returns-in-Refused
-returns-in-Refused c = tells _ (ap record_numbers c.in-Refused.is)
+pub returns-in-Err : goal.returns-in-Err
+returns-in-Err c = tells _ (ap record_numbers c.in-Err.is)

@@ -4,8 +4,8 @@ use Rattle.host_numbers.specs.NumberLaws.{tells}
 use Rattle.host_table.specs.Answers.{table_numbers}
 use Rattle.host_table.proofs.tell_table.Goals as goal
 
-pub returns-in-Accepted : goal.returns-in-Accepted
-returns-in-Accepted c = tells _ (ap table_numbers c.in-Accepted.is)
+pub returns-in-Ok : goal.returns-in-Ok
+returns-in-Ok c = tells _ (ap table_numbers c.in-Ok.is)
 
-pub returns-in-Refused : goal.returns-in-Refused
-returns-in-Refused c = tells _ (ap table_numbers c.in-Refused.is)
+pub returns-in-Err : goal.returns-in-Err
+returns-in-Err c = tells _ (ap table_numbers c.in-Err.is)

@@ -2,8 +2,8 @@
 use Rattle.host_text.proofs.Tellings.{tells_length, tells_refusal}
 use Rattle.host_text.proofs.tell_text.Goals as goal
 
-pub returns-in-Length : goal.returns-in-Length
-returns-in-Length c = tells_length c.in-Length.is
+pub returns-in-Ok : goal.returns-in-Ok
+returns-in-Ok c = tells_length c.in-Ok.is
 
-pub returns-in-Refused : goal.returns-in-Refused
-returns-in-Refused c = tells_refusal c.in-Refused.is
+pub returns-in-Err : goal.returns-in-Err
+returns-in-Err c = tells_refusal c.in-Err.is

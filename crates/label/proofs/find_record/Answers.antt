@@ -18,14 +18,14 @@ pub eq_here-requires : goal.eq_here-requires
 eq_here-requires c = (c.next_mark-mark.ensures.stops c.if-mark-part.false, c.first_of-first.ensures)
 
 pub overflow_add-next : goal.overflow_add-next
-overflow_add-next c = let x = rw c.in-Place.is at c.eq_here.ensures in omega (arith, x.says.1)
+overflow_add-next c = let x = rw c.in-Some.is at c.eq_here.ensures in omega (arith, x.says.1)
 
 pub next_mark-end-requires : goal.next_mark-end-requires
-next_mark-end-requires c = let x = rw c.in-Place.is at c.eq_here.ensures in omega (arith, x.says.1)
+next_mark-end-requires c = let x = rw c.in-Some.is at c.eq_here.ensures in omega (arith, x.says.1)
 
-pub returns-in-Place : goal.returns-in-Place
-returns-in-Place c =
-    let x = rw c.in-Place.is at c.eq_here.ensures in
+pub returns-in-Some : goal.returns-in-Some
+returns-in-Some c =
+    let x = rw c.in-Some.is at c.eq_here.ensures in
     finds_text _ _ _ _ _ c.loop-start.invariant _
     c.next_mark-mark.ensures c.if-mark-stop.false _ _ x c.next_mark-end.ensures
 
@@ -33,4 +33,4 @@ pub loop-start-preserved : goal.loop-start-preserved
 loop-start-preserved c =
     unfound_on _ _ _ _ _ c.loop-start.invariant _ c.next_mark-mark.ensures
     c.if-mark-stop.false c.if-mark-part.false
-    (rw c.in-Nowhere.is at c.eq_here.ensures)
+    (rw c.in-None.is at c.eq_here.ensures)

@@ -4,13 +4,13 @@ use Rattle.label.proofs.FileTurns.{text_part, text_absent, text_refused}
 use Rattle.label.proofs.record_text.Goals as goal
 
 pub part_of-requires : goal.part_of-requires
-part_of-requires c = (rw c.in-Text.is at c.find.ensures).1
+part_of-requires c = (rw c.in-Ok-Some.is at c.find.ensures).1
 
-pub returns-in-Text : goal.returns-in-Text
-returns-in-Text c = c.part_of.ensures ∙ text_part _ _ _ _ (rw c.in-Text.is at c.find.ensures)
+pub returns-in-Ok-Some : goal.returns-in-Ok-Some
+returns-in-Ok-Some c = c.part_of.ensures ∙ text_part _ _ _ _ (rw c.in-Ok-Some.is at c.find.ensures)
 
-pub returns-in-Absent : goal.returns-in-Absent
-returns-in-Absent c = text_absent _ _ (rw c.in-Absent.is at c.find.ensures)
+pub returns-in-Ok-None : goal.returns-in-Ok-None
+returns-in-Ok-None c = text_absent _ _ (rw c.in-Ok-None.is at c.find.ensures)
 
-pub returns-in-Refused : goal.returns-in-Refused
-returns-in-Refused c = text_refused _ _ _ (rw c.in-Refused.is at c.find.ensures)
+pub returns-in-Err : goal.returns-in-Err
+returns-in-Err c = text_refused _ _ _ (rw c.in-Err.is at c.find.ensures)

@@ -2,8 +2,8 @@
 use mathlib.Core.Path.{refl}
 use Rattle.night_numbers.proofs.tell_file.Goals as goal
 
-pub returns-in-Read : goal.returns-in-Read
-returns-in-Read c = rw c.in-Read.is c.tell_account.ensures
+pub returns-in-Ok : goal.returns-in-Ok
+returns-in-Ok c = rw c.in-Ok.is c.tell_account.ensures
 
-pub returns-in-Refused : goal.returns-in-Refused
-returns-in-Refused c = rw c.in-Refused.is (refl, refl)
+pub returns-in-Err : goal.returns-in-Err
+returns-in-Err c = rw c.in-Err.is (refl, refl)

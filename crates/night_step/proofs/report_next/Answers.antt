@@ -15,28 +15,28 @@ pub overflow_sub-left : goal.overflow_sub-left
 overflow_sub-left c = let h = legal_in _ (sym c.walk_legal.ensures ∙ c.if-not-walk_legal.false) in omega (arith, h.0)
 
 pub slice_bounds-report_file-start : goal.slice_bounds-report_file-start
-slice_bounds-report_file-start c = (file_in _ _ _ (sym c.in-File.is ∙ c.next_record.ensures)).0
+slice_bounds-report_file-start c = (file_in _ _ _ (sym c.in-Ok-Some.is ∙ c.next_record.ensures)).0
 
 pub slice_bounds-report_file-end : goal.slice_bounds-report_file-end
-slice_bounds-report_file-end c = (file_in _ _ _ (sym c.in-File.is ∙ c.next_record.ensures)).1
+slice_bounds-report_file-end c = (file_in _ _ _ (sym c.in-Ok-Some.is ∙ c.next_record.ensures)).1
 
-pub counted-report-requires : goal.counted-report-requires
-counted-report-requires c =
+pub with_report-requires : goal.with_report-requires
+with_report-requires c =
     let h = legal_in _ (sym c.walk_legal.ensures ∙ c.if-not-walk_legal.false) in (wider h.0 h.1, told_in c.report_file-report.ensures)
 
-pub overflow_add-next : goal.overflow_add-next
-overflow_add-next c = let h = legal_in _ (sym c.walk_legal.ensures ∙ c.if-not-walk_legal.false) in omega (arith, h.0)
+pub overflow_add-seen : goal.overflow_add-seen
+overflow_add-seen c = let h = legal_in _ (sym c.walk_legal.ensures ∙ c.if-not-walk_legal.false) in omega (arith, h.0)
 
-pub returns-in-Over : goal.returns-in-Over
-returns-in-Over c = next_over (sym c.walk_legal.ensures ∙ c.if-not-walk_legal.false) (sym c.in-Over.is ∙ c.next_record.ensures)
+pub returns-in-Ok-None : goal.returns-in-Ok-None
+returns-in-Ok-None c = next_over (sym c.walk_legal.ensures ∙ c.if-not-walk_legal.false) (sym c.in-Ok-None.is ∙ c.next_record.ensures)
 
-pub returns-in-Refused : goal.returns-in-Refused
-returns-in-Refused c = next_stopped (sym c.walk_legal.ensures ∙ c.if-not-walk_legal.false) (sym c.in-Refused.is ∙ c.next_record.ensures)
+pub returns-in-Err : goal.returns-in-Err
+returns-in-Err c = next_stopped (sym c.walk_legal.ensures ∙ c.if-not-walk_legal.false) (sym c.in-Err.is ∙ c.next_record.ensures)
 
-pub returns-in-File : goal.returns-in-File
-returns-in-File c =
-    rw (add-one _, c.counted-report.ensures.same) (next_file (sym c.walk_legal.ensures ∙ c.if-not-walk_legal.false) (sym c.in-File.is ∙ c.next_record.ensures) c.report_file-report.ensures
-    c.counted-report.ensures.totals)
+pub returns-in-Ok-Some : goal.returns-in-Ok-Some
+returns-in-Ok-Some c =
+    rw add-one _ (next_file (sym c.walk_legal.ensures ∙ c.if-not-walk_legal.false) (sym c.in-Ok-Some.is ∙ c.next_record.ensures) c.report_file-report.ensures
+    c.with_report.ensures)
 
 pub slice_bounds-report_file-count : goal.slice_bounds-report_file-count
-slice_bounds-report_file-count c = (file_in _ _ _ (sym c.in-File.is ∙ c.next_record.ensures)).0
+slice_bounds-report_file-count c = (file_in _ _ _ (sym c.in-Ok-Some.is ∙ c.next_record.ensures)).0

@@ -4,12 +4,12 @@ use Rattle.night_spec.specs.Night.{with_report}
 use Rattle.night_totals.proofs.with_report.Goals as goal
 
 pub with_file-requires : goal.with_file-requires
-with_file-requires c = rw c.in-Read.is at c.requires
+with_file-requires c = rw c.in-Ok.is at c.requires
 
-pub returns-in-Refused : goal.returns-in-Refused
+pub returns-in-Err : goal.returns-in-Err
 unfolding with_report
-returns-in-Refused c = rw c.in-Refused.is refl
+returns-in-Err c = rw c.in-Err.is refl
 
-pub returns-in-Read : goal.returns-in-Read
+pub returns-in-Ok : goal.returns-in-Ok
 unfolding with_report
-returns-in-Read c = rw (c.in-Read.is, c.with_file.ensures) refl
+returns-in-Ok c = rw (c.in-Ok.is, c.with_file.ensures) refl

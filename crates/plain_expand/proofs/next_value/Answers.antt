@@ -10,14 +10,14 @@ use Rattle.plain_values.specs.Means.{form_of}
 use Rattle.plain_values.proofs.ValueLaws.{gap_is}
 use Rattle.plain_expand.proofs.next_value.Goals as goal
 
-pub returns-in-Next : goal.returns-in-Next
-returns-in-Next c =
+pub returns-in-Some : goal.returns-in-Some
+returns-in-Some c =
     let a = c.args in
-    next_end _ _ _ a.q (form_of a.form) c.blanks-at.ensures _ (rw c.in-Next.is at c.line_end.ensures)
+    next_end _ _ _ a.q (form_of a.form) c.blanks-at.ensures _ (rw c.in-Some.is at c.line_end.ensures)
 
-pub returns-in-Bad : goal.returns-in-Bad
-returns-in-Bad c =
-    let x = rw c.in-Bad.is at c.line_end.ensures in
+pub returns-in-None : goal.returns-in-None
+returns-in-None c =
+    let x = rw c.in-None.is at c.line_end.ensures in
     next_fault _ _ _ _ _ c.blanks-at.ensures 3 _ (x.1 _)
 
 pub returns-then-e-eq-MISSING : goal.returns-then-e-eq-MISSING
@@ -37,17 +37,17 @@ stands_for-requires c =
     let no_gap : c.entry_at-e.result < 96 ⊎ 128 ≤ c.entry_at-e.result = let e = c.entry_at-e.ensures in
     kinds _ _ _ e c.if-e-ge-POINT.false (λ z. c.blanks-at.ensures.stops (sym e ∙ z)) c.if-e-eq-MISSING.false in
     let p = c.requires in
-    (p.2, p.3, c.if-e-ge-POINT.false, no_gap, (rw c.in-Read.is at c.number.ensures).small)
+    (p.2, p.3, c.if-e-ge-POINT.false, no_gap, (rw c.in-Some.is at c.number.ensures).small)
 
-pub returns-in-Misspelled : goal.returns-in-Misspelled
-returns-in-Misspelled c = next_fault _ _ _ _ _ c.blanks-at.ensures 5 _ (rw c.in-Misspelled.is at c.number.ensures)
+pub returns-in-None-number : goal.returns-in-None-number
+returns-in-None-number c = next_fault _ _ _ _ _ c.blanks-at.ensures 5 _ (rw c.in-None-number.is at c.number.ensures)
 
-pub returns-in-Not : goal.returns-in-Not
-returns-in-Not c =
-    let x = rw c.in-Read.is at c.number.ensures in
-    next_not _ _ _ _ _ c.blanks-at.ensures x.token _ (rw c.in-Not.is at c.stands_for.ensures)
+pub returns-in-Err : goal.returns-in-Err
+returns-in-Err c =
+    let x = rw c.in-Some.is at c.number.ensures in
+    next_not _ _ _ _ _ c.blanks-at.ensures x.token _ (rw c.in-Err.is at c.stands_for.ensures)
 
-pub returns-in-Points : goal.returns-in-Points
-returns-in-Points c =
-    let x = rw c.in-Read.is at c.number.ensures in
-    next_gives _ _ _ _ _ c.blanks-at.ensures x.token _ (rw c.in-Points.is at c.stands_for.ensures)
+pub returns-in-Ok : goal.returns-in-Ok
+returns-in-Ok c =
+    let x = rw c.in-Some.is at c.number.ensures in
+    next_gives _ _ _ _ _ c.blanks-at.ensures x.token _ (rw c.in-Ok.is at c.stands_for.ensures)

@@ -1,4 +1,5 @@
 -- `plain_read::rows` meets its contract: line after line, what is left of the body gives the answer.
+use Rattle.std.proofs.lemmas.Result.{err_from_is_err_and}
 use Prim.Native.Nat.{◌-◌}
 use native.Mathlib.Omega.{arith}
 use Rattle.table_pass.proofs.PassLaws.{reached_start, reached_next, reached_fault, reached_refused, reached_end}
@@ -24,18 +25,19 @@ plain_line-requires c =
     let x = rw c.in-Head.is at c.row_start.ensures in
     (p, c.loop-j.invariant.rests, x.1)
 
-pub returns-in-Refused : goal.returns-in-Refused
-returns-in-Refused c =
+pub returns-in_err-plain_line : goal.returns-in_err-plain_line
+returns-in_err-plain_line c =
     let x = rw c.in-Head.is at c.row_start.ensures in
-    reached_refused c.loop-j.invariant _ _ x.2 (rw c.in-Refused.is at c.plain_line.ensures)
+    let p = err_from_is_err_and c.from_residual.result c.from_residual.ensures.1 in rw (p.1, p.2)
+    (reached_refused c.loop-j.invariant _ _ x.2 c.in_err-plain_line.ensures)
 
 pub loop-j-smaller : goal.loop-j-smaller
 loop-j-smaller c =
     let x = rw c.in-Head.is at c.row_start.ensures in
-    let y = rw c.in-Next.is at c.plain_line.ensures in
+    let y = c.in_ok-plain_line.ensures in
     let h = y.1.high in omega (arith, x.0, y.0)
 
 pub loop-j-preserved : goal.loop-j-preserved
 loop-j-preserved c =
     let x = rw c.in-Head.is at c.row_start.ensures in
-    reached_next c.loop-j.invariant _ x.2 (rw c.in-Next.is at c.plain_line.ensures)
+    reached_next c.loop-j.invariant _ x.2 (c.in_ok-plain_line.ensures)

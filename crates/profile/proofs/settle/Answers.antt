@@ -3,11 +3,11 @@ use Rattle.profile.proofs.ReadTurns.{read_refused, read_right}
 use Rattle.profile.proofs.settle.Goals as goal
 
 pub store_file-requires : goal.store_file-requires
-store_file-requires c = let x = rw c.in-At.is at c.check_profile.ensures in x.says.laid
+store_file-requires c = let x = rw c.in-Ok.is at c.check_profile.ensures in x.says.laid
 
-pub returns-in-Refused : goal.returns-in-Refused
-returns-in-Refused c = read_refused _ _ _ _ _ _ _ (rw c.in-Refused.is at c.check_profile.ensures) _ c.refuse.ensures
+pub returns-in-Err : goal.returns-in-Err
+returns-in-Err c = read_refused _ _ _ _ _ _ _ (rw c.in-Err.is at c.check_profile.ensures) _ c.refuse.ensures
 
-pub returns-in-At : goal.returns-in-At
-returns-in-At c =
-    read_right _ _ _ _ _ _ (rw c.in-At.is at c.check_profile.ensures) _ c.store_file.ensures _ c.store_numbers.ensures
+pub returns-in-Ok : goal.returns-in-Ok
+returns-in-Ok c =
+    read_right _ _ _ _ _ _ (rw c.in-Ok.is at c.check_profile.ensures) _ c.store_file.ensures _ c.store_numbers.ensures

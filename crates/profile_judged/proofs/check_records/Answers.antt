@@ -3,11 +3,11 @@ use mathlib.Core.Path.{refl}
 use Rattle.profile_judged.proofs.JudgeTurns.{records_checked}
 use Rattle.profile_judged.proofs.check_records.Goals as goal
 
-pub returns-in-Right : goal.returns-in-Right
-returns-in-Right c = records_checked _ _ _ _ _ _ _ (rw c.in-Right.is at c.survey.ensures) _ refl
+pub returns-in-Ok : goal.returns-in-Ok
+returns-in-Ok c = records_checked _ _ _ _ _ _ _ (rw c.in-Ok.is at c.survey.ensures) _ refl
 
-pub returns-in-Lacking : goal.returns-in-Lacking
-returns-in-Lacking c = records_checked _ _ _ _ _ _ _ (rw c.in-Lacking.is at c.survey.ensures) _ c.refused.ensures
+pub returns-in-Err-Lacking : goal.returns-in-Err-Lacking
+returns-in-Err-Lacking c = records_checked _ _ _ _ _ _ _ (rw c.in-Err-Lacking.is at c.survey.ensures) _ c.refused.ensures
 
-pub returns-in-Unlisted : goal.returns-in-Unlisted
-returns-in-Unlisted c = records_checked _ _ _ _ _ _ _ (rw c.in-Unlisted.is at c.survey.ensures) _ c.refused-in-Unlisted.ensures
+pub returns-in-Err-Unlisted : goal.returns-in-Err-Unlisted
+returns-in-Err-Unlisted c = records_checked _ _ _ _ _ _ _ (rw c.in-Err-Unlisted.is at c.survey.ensures) _ c.refused-in-Err-Unlisted.ensures

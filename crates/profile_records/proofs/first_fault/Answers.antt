@@ -1,16 +1,13 @@
--- `profile_records::first_fault` meets its contract: by what was said before.
-use mathlib.Core.Path.{refl}
-use Rattle.profile_records.specs.Post.{after}
+-- `profile_records::first_fault` meets its contract: a fault of the records before stands, else what the next one says counts.
+use Rattle.std.proofs.lemmas.Result.{err_from_is_err_and}
+use Rattle.profile_spec.specs.Profile.{after}
 use Rattle.profile_records.proofs.first_fault.Goals as goal
 
-pub returns-in-Right : goal.returns-in-Right
+pub returns-in_err-said : goal.returns-in_err-said
 unfolding after
-returns-in-Right c = rw c.in-Right.is refl
+returns-in_err-said c =
+    let p = err_from_is_err_and c.from_residual.result c.from_residual.ensures.1 in rw (p.1, p.2) (rw c.in_err-said.was refl)
 
-pub returns-in-Lacking : goal.returns-in-Lacking
+pub returns : goal.returns
 unfolding after
-returns-in-Lacking c = rw c.in-Lacking.is refl
-
-pub returns-in-Unlisted : goal.returns-in-Unlisted
-unfolding after
-returns-in-Unlisted c = rw c.in-Unlisted.is refl
+returns c = rw c.in_ok-said.was refl

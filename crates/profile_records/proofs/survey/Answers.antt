@@ -10,16 +10,16 @@ loop-k-init c = gone_begin _ _ _ _ _ c.requires.1
 pub find_kth-requires : goal.find_kth-requires
 find_kth-requires c = (c.requires.0, c.loop-k-test.true)
 
-pub returns-in-Absent : goal.returns-in-Absent
-returns-in-Absent c =
-    gone_lacks _ _ _ _ _ _ _ _ c.loop-k.invariant c.loop-k-test.true (rw c.in-Absent.is at c.find_kth.ensures)
+pub returns-in-None : goal.returns-in-None
+returns-in-None c =
+    gone_lacks _ _ _ _ _ _ _ _ c.loop-k.invariant c.loop-k-test.true (rw c.in-None.is at c.find_kth.ensures)
 
 pub judge-requires : goal.judge-requires
-judge-requires c = let l = rw c.in-At.is at c.find_kth.ensures in l.inside
+judge-requires c = let l = rw c.in-Some.is at c.find_kth.ensures in l.inside
 
 pub loop-k-preserved : goal.loop-k-preserved
 loop-k-preserved c =
-    let found = rw c.in-At.is at c.find_kth.ensures in
+    let found = rw c.in-Some.is at c.find_kth.ensures in
     gone_on _ _ _ _ _ _ _ _ c.loop-k.invariant c.loop-k-test.true _ found
     _ c.judge.ensures _ c.first_fault-said.ensures _ c.put.ensures
 

@@ -1,5 +1,6 @@
 -- `spool_record::record_at` meets its contract: what stands at a place, tested in the order of the definition.
-use mathlib.Core.Path.{sym, ◌∙◌}
+use Rattle.std.specs.Prelude.{Err}
+use mathlib.Core.Path.{sym, ◌∙◌, ap}
 use Prim.Native.Nat.{◌-◌}
 use Rattle.spool_record.proofs.RecordLaws.{record_over, record_full, record_short, record_first, record_second, record_long, record_file}
 use Rattle.spool_record.proofs.record_at.Goals as goal
@@ -8,22 +9,22 @@ pub returns-then-len-at : goal.returns-then-len-at
 returns-then-len-at c = sym (record_over _ _ _ c.if-len-at.true)
 
 pub returns-then-left-eq0 : goal.returns-then-left-eq0
-returns-then-left-eq0 c = c.refused.ensures ∙ sym (record_full _ _ _ c.if-len-at.false c.if-left-eq0.true)
+returns-then-left-eq0 c = (ap Err c.new.ensures) ∙ sym (record_full _ _ _ c.if-len-at.false c.if-left-eq0.true)
 
 pub returns-then-rest-lt5 : goal.returns-then-rest-lt5
-returns-then-rest-lt5 c = c.refused-then-rest-lt5.ensures ∙ sym (record_short _ _ _ c.if-len-at.false c.if-left-eq0.false c.if-rest-lt5.true)
+returns-then-rest-lt5 c = (ap Err c.new-then-rest-lt5.ensures) ∙ sym (record_short _ _ _ c.if-len-at.false c.if-left-eq0.false c.if-rest-lt5.true)
 
 pub returns-then-s-at-ne74 : goal.returns-then-s-at-ne74
 returns-then-s-at-ne74 c =
-    c.refused-then-s-at-ne74.ensures ∙ sym (record_first _ _ _ c.if-len-at.false c.if-left-eq0.false c.if-rest-lt5.false c.if-s-at-ne74.true)
+    (ap Err c.new-then-s-at-ne74.ensures) ∙ sym (record_first _ _ _ c.if-len-at.false c.if-left-eq0.false c.if-rest-lt5.false c.if-s-at-ne74.true)
 
 pub returns-then-s-at-ne68 : goal.returns-then-s-at-ne68
 returns-then-s-at-ne68 c =
-    c.refused-then-s-at-ne68.ensures ∙ sym (record_second _ _ _ c.if-len-at.false c.if-left-eq0.false c.if-rest-lt5.false c.if-s-at-ne74.false c.if-s-at-ne68.true)
+    (ap Err c.new-then-s-at-ne68.ensures) ∙ sym (record_second _ _ _ c.if-len-at.false c.if-left-eq0.false c.if-rest-lt5.false c.if-s-at-ne74.false c.if-s-at-ne68.true)
 
 pub returns-then-size-rest : goal.returns-then-size-rest
 returns-then-size-rest c =
-    c.refused-then-size-rest.ensures ∙ sym (record_long _ _ _ c.if-len-at.false c.if-left-eq0.false c.if-rest-lt5.false c.if-s-at-ne74.false c.if-s-at-ne68.false
+    (ap Err c.new-then-size-rest.ensures) ∙ sym (record_long _ _ _ c.if-len-at.false c.if-left-eq0.false c.if-rest-lt5.false c.if-s-at-ne74.false c.if-s-at-ne68.false
     (rw c.length_at-size.ensures.0 at c.if-size-rest.true))
 
 pub returns : goal.returns

@@ -9,14 +9,14 @@ use Rattle.std.specs.Prelude.{Some}
 
 pub returns-then-ordinates-points : goal.returns-then-ordinates-points
 returns-then-ordinates-points c =
-    let legal_at : framed c.args.first c.args.last c.args.points ≡ Some c.in-Legal.fr = sym (rw (to_z-of_z c.ranges.first, to_z-of_z c.ranges.last) at c.new.ensures) ∙ c.in-Legal.is in
+    let legal_at : framed c.args.first c.args.last c.args.points ≡ Some c.in-Some.fr = sym (rw (to_z-of_z c.ranges.first, to_z-of_z c.ranges.last) at c.new.ensures) ∙ c.in-Some.is in
     few_refused _ _ _ _ legal_at c.if-ordinates-points.true
 
-pub returns-in-Outside : goal.returns-in-Outside
-returns-in-Outside c =
-    outside_refused _ _ _ _ (sym (rw (to_z-of_z c.ranges.first, to_z-of_z c.ranges.last) at c.new.ensures) ∙ c.in-Outside.is)
+pub returns-in-None : goal.returns-in-None
+returns-in-None c =
+    outside_refused _ _ _ _ (sym (rw (to_z-of_z c.ranges.first, to_z-of_z c.ranges.last) at c.new.ensures) ∙ c.in-None.is)
 
 pub returns-else-ordinates-points : goal.returns-else-ordinates-points
 returns-else-ordinates-points c =
-    let legal_at : framed c.args.first c.args.last c.args.points ≡ Some c.in-Legal.fr = sym (rw (to_z-of_z c.ranges.first, to_z-of_z c.ranges.last) at c.new.ensures) ∙ c.in-Legal.is in
+    let legal_at : framed c.args.first c.args.last c.args.points ≡ Some c.in-Some.fr = sym (rw (to_z-of_z c.ranges.first, to_z-of_z c.ranges.last) at c.new.ensures) ∙ c.in-Some.is in
     (legal_at, c.if-ordinates-points.false)

@@ -9,8 +9,8 @@ returns-then-e-lt-POINT c = let e = c.entry_at-e.ensures in bare_value _ _ _ c.b
 pub line_end-requires : goal.line_end-requires
 line_end-requires c = (c.blanks-b.ensures.high, c.entry_at-e.ensures, c.if-e-lt-POINT.false)
 
-pub returns-in-Next : goal.returns-in-Next
-returns-in-Next c = bare_end _ _ _ _ c.blanks-b.ensures (rw c.in-Next.is at c.line_end.ensures)
+pub returns-in-Some : goal.returns-in-Some
+returns-in-Some c = bare_end _ _ _ _ c.blanks-b.ensures (rw c.in-Some.is at c.line_end.ensures)
 
-pub returns-in-Bad : goal.returns-in-Bad
-returns-in-Bad c = bare_bad _ _ _ c.blanks-b.ensures (rw c.in-Bad.is at c.line_end.ensures)
+pub returns-in-None : goal.returns-in-None
+returns-in-None c = bare_bad _ _ _ c.blanks-b.ensures (rw c.in-None.is at c.line_end.ensures)

@@ -28,7 +28,7 @@ line_end-requires c = (c.blanks-at.ensures.high, c.entry_there-e.ensures, c.if-e
 pub loop-from-smaller : goal.loop-from-smaller
 loop-from-smaller c =
     let b = c.blanks-at.ensures in
-    let x = rw c.in-Next.is at c.line_end.ensures in
+    let x = rw c.in-Some.is at c.line_end.ensures in
     let y = b.low in
     let n = entry_in c.args.s.now c.blanks-at.result
     (λ e. c.if-e-eq-END.false (c.entry_there-e.ensures ∙ e)) in
@@ -39,13 +39,13 @@ pub loop-from-preserved : goal.loop-from-preserved
 loop-from-preserved c =
     let l = c.loop-from.invariant in
     let b = c.blanks-at.ensures in
-    let x = rw c.in-Next.is at c.line_end.ensures in
+    let x = rw c.in-Some.is at c.line_end.ensures in
     let y = b.low in
     (omega (arith, x.low), x.high, l.2 ∙ b.before ∙ x.before)
 
-pub returns-in-Bad : goal.returns-in-Bad
-returns-in-Bad c =
+pub returns-in-None : goal.returns-in-None
+returns-in-None c =
     let l = c.loop-from.invariant in
     let b = c.blanks-at.ensures in
-    let x = rw c.in-Bad.is at c.line_end.ensures in
+    let x = rw c.in-None.is at c.line_end.ensures in
     l.2 ∙ b.before ∙ x.0

@@ -9,17 +9,17 @@ use Rattle.table_read.proofs.read_table.Goals as goal
 pub store_table-requires : goal.store_table-requires
 store_table-requires c =
     let a = c.args in
-    let z = rw (to_z-of_z c.ranges.first, to_z-of_z c.ranges.last) at (sym c.in-First.is ∙ c.check_table.ensures) in
+    let z = rw (to_z-of_z c.ranges.first, to_z-of_z c.ranges.last) at (sym c.in-Ok.is ∙ c.check_table.ensures) in
     rw (to_z-of_z c.ranges.first, to_z-of_z c.ranges.last) (first_accepts (read_table a.first a.last a.points a.body.now (length a.out.now)) z)
 
-pub returns-in-Refused : goal.returns-in-Refused
-returns-in-Refused c =
-    let z = rw (to_z-of_z c.ranges.first, to_z-of_z c.ranges.last) at (sym c.in-Refused.is ∙ c.check_table.ensures) in
+pub returns-in-Err : goal.returns-in-Err
+returns-in-Err c =
+    let z = rw (to_z-of_z c.ranges.first, to_z-of_z c.ranges.last) at (sym c.in-Err.is ∙ c.check_table.ensures) in
     read_refused z c.refusal_in.ensures
 
-pub returns-in-First : goal.returns-in-First
-returns-in-First c =
+pub returns-in-Ok : goal.returns-in-Ok
+returns-in-Ok c =
     let a = c.args in
-    let z = rw (to_z-of_z c.ranges.first, to_z-of_z c.ranges.last) at (sym c.in-First.is ∙ c.check_table.ensures) in
+    let z = rw (to_z-of_z c.ranges.first, to_z-of_z c.ranges.last) at (sym c.in-Ok.is ∙ c.check_table.ensures) in
     read_accepted (first_accepts (read_table a.first a.last a.points a.body.now (length a.out.now)) z)
     (rw (to_z-of_z c.ranges.first, to_z-of_z c.ranges.last) at c.store_table.ensures)

@@ -5,11 +5,11 @@ use Rattle.table_read.proofs.sooner.Goals as goal
 
 pub returns-then-f-a : goal.returns-then-f-a
 returns-then-f-a c =
-    rw (c.in-At.is, c.in-Refused.is, lt-ltb _ _ c.if-f-a.true) refl
+    rw (c.in-Some.is, c.in-Err.is, lt-ltb _ _ c.if-f-a.true) refl
 
-pub returns-in-First : goal.returns-in-First
-returns-in-First c = rw (c.new.ensures, c.in-At.is, c.in-First.is) refl
+pub returns-in-Ok : goal.returns-in-Ok
+returns-in-Ok c = rw (c.new.ensures, c.in-Some.is, c.in-Ok.is) refl
 
 pub returns-else-f-a : goal.returns-else-f-a
 returns-else-f-a c =
-    rw (c.new-in-Refused.ensures, c.in-At.is, c.in-Refused.is, le-ltb _ _ c.if-f-a.false) refl
+    rw (c.new-in-Err.ensures, c.in-Some.is, c.in-Err.is, le-ltb _ _ c.if-f-a.false) refl

@@ -18,12 +18,12 @@ returns-then-is_blank c =
       went_blanks _ _ c.requires.1 b.0 b.1,
     )
 
-pub returns-in-Next : goal.returns-in-Next
-returns-in-Next c =
-    let x = rw c.in-Next.is at c.line_end.ensures in record { low = x.low; high = x.high; same = refl; ends = rw c.entry_there-e.ensures at c.if-e-ge-POINT.true; next = x.is; law = x.within _ }
+pub returns-in-Some : goal.returns-in-Some
+returns-in-Some c =
+    let x = rw c.in-Some.is at c.line_end.ensures in record { low = x.low; high = x.high; same = refl; ends = rw c.entry_there-e.ensures at c.if-e-ge-POINT.true; next = x.is; law = x.within _ }
 
-pub returns-in-Bad : goal.returns-in-Bad
-returns-in-Bad c = let x = rw c.in-Bad.is at c.line_end.ensures in (refl, λ y w h. fault_token _ _ _ _ y w 3 (x.1 _))
+pub returns-in-None : goal.returns-in-None
+returns-in-None c = let x = rw c.in-None.is at c.line_end.ensures in (refl, λ y w h. fault_token _ _ _ _ y w 3 (x.1 _))
 
 pub missing-requires : goal.missing-requires
 missing-requires c = (c.requires.1, sym c.entry_there-e.ensures ∙ c.if-e-eq-MISSING.true)
@@ -39,8 +39,8 @@ value-requires c =
     let begins : (c.entry_there-e.result < 96) ⊎ (128 ≤ c.entry_there-e.result) = kinds _ _ _ c.entry_there-e.ensures c.if-e-ge-POINT.false
     (λ x. blank_seen_not _ _ c.standing.ensures c.is_blank.ensures c.if-is_blank.false (sym c.entry_there-e.ensures ∙ x)) c.if-e-eq-MISSING.false in
     let p = c.requires in
-    let x = rw c.in-Read.is at c.number.ensures in
+    let x = rw c.in-Some.is at c.number.ensures in
     record { sits = p.1; most = p.0; before_point = c.if-e-ge-POINT.false; kind = begins; small = x.small; token = x.token }
 
-pub returns-in-Misspelled : goal.returns-in-Misspelled
-returns-in-Misspelled c = let x = rw c.in-Misspelled.is at c.number.ensures in (refl, λ y w h. fault_token _ _ _ _ y w 5 x)
+pub returns-in-None-number : goal.returns-in-None-number
+returns-in-None-number c = let x = rw c.in-None-number.is at c.number.ensures in (refl, λ y w h. fault_token _ _ _ _ y w 5 x)

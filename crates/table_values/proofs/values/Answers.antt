@@ -39,8 +39,8 @@ returns-in-Line c =
     let e = c.past_blanks-a.ensures in let g = c.loop-d.invariant.0 in
     rw c.row_after.ensures (went_line _ (went_went (went_past g e) c.run-b.ensures) x)
 
-pub returns-in-Refused : goal.returns-in-Refused
-returns-in-Refused c =
-    let x = rw c.in-Refused.is at c.token.ensures in
+pub returns-in-Err : goal.returns-in-Err
+returns-in-Err c =
+    let x = rw c.in-Err.is at c.token.ensures in
     let e = c.past_blanks-a.ensures in let g = c.loop-d.invariant.0 in
     went_refused _ (went_went (went_past g e) c.run-b.ensures) x

@@ -1,5 +1,6 @@
 -- `table_write::write_framed` meets its contract: 15, or the text.
-use mathlib.Core.Path.{◌≡◌, refl, sym, ◌∙◌}
+use Rattle.std.specs.Prelude.{Err}
+use mathlib.Core.Path.{◌≡◌, refl, sym, ◌∙◌, ap}
 use lib.ListN.{length, take}
 use lib.Seq.{length-take-le}
 use borrow.Author.Tests.{leb-true, leb-false}
@@ -29,4 +30,4 @@ returns-then-fits c =
 pub returns : goal.returns
 returns c =
     let a = c.args in
-    too_long a.style a.fr a.ordinates.now a.text.now c.requires.1 (leb-false _ _ (sym c.fits.ensures ∙ c.if-fits.false)) c.refused.ensures refl
+    too_long a.style a.fr a.ordinates.now a.text.now c.requires.1 (leb-false _ _ (sym c.fits.ensures ∙ c.if-fits.false)) (ap Err c.new.ensures) refl
