@@ -41,7 +41,7 @@ module _ (s : List ℕ) (a i : ℕ) (x : Sought s a i) where
 -- of the bytes that the search passes over, none is `=` or LF
 pub sought_passed : (s : List ℕ) (a : ℕ) (h : a ≤ length s) (n : ℕ) → n ≡ length (take (prefix_len (λ b. not (eqb b 61) && not (eqb b 10)) (rest s a)) (rest s a)) → NameEnd s a (a + n)
 sought_passed s a h n e =
-    let p = passed (Sought s a) (λ b. not (eqb b 61) && not (eqb b 10)) s a h (omega arith, h, refl, refl)
+    let p = passed s a (length s) h (omega arith) (Sought s a) (λ b. not (eqb b 61) && not (eqb b 10)) (omega arith, h, refl, refl)
     (λ i l m t x. let d = differ (get_or s i 0) 61 10 t in sought_on s a i x m d.0 d.1) n e in
     by_case (λ t. ltb (a + n) (length s) ≡ t → NameEnd s a (a + n)) (ltb (a + n) (length s))
     (λ _ q. let l = ltb-true (a + n) (length s) q in
@@ -57,7 +57,7 @@ along_on s a i x h n = (omega (arith, x.0), omega arith, x.2 ∙ skip_on s i h n
 
 pub along_passed : (s : List ℕ) (a : ℕ) (h : a ≤ length s) (n : ℕ) → n ≡ length (take (prefix_len (λ b. not (eqb b 10)) (rest s a)) (rest s a)) → LineEnd s a (a + n)
 along_passed s a h n e =
-    let p = passed (Along s a) (λ b. not (eqb b 10)) s a h (omega arith, h, refl) (λ i l m t x. along_on s a i x m (differs (get_or s i 0) 10 t)) n e in
+    let p = passed s a (length s) h (omega arith) (Along s a) (λ b. not (eqb b 10)) (omega arith, h, refl) (λ i l m t x. along_on s a i x m (differs (get_or s i 0) 10 t)) n e in
     record { low = p.low; high = p.high; same = p.kept.2; stops = λ l. equals (get_or s (a + n) 0) 10 (p.stops l) }
 
 -- Bytes that are looked at together: none, and one more, the one at j.
@@ -93,7 +93,7 @@ blanks_on s a i x h e = (omega (arith, x.0), omega arith, x.2 ∙ blank_on s i h
 
 pub blanks_passed : (s : List ℕ) (a : ℕ) (h : a ≤ length s) (n : ℕ) → n ≡ length (take (prefix_len blank (rest s a)) (rest s a)) → Unblanked s a (a + n)
 blanks_passed s a h n e =
-    let p = passed (Blanks s a) blank s a h (omega arith, h, refl) (λ i l m t x. blanks_on s a i x m t) n e in
+    let p = passed s a (length s) h (omega arith) (Blanks s a) blank (omega arith, h, refl) (λ i l m t x. blanks_on s a i x m t) n e in
     record { low = p.low; high = p.high; same = p.kept.2; stops = p.stops }
 
 -- The label whose `##` stands at i; e is its name's end.

@@ -14,6 +14,7 @@ use text::byte_at;
 const LONGEST_NAME: usize = 40;
 
 // Is it a space or a tab?
+#[tactic(auto, unfolding(label_spec::specs::Names::blank))]
 fn is_blank(b: u8) -> bool
     ensures { result ≡ blank b }
 {

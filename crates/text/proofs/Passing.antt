@@ -9,7 +9,7 @@ use mathlib.Core.List.{List}
 use Prim.Native.Nat.{ℕ, zero, suc, ◌+◌, ◌-◌, ◌≤◌, ◌<◌}
 use native.Mathlib.Omega.{arith}
 use lib.ListN.{length, get_or, take, drop}
-use Rattle.std.proofs.Common.{length-drop, get_or-drop}
+use Rattle.std.proofs.Common.{length-drop, length-take-le, get_or-drop, get_or-take}
 use Rattle.std.proofs.Math.Seq.{take-length}
 use Rattle.std.proofs.lemmas.List.Folds.{length-prefix_len}
 use Rattle.std.specs.List.{prefix_len}
@@ -29,9 +29,12 @@ differ b j k e =
 pub equal : (b j k : ℕ) → not (eqb b j) && not (eqb b k) ≡ false → (b ≡ j) ⊎ (b ≡ k)
 equal b j k e = by_case (λ t. not (eqb b j) ≡ t → t && not (eqb b k) ≡ false → (b ≡ j) ⊎ (b ≡ k)) (not (eqb b j)) (λ _ _ n. inr (equals b k n)) (λ _ q _. inl (equals b j q)) refl e
 
--- the text from a place on, as a slice of it
+-- the text from a place up to another, as a slice of it, and from a place on
+abbrev pub part : List ℕ → ℕ → ℕ → List ℕ
+part s at end = take (end - at) (drop at s)
+
 abbrev pub rest : List ℕ → ℕ → List ℕ
-rest s at = take (length s - at) (drop at s)
+rest s at = part s at (length s)
 
 rest_drop : (s : List ℕ) (at : ℕ) → rest s at ≡ drop at s
 rest_drop s at = rw (sym (length-drop at s)) (take-length (drop at s))
@@ -40,29 +43,36 @@ rest_drop s at = rw (sym (length-drop at s)) (take-length (drop at s))
 pub get_or_rest : (s : List ℕ) (at k : ℕ) → get_or (rest s at) k 0 ≡ get_or s (at + k) 0
 get_or_rest s at k = ap (λ (l : List ℕ). get_or l k 0) (rest_drop s at) ∙ get_or-drop at s k 0
 
-module _ (P : ℕ → Type 0) (p : ℕ → Bool) (s : List ℕ) (at : ℕ) (h : at ≤ length s) where
-  -- what holds at the place that counting reached: P, which each byte that passed carried on, and that the byte there fails
-  pub record Passed (r : ℕ) : Type 0 where
-    pub low : at ≤ r
-    pub high : r ≤ length s
-    pub kept : P r
-    pub stops : r < length s → p (get_or s r 0) ≡ false
+module _ (s : List ℕ) (at end : ℕ) (h : at ≤ end) (l : end ≤ length s) where
+  pub length_part : length (part s at end) ≡ end - at
+  length_part = length-take-le (end - at) (drop at s) (omega (arith, length-drop at s))
 
-  module _ (start : P at) (on : (i : ℕ) → at ≤ i → i < length s → p (get_or s i 0) ≡ true → P i → P (i + 1)) where
-    passing : (k : ℕ) → k ≤ prefix_len p (drop at s) → P (at + k)
-    passing zero l = subst P (omega arith) start
-    passing (suc k) l =
-        let e = prefix_len-le-length p (drop at s) in
-        let i : at + k < length s = omega (arith, length-drop at s) in
-        subst P (omega arith) (on (at + k) (omega arith) i (rw get_or-drop at (prefix_len_passes p (drop at s) k 0 (omega arith))) (passing k (omega arith)))
+  pub get_or_part : (k : ℕ) → at + k < end → get_or (part s at end) k 0 ≡ get_or s (at + k) 0
+  get_or_part k m = get_or-take (end - at) (drop at s) k 0 (omega arith) ∙ get_or-drop at s k 0
 
-    -- n bytes from `at` on passed, as `take_while` and `count` give them
-    pub passed : (n : ℕ) → n ≡ length (take (prefix_len p (rest s at)) (rest s at)) → Passed (at + n)
-    passed n z =
-        let e : n ≡ prefix_len p (drop at s) = z ∙ length-prefix_len p (rest s at) ∙ ap (prefix_len p) (rest_drop s at) in
-        let l = prefix_len-le-length p (drop at s) in record {
-          low = omega arith;
-          high = omega (arith, length-drop at s);
-          kept = rw e (passing _ (omega arith));
-          stops = λ i. rw e (rw get_or-drop at (prefix_len_stops p (drop at s) 0 (omega (arith, length-drop at s))));
-        }
+  module _ (P : ℕ → Type 0) (p : ℕ → Bool) where
+    -- what holds at the place that counting reached: P, which each byte that passed carried on, and that the byte there fails
+    pub record Passed (r : ℕ) : Type 0 where
+      pub low : at ≤ r
+      pub high : r ≤ end
+      pub kept : P r
+      pub stops : r < end → p (get_or s r 0) ≡ false
+
+    module _ (start : P at) (on : (i : ℕ) → at ≤ i → i < end → p (get_or s i 0) ≡ true → P i → P (i + 1)) where
+      passing : (k : ℕ) → k ≤ prefix_len p (part s at end) → P (at + k)
+      passing zero l = subst P (omega arith) start
+      passing (suc k) m =
+          let e = prefix_len-le-length p (part s at end) in
+          let i : at + k < end = omega (arith, length_part) in
+          subst P (omega arith) (on (at + k) (omega arith) i (rw (← get_or_part k i) (prefix_len_passes p (part s at end) k 0 (omega arith))) (passing k (omega arith)))
+
+      -- n bytes from `at` on passed, as `take_while` and `count` give them
+      pub passed : (n : ℕ) → n ≡ length (take (prefix_len p (part s at end)) (part s at end)) → Passed (at + n)
+      passed n z =
+          let e : n ≡ prefix_len p (part s at end) = z ∙ length-prefix_len p (part s at end) in
+          let m = prefix_len-le-length p (part s at end) in record {
+            low = omega arith;
+            high = omega (arith, length_part);
+            kept = rw e (passing _ (omega arith));
+            stops = λ i. rw (← get_or_part n i, e) (prefix_len_stops p (part s at end) 0 (omega (arith, length_part)));
+          }
