@@ -7,12 +7,11 @@ use native.Mathlib.Omega.{arith}
 use lib.Dec.{eqb, ltb}
 use lib.ListN.{length, get_or, take}
 use Rattle.std.specs.List.{prefix_len, starts_with}
-use Rattle.text.proofs.Passing.{differs, equals, differ, equal, rest, get_or_rest, passed}
-use borrow.Author.Tests.{eq-eqb, eqb-true, eqb-false, ltb-true, ltb-false}
+use Rattle.text.proofs.Passing.{differs, equals, differ, equal, turned, rest, get_or_rest, passed}
+use borrow.Author.Tests.{eqb-true, eqb-false, ltb-true, ltb-false}
 use mathlib.Core.Logic.{inl, inr}
 use Rattle.terms.specs.Logic.{pick, no_way, by_case}
 use Rattle.terms.specs.Places.{inside}
-use Rattle.std.proofs.Common.{ne_eqb}
 use Rattle.label_spec.specs.Names.{name_in, blank}
 use Rattle.label_spec.specs.Labels.{longest_name, from, hashed}
 use Rattle.label_spec.specs.LabelLaws.{eq_at, spot_yes, spot_no, eq_end, eq_here, eq_line, eq_on, from_end, skip_on, skip_line, blank_on, no_label, hash_in, resume, label_none, label_long, label_at}
@@ -158,9 +157,6 @@ module _ (s : List ℕ) (at k : ℕ) (q : Marked s at k) where
 
   pub next_here : (r : Label) → Met s k true r → Met s at false r
   next_here r x = record { good = lower at k (length s) r q.low x.good; law = q.same ∙ x.law }
-
-turned : (a b : ℕ) → eqb a b ≡ eqb b a
-turned a b = by_case (λ t. eqb b a ≡ t → eqb a b ≡ t) (eqb b a) (λ _ q. eq-eqb a b (sym (eqb-true b a q))) (λ _ q. ne_eqb a b (λ z. eqb-false b a q (sym z))) refl
 
 -- `##`, as the text from a place on begins with it
 pub hash_starts : (s : List ℕ) (i : ℕ) → starts_with eqb (rest s i) (35 ∷ 35 ∷ []) ≡ hashed s i

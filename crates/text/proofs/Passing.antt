@@ -3,7 +3,7 @@ use mathlib.Core.Path.{◌≡◌, refl, subst, sym, ap, ◌∙◌}
 use mathlib.Core.Bool.{Bool, true, false, not, ◌&&◌}
 use mathlib.Core.Logic.{◌⊎◌, inl, inr}
 use lib.Dec.{eqb}
-use borrow.Author.Tests.{eqb-true, eqb-false}
+use borrow.Author.Tests.{eq-eqb, ne_eqb, eqb-true, eqb-false}
 use Rattle.terms.specs.Logic.{by_case, no_way}
 use mathlib.Core.List.{List}
 use Prim.Native.Nat.{ℕ, zero, suc, ◌+◌, ◌-◌, ◌≤◌, ◌<◌}
@@ -29,6 +29,10 @@ differ b j k e =
 pub equal : (b j k : ℕ) → not (eqb b j) && not (eqb b k) ≡ false → (b ≡ j) ⊎ (b ≡ k)
 equal b j k e = by_case (λ t. not (eqb b j) ≡ t → t && not (eqb b k) ≡ false → (b ≡ j) ⊎ (b ≡ k)) (not (eqb b j)) (λ _ _ n. inr (equals b k n)) (λ _ q _. inl (equals b j q)) refl e
 
+-- two bytes may be compared either way
+pub turned : (a b : ℕ) → eqb a b ≡ eqb b a
+turned a b = by_case (λ t. eqb b a ≡ t → eqb a b ≡ t) (eqb b a) (λ _ q. eq-eqb a b (sym (eqb-true b a q))) (λ _ q. ne_eqb a b (λ z. eqb-false b a q (sym z))) refl
+
 -- the text from a place up to another, as a slice of it, and from a place on
 abbrev pub part : List ℕ → ℕ → ℕ → List ℕ
 part s at end = take (end - at) (drop at s)
@@ -36,7 +40,7 @@ part s at end = take (end - at) (drop at s)
 abbrev pub rest : List ℕ → ℕ → List ℕ
 rest s at = part s at (length s)
 
-rest_drop : (s : List ℕ) (at : ℕ) → rest s at ≡ drop at s
+pub rest_drop : (s : List ℕ) (at : ℕ) → rest s at ≡ drop at s
 rest_drop s at = rw (sym (length-drop at s)) (take-length (drop at s))
 
 -- a byte of it, 0 past the end
