@@ -1,15 +1,22 @@
 -- The turns of the pass over a file's data blocks: no place of the code is named here.
 use Rattle.label_spec.specs.declared.Label.{Label}
 use mathlib.Core.Path.{◌≡◌, refl, sym, ◌∙◌}
-use mathlib.Core.Bool.{Bool, true, false}
+use mathlib.Core.Bool.{Bool, true, false, not}
 use mathlib.Core.List.{List, [], ◌∷◌}
-use Prim.Native.Nat.{ℕ, suc, ◌+◌, ◌-◌, ◌*◌, ◌<◌, ◌≤◌}
+use Prim.Native.Nat.{ℕ, suc, min, ◌+◌, ◌-◌, ◌*◌, ◌<◌, ◌≤◌}
 use native.Mathlib.Numerals.{add-one}
 use native.Mathlib.Omega.{arith}
-use lib.ListN.{length, get_or, drop, set, drop_of_length-le}
-use lib.Seq.{sets, drop-cons, length-sets}
-use borrow.Author.Tests.{ne_eqb}
-use Rattle.terms.specs.Logic.{pick}
+use lib.Dec.{eqb, ltb}
+use lib.ListN.{length, get_or, take, drop, drop_of_length-le}
+use Rattle.std.specs.List.{prefix_len}
+use Rattle.text.proofs.Passing.{differs, equals, rest, passed as counted}
+use lib.Seq.{sets, sets-eq, drop-cons, length-sets}
+use borrow.Rule.Slice.PartMut.{put_mid}
+use Rattle.std.proofs.Common.{append_assoc}
+use Rattle.std.proofs.lemmas.Slice.{put_mid-paste}
+use Rattle.std.proofs.lemmas.List.Edits.{paste_all}
+use borrow.Author.Tests.{ne_eqb, ltb-true, ltb-false}
+use Rattle.terms.specs.Logic.{pick, by_case}
 use Rattle.label_spec.specs.Names.{name_in, sames, TITLE, END}
 use Rattle.label_spec.specs.Labels.{from}
 use Rattle.label_spec.specs.LabelLaws.{resume}
@@ -28,18 +35,28 @@ abbrev pub Line : List ℕ → ℕ → ℕ → Type 0
 Line s at i = (i ≤ length s) × (at + rest_of_line (drop at s) ≡ i + rest_of_line (drop i s))
 
 module _ (s : List ℕ) (at i : ℕ) (c : Line s at i) where
-  pub line_over : length s ≤ i → i ≡ at + rest_of_line (drop at s)
+  line_over : length s ≤ i → i ≡ at + rest_of_line (drop at s)
   unfolding rest_of_line
   line_over h = sym (c.1 ∙ rw (drop_of_length-le s h) (omega arith))
 
   module _ (h : i < length s) where
-    pub line_here : get_or s i 0 ≡ 10 → i + 1 ≡ at + rest_of_line (drop at s)
+    line_here : get_or s i 0 ≡ 10 → i + 1 ≡ at + rest_of_line (drop at s)
     unfolding rest_of_line
     line_here e = sym (c.1 ∙ rw (drop-cons s i 0 h, e) refl)
 
-    pub line_on : (get_or s i 0 ≡ 10 → ⊥) → Line s at (i + 1)
+    line_on : (get_or s i 0 ≡ 10 → ⊥) → Line s at (i + 1)
     unfolding rest_of_line
     line_on n = (omega arith, c.1 ∙ rw (drop-cons s i 0 h, ne_eqb (get_or s i 0) 10 n, add-one i) (omega arith))
+
+pub line_passed : (s : List ℕ) (at : ℕ) → at ≤ length s → (n : ℕ) → n ≡ length (take (prefix_len (λ b. not (eqb b 10)) (rest s at)) (rest s at))
+    → (r : ℕ) → r ≡ min (length s) (at + n + 1) → r ≡ at + rest_of_line (drop at s)
+line_passed s at h n z r e =
+    let p = counted s at (length s) h (omega arith) (Line s at) (λ b. not (eqb b 10)) (h, refl) (λ i _ m t x. line_on s at i x m (differs (get_or s i 0) 10 t)) n z in
+    by_case (λ t. ltb (at + n) (length s) ≡ t → r ≡ at + rest_of_line (drop at s)) (ltb (at + n) (length s))
+    (λ _ q. let l = ltb-true (at + n) (length s) q in
+    let m : r ≡ at + n + 1 = omega arith in m ∙ line_here s at (at + n) p.kept l (equals (get_or s (at + n) 0) 10 (p.stops l)))
+    (λ _ q. let l = ltb-false (at + n) (length s) q in
+    let m : r ≡ at + n = omega (arith, p.high) in m ∙ line_over s at (at + n) p.kept l) refl
 
 -- `next_seen`
 module _ (s : List ℕ) (at : ℕ) where
@@ -128,12 +145,11 @@ module _ (s aim out : List ℕ) (at m start : ℕ) (unlinked : Bool) (i left : �
           }
 
 -- `put_block`
-pub four : (l : List ℕ) (i a b c d : ℕ) → Puts l i a b c d (set (set (set (set l i a) (i + 1) b) (i + 2) c) (i + 3) d)
-four l i a b c d =
-    let x : i + 1 ≡ suc i = omega arith in
-    let y : i + 2 ≡ suc (suc i) = omega arith in
-    let z : i + 3 ≡ suc (suc (suc i)) = omega arith in
-    record { is = rw (x, y, z) refl }
+pub four : (l : List ℕ) (i a b c d : ℕ) → i + 4 ≤ length l → (ys : List ℕ) → ys ≡ a ∷ b ∷ c ∷ d ∷ [] → Puts l i a b c d (put_mid i (i + 4 - i) l ys)
+four l i a b c d h ys e =
+    let vs : List ℕ = a ∷ b ∷ c ∷ d ∷ [] in
+    let m : i + 4 - i ≡ 4 = omega arith in
+    record { is = put_mid-paste i (i + 4 - i) l ys vs 4 e (sym m) refl ∙ paste_all l i vs 4 refl ∙ sym (rw append_assoc at (sets-eq vs l i h)) }
 
 pub put_length : (out : List ℕ) (i a b c d : ℕ) (out' : List ℕ) → Puts out i a b c d out' → (n : ℕ) → length out ≡ n → length out' ≡ n
 put_length out i a b c d out' e n h = rw e.is (length-sets out i (a ∷ b ∷ c ∷ d ∷ []) ∙ h)

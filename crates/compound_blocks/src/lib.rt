@@ -54,14 +54,8 @@ fn after_line(s: &[u8], at: usize) -> usize
     requires { at ≤ length s.now }
     ensures { result ≡ at + rest_of_line (drop at s.now) }
 {
-    let mut i = at;
-    while i < s.len() {
-        if s[i] == b'\n' {
-            return i + 1;
-        }
-        i += 1;
-    }
-    i
+    let end = at + s[at..].iter().take_while(|b| **b != b'\n').count();
+    s.len().min(end + 1)
 }
 
 // Stores the four numbers of a block from the entry i on.
@@ -69,10 +63,7 @@ fn put_block(blocks: &mut [u64], i: usize, from: usize, to: usize, start: usize,
     requires { i + 4 ≤ length blocks.old }
     ensures { Puts blocks.old i from to start end blocks.new }
 {
-    blocks[i] = from as u64;
-    blocks[i + 1] = to as u64;
-    blocks[i + 2] = start as u64;
-    blocks[i + 3] = end as u64;
+    blocks[i..i + 4].copy_from_slice(&[from as u64, to as u64, start as u64, end as u64]);
 }
 
 // Stores the first n data blocks of a file, whose outermost TITLE's `##` and `=` stand at these places.

@@ -35,19 +35,11 @@ const ABOVE_EXPONENTS: u64 = 10000000100;
 const ORIGIN: u64 = 9999999800;
 
 // May the byte b, with c after it, stand in a title?
+#[tactic(auto, unfolding(crate::specs::Titles::fair_byte))]
 fn fair(b: u8, c: u8) -> bool
     ensures { result ≡ fair_byte b c }
 {
-    if b < 32 {
-        return false;
-    }
-    if b > 126 {
-        return false;
-    }
-    if b != b'$' {
-        return true;
-    }
-    c != b'$'
+    (32..=126).contains(&b) && (b != b'$' || c != b'$')
 }
 
 // A title of at most 72 bytes, each of them from 32 to 126, without `$$` (37).
@@ -57,13 +49,10 @@ pub fn title_fair(title: &[u8]) -> bool
     if title.len() > LONGEST_TITLE {
         return false;
     }
-    let mut i = 0;
-    while i < title.len() {
-        let next = i + 1;
-        if !fair(title[i], byte_at(title, next)) {
+    for (i, b) in title.iter().enumerate() {
+        if !fair(*b, byte_at(title, i + 1)) {
             return false;
         }
-        i = next;
     }
     true
 }

@@ -9,37 +9,23 @@ use file_spec::Span;
 use text::byte_at;
 
 // A blank, LF, or CR before LF: b, with c after it.
+#[tactic(auto, unfolding(file_spec::specs::Texts::spacing, label_spec::specs::Names::blank))]
 fn spacing(b: u8, c: u8) -> bool
     ensures { result ≡ spacing b c }
 {
-    if b == b' ' {
-        return true;
-    }
-    if b == b'\t' {
-        return true;
-    }
-    if b == b'\n' {
-        return true;
-    }
-    if b != b'\r' {
-        return false;
-    }
-    c == b'\n'
+    matches!(b, b' ' | b'\t' | b'\n') || (b == b'\r' && c == b'\n')
 }
 
 // The first place of a text with no blank and no line end.
 fn first_mark(s: &[u8]) -> usize
     ensures { (result ≡ mark_in s.now) × (result ≤ length s.now) }
 {
-    let mut i: usize = 0;
-    while i < s.len() {
-        let next = i + 1;
-        if !spacing(s[i], byte_at(s, next)) {
+    for (i, b) in s.iter().enumerate() {
+        if !spacing(*b, byte_at(s, i + 1)) {
             return i;
         }
-        i = next;
     }
-    i
+    s.len()
 }
 
 // Where a fault in the text of a record stands (26), counted in the file.
@@ -57,16 +43,12 @@ fn list_step(b: u8, c: u8, k: usize) -> usize
     ensures { result ≡ list_step b c k }
 {
     if spacing(b, c) {
-        return k;
+        k
+    } else if k < 11 && b == b"(X++(Y..Y))"[k] {
+        k + 1
+    } else {
+        12
     }
-    if k >= 11 {
-        return 12;
-    }
-    let w = [40u8, 88, 43, 43, 40, 89, 46, 46, 89, 41, 41];
-    if b != w[k] {
-        return 12;
-    }
-    k + 1
 }
 
 // The line of the list has ended, after so much of it.
@@ -84,22 +66,19 @@ fn list_ended(k: usize, i: usize) -> Option<usize>
 fn list_line(s: &[u8]) -> Option<usize>
     ensures { (result ≡ listed_in s.now) × ListedWithin (length s.now) result }
 {
-    let mut i: usize = 0;
     let mut k: usize = 0;
-    while i < s.len() {
-        let b = s[i];
+    for (i, b) in s.iter().enumerate() {
         let next = i + 1;
-        if b == b'\n' {
+        if *b == b'\n' {
             return list_ended(k, next);
         }
-        let n = list_step(b, byte_at(s, next), k);
+        let n = list_step(*b, byte_at(s, next), k);
         if n > 11 {
             return None;
         }
         k = n;
-        i = next;
     }
-    list_ended(k, i)
+    list_ended(k, s.len())
 }
 
 // The list of XYDATA: where in its text the body starts.

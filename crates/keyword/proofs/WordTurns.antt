@@ -1,58 +1,34 @@
 -- The turns of the functions on keywords: no place of the code is named here.
-use mathlib.Core.Path.{◌≡◌, refl, sym, ◌∙◌}
-use mathlib.Core.Bool.{true, false}
-use mathlib.Core.List.{List, ◌∷◌}
-use Prim.Native.Nat.{ℕ, suc, ◌+◌, ◌-◌, ◌<◌, ◌≤◌}
-use native.Mathlib.Numerals.{add-one}
+use mathlib.Core.Path.{◌≡◌, refl, sym, ap, ◌∙◌}
+use mathlib.Core.Bool.{Bool, true, false, ◌&&◌}
+use mathlib.Core.List.{List, [], ◌∷◌}
+use Prim.Native.Nat.{ℕ, ◌+◌, ◌≤◌}
 use native.Mathlib.Omega.{arith}
 use lib.Dec.{eqb}
-use lib.ListN.{length, get_or, take, drop, drop_of_length-le}
-use lib.Seq.{drop-cons, take-nil}
-use borrow.Author.Tests.{eq-eqb, ne_eqb}
-use Rattle.terms.specs.Logic.{zero_one}
+use lib.ListN.{length, take}
+use lib.Pointwise.{pointwise}
+use Rattle.std.specs.List.{starts_with}
+use Rattle.text.proofs.Passing.{turned, rest, rest_drop, length_part}
+use Rattle.terms.specs.Logic.{pick, by_case}
 use Rattle.label_spec.specs.Names.{sames}
 use Rattle.label_spec.specs.Space.{past_space}
 use Rattle.keyword_spec.specs.Keywords.{word_from, is_word}
 use Rattle.keyword.specs.Post.{worded, Worded}
 
--- `word_at`
-abbrev pub Word : List ℕ → ℕ → List ℕ → ℕ → ℕ → Type 0
-Word t p w i j = (i ≡ p + j) × (i ≤ length t) × (j ≤ length w) × (worded t p w ≡ sames (take (length w - j) (drop i t)) (drop j w))
+-- `word_at`: one list begins with another where as many of its items as that has are the other's
+same_begin : (w s : List ℕ) → pointwise eqb w s ≡ sames s w
+unfolding sames
+same_begin [] [] = refl
+same_begin [] (x ∷ s) = refl
+same_begin (y ∷ w) [] = refl
+same_begin (y ∷ w) (x ∷ s) = rw (turned y x) (by_case (λ t. (t && pointwise eqb w s) ≡ pick t (sames s w) false) (eqb x y) (λ _. same_begin w s) (λ _. refl))
 
-module _ (t : List ℕ) (p : ℕ) (w : List ℕ) where
-  pub word_begin : p ≤ length t → Word t p w p 0
-  unfolding worded
-  word_begin h = let z : length w - 0 ≡ length w = omega arith in (omega arith, h, omega arith, rw z refl)
-
-  module _ (i j : ℕ) (c : Word t p w i j) where
-    pub word_done : length w ≤ j → Worded t p w true
-    unfolding sames
-    word_done h =
-        let z : length w - j ≡ 0 = omega arith in
-        record { is = sym (c.3 ∙ rw (z, drop_of_length-le w h) refl); fits = λ e. omega (arith, c.0, c.1) }
-
-    module _ (h : j < length w) where
-      next : drop j w ≡ get_or w j 0 ∷ drop (j + 1) w
-      next = rw (add-one j) (drop-cons w j 0 h)
-
-      pub word_short : length t ≤ i → Worded t p w false
-      unfolding sames
-      word_short g =
-          record { is = sym (c.3 ∙ rw (drop_of_length-le t g, take-nil {A = ℕ} (length w - j), next) refl); fits = λ e. zero_one cc }
-
-      module _ (g : i < length t) where
-        both_next : worded t p w ≡ sames (get_or t i 0 ∷ take (length w - (j + 1)) (drop (i + 1) t)) (get_or w j 0 ∷ drop (j + 1) w)
-        both_next =
-            let z : length w - j ≡ suc (length w - (j + 1)) = omega arith in
-            c.3 ∙ rw (next, z, drop-cons t i 0 g, add-one i) refl
-
-        pub word_differs : (get_or t i 0 ≡ get_or w j 0 → ⊥) → Worded t p w false
-        unfolding sames
-        word_differs n = record { is = sym (both_next ∙ rw (ne_eqb (get_or t i 0) (get_or w j 0) n) refl); fits = λ e. zero_one cc }
-
-        pub word_on : get_or t i 0 ≡ get_or w j 0 → Word t p w (i + 1) (j + 1)
-        unfolding sames
-        word_on e = (omega (arith, c.0), omega arith, omega arith, both_next ∙ rw (eq-eqb (get_or t i 0) (get_or w j 0) e) refl)
+pub word_starts : (t : List ℕ) (p : ℕ) (w : List ℕ) → p ≤ length t → (r : Bool) → r ≡ starts_with eqb (rest t p) w → (r ≡ true → length w ≤ length (rest t p)) → Worded t p w r
+unfolding worded
+word_starts t p w h r e f = record {
+  is = e ∙ same_begin w (take (length w) (rest t p)) ∙ ap (λ (l : List ℕ). sames (take (length w) l) w) (rest_drop t p);
+  fits = λ z. let l = f z in omega (arith, length_part t p (length t) h (omega arith));
+}
 
 -- `is_keyword`
 pub keyword_no : (t w : List ℕ) (p : ℕ) → p ≡ past_space t 0 → Worded t p w false → false ≡ is_word w t

@@ -12,19 +12,7 @@ fn word_at(t: &[u8], p: usize, w: &[u8]) -> bool
     requires { p ≤ length t.now }
     ensures { Worded t.now p w.now result }
 {
-    let mut i = p;
-    let mut j: usize = 0;
-    while j < w.len() {
-        if i >= t.len() {
-            return false;
-        }
-        if t[i] != w[j] {
-            return false;
-        }
-        i += 1;
-        j += 1;
-    }
-    true
+    t[p..].starts_with(w)
 }
 
 // Is a text this word, with blanks, line ends and comments around it dropped?
@@ -32,8 +20,5 @@ pub fn is_keyword(t: &[u8], w: &[u8]) -> bool
     ensures { result ≡ is_word w.now t.now }
 {
     let p = past_space(t, 0);
-    if !word_at(t, p, w) {
-        return false;
-    }
-    past_space(t, p + w.len()) == t.len()
+    word_at(t, p, w) && past_space(t, p + w.len()) == t.len()
 }

@@ -1,57 +1,62 @@
 -- The turns from line to line, to the next label: no place of the code is named here.
 use mathlib.Core.Path.{◌≡◌, refl, sym, ap, ◌∙◌}
-use mathlib.Core.Bool.{Bool, true, false, ◌||◌}
-use mathlib.Core.List.{List}
+use mathlib.Core.Bool.{Bool, true, false, not, ◌&&◌, ◌||◌, and-true}
+use mathlib.Core.List.{List, [], ◌∷◌}
 use Prim.Native.Nat.{ℕ, ◌+◌, ◌<◌, ◌≤◌}
 use native.Mathlib.Omega.{arith}
 use lib.Dec.{eqb, ltb}
-use lib.ListN.{length, get_or}
+use lib.ListN.{length, get_or, take}
+use Rattle.std.specs.List.{prefix_len, starts_with}
+use Rattle.text.proofs.Passing.{differs, equals, differ, equal, turned, rest, get_or_rest, passed}
 use borrow.Author.Tests.{eqb-true, eqb-false, ltb-true, ltb-false}
-use Rattle.terms.specs.Logic.{no_way}
+use mathlib.Core.Logic.{inl, inr}
+use Rattle.terms.specs.Logic.{pick, no_way, by_case}
 use Rattle.terms.specs.Places.{inside}
 use Rattle.label_spec.specs.Names.{name_in, blank}
 use Rattle.label_spec.specs.Labels.{longest_name, from, hashed}
 use Rattle.label_spec.specs.LabelLaws.{eq_at, spot_yes, spot_no, eq_end, eq_here, eq_line, eq_on, from_end, skip_on, skip_line, blank_on, no_label, hash_in, resume, label_none, label_long, label_at}
 use Rattle.label_spec.specs.declared.Label.{Label}
-use Rattle.label_lines.specs.Post.{NameEnd, Ahead, Within, LineEnd, Unblanked, Marked, Met, MetIn}
+use Rattle.label_lines.specs.Post.{NameEnd, Within, LineEnd, Unblanked, Marked, Met, MetIn}
 
 -- The line's first `=`, sought from a, has not come up to i.
 abbrev pub Sought : List ℕ → ℕ → ℕ → Type 0
 Sought s a i = (a ≤ i) × (i ≤ length s) × (eq_at s a ≡ eq_at s i) × (from s a false ≡ from s i false)
 
 module _ (s : List ℕ) (a i : ℕ) (x : Sought s a i) where
-  pub sought_end : length s ≤ i → NameEnd s a i
+  sought_end : length s ≤ i → NameEnd s a i
   sought_end h = record { low = x.0; high = x.1; is = x.2 ∙ eq_end s i h; same = x.3 }
 
   module _ (h : i < length s) where
-    pub sought_here : get_or s i 0 ≡ 61 → NameEnd s a i
+    sought_here : get_or s i 0 ≡ 61 → NameEnd s a i
     sought_here e = record { low = x.0; high = x.1; is = x.2 ∙ eq_here s i h e; same = x.3 }
 
-    pub sought_line : get_or s i 0 ≡ 10 → NameEnd s a i
+    sought_line : get_or s i 0 ≡ 10 → NameEnd s a i
     sought_line e = record { low = x.0; high = x.1; is = x.2 ∙ eq_line s i h e; same = x.3 }
 
-    pub sought_on : (get_or s i 0 ≡ 61 → ⊥) → (get_or s i 0 ≡ 10 → ⊥) → Sought s a (i + 1)
+    sought_on : (get_or s i 0 ≡ 61 → ⊥) → (get_or s i 0 ≡ 10 → ⊥) → Sought s a (i + 1)
     sought_on m n = (omega (arith, x.0), omega arith, x.2 ∙ eq_on s i h m n, x.3 ∙ skip_on s i h n)
+
+-- of the bytes that the search passes over, none is `=` or LF
+pub sought_passed : (s : List ℕ) (a : ℕ) (h : a ≤ length s) (n : ℕ) → n ≡ length (take (prefix_len (λ b. not (eqb b 61) && not (eqb b 10)) (rest s a)) (rest s a)) → NameEnd s a (a + n)
+sought_passed s a h n e =
+    let p = passed s a (length s) h (omega arith) (Sought s a) (λ b. not (eqb b 61) && not (eqb b 10)) (omega arith, h, refl, refl)
+    (λ i l m t x. let d = differ (get_or s i 0) 61 10 t in sought_on s a i x m d.0 d.1) n e in
+    by_case (λ t. ltb (a + n) (length s) ≡ t → NameEnd s a (a + n)) (ltb (a + n) (length s))
+    (λ _ q. let l = ltb-true (a + n) (length s) q in
+    elim (equal (get_or s (a + n) 0) 61 10 (p.stops l)) [ inl y ↦ sought_here s a (a + n) p.kept l y | inr y ↦ sought_line s a (a + n) p.kept l y ])
+    (λ _ q. sought_end s a (a + n) p.kept (ltb-false (a + n) (length s) q)) refl
 
 -- No LF has come from a up to i.
 abbrev pub Along : List ℕ → ℕ → ℕ → Type 0
 Along s a i = (a ≤ i) × (i ≤ length s) × (from s a false ≡ from s i false)
 
-module _ (s : List ℕ) (a i : ℕ) (x : Along s a i) where
-  pub along_end : length s ≤ i → LineEnd s a i
-  along_end h = record { low = x.0; high = x.1; same = x.2; stops = λ l. absurd (omega arith) }
+along_on : (s : List ℕ) (a i : ℕ) → Along s a i → i < length s → (get_or s i 0 ≡ 10 → ⊥) → Along s a (i + 1)
+along_on s a i x h n = (omega (arith, x.0), omega arith, x.2 ∙ skip_on s i h n)
 
-  pub along_stop : get_or s i 0 ≡ 10 → LineEnd s a i
-  along_stop e = record { low = x.0; high = x.1; same = x.2; stops = λ l. e }
-
-  pub along_on : i < length s → (get_or s i 0 ≡ 10 → ⊥) → Along s a (i + 1)
-  along_on h n = (omega (arith, x.0), omega arith, x.2 ∙ skip_on s i h n)
-
-  pub along_free : i + 8 ≤ length s → from s i false ≡ from s (i + 8) false → Along s a (i + 8)
-  along_free h e = (omega (arith, x.0), h, x.2 ∙ e)
-
-  pub along_rest : (r : ℕ) → LineEnd s i r → LineEnd s a r
-  along_rest r e = record { low = omega (arith, x.0, e.low); high = e.high; same = x.2 ∙ e.same; stops = e.stops }
+pub along_passed : (s : List ℕ) (a : ℕ) (h : a ≤ length s) (n : ℕ) → n ≡ length (take (prefix_len (λ b. not (eqb b 10)) (rest s a)) (rest s a)) → LineEnd s a (a + n)
+along_passed s a h n e =
+    let p = passed s a (length s) h (omega arith) (Along s a) (λ b. not (eqb b 10)) (omega arith, h, refl) (λ i l m t x. along_on s a i x m (differs (get_or s i 0) 10 t)) n e in
+    record { low = p.low; high = p.high; same = p.kept.2; stops = λ l. equals (get_or s (a + n) 0) 10 (p.stops l) }
 
 -- Bytes that are looked at together: none, and one more, the one at j.
 within_none : (s : List ℕ) (i : ℕ) → Within s i i false
@@ -77,42 +82,17 @@ module _ (s : List ℕ) (i : ℕ) (h : i + 8 ≤ length s) where
       (next 3 (omega arith) _ (next 2 (omega arith) _ (next 1 (omega arith) _
       (within_on s i i (i + 1) false (within_none s i) (omega arith) (omega arith) (omega arith))))))))
 
--- LF is at i or after it, and none has come from a up to i.
-module _ (s : List ℕ) (a i : ℕ) (x : Along s a i) (f : Ahead s i) where
-  pub ahead_in : i < length s
-  ahead_in = omega (arith, f.low, f.high)
-
-  module _ (n : get_or s i 0 ≡ 10 → ⊥) where
-    above : (t : Bool) → ltb i f.place ≡ t → i < f.place
-    above true e = ltb-true i f.place e
-    above false e =
-        let z : i ≡ f.place = omega (arith, f.low, ltb-false i f.place e) in
-        absurd (n (ap (λ (k : ℕ). get_or s k 0) z ∙ f.is))
-
-    pub ahead_on : Along s a (i + 1) × Ahead s (i + 1)
-    ahead_on = (
-      along_on s a i x ahead_in n,
-      record {
-        place = f.place;
-        low = omega (arith, above (ltb i f.place) refl);
-        high = f.high;
-        is = f.is;
-      },
-    )
-
 -- Only blanks stand from a up to i.
 abbrev pub Blanks : List ℕ → ℕ → ℕ → Type 0
 Blanks s a i = (a ≤ i) × (i ≤ length s) × (from s a true ≡ from s i true)
 
-module _ (s : List ℕ) (a i : ℕ) (x : Blanks s a i) where
-  pub blanks_end : length s ≤ i → Unblanked s a i
-  blanks_end h = record { low = x.0; high = x.1; same = x.2; stops = λ l. absurd (omega arith) }
+blanks_on : (s : List ℕ) (a i : ℕ) → Blanks s a i → i < length s → blank (get_or s i 0) ≡ true → Blanks s a (i + 1)
+blanks_on s a i x h e = (omega (arith, x.0), omega arith, x.2 ∙ blank_on s i h e)
 
-  pub blanks_stop : (z : Bool) → z ≡ blank (get_or s i 0) → z ≡ false → Unblanked s a i
-  blanks_stop z e n = record { low = x.0; high = x.1; same = x.2; stops = λ l. sym e ∙ n }
-
-  pub blanks_on : i < length s → (z : Bool) → z ≡ blank (get_or s i 0) → z ≡ true → Blanks s a (i + 1)
-  blanks_on h z e n = (omega (arith, x.0), omega arith, x.2 ∙ blank_on s i h (sym e ∙ n))
+pub blanks_passed : (s : List ℕ) (a : ℕ) (h : a ≤ length s) (n : ℕ) → n ≡ length (take (prefix_len blank (rest s a)) (rest s a)) → Unblanked s a (a + n)
+blanks_passed s a h n e =
+    let p = passed s a (length s) h (omega arith) (Blanks s a) blank (omega arith, h, refl) (λ i l m t x. blanks_on s a i x m t) n e in
+    record { low = p.low; high = p.high; same = p.kept.2; stops = p.stops }
 
 -- The label whose `##` stands at i; e is its name's end.
 module _ (s : List ℕ) (i : ℕ) (y : hashed s i ≡ true) (e : ℕ) (q : NameEnd s (i + 2) e) where
@@ -176,3 +156,13 @@ module _ (s : List ℕ) (at k : ℕ) (q : Marked s at k) where
 
   pub next_here : (r : Label) → Met s k true r → Met s at false r
   next_here r x = record { good = lower at k (length s) r q.low x.good; law = q.same ∙ x.law }
+
+-- `##`, as the text from a place on begins with it
+pub hash_starts : (s : List ℕ) (i : ℕ) → starts_with eqb (rest s i) (35 ∷ 35 ∷ []) ≡ hashed s i
+unfolding hashed
+hash_starts s i = two (rest s i) (get_or s i 0) (get_or s (i + 1) 0) (get_or_rest s i 0 ∙ ap (λ (k : ℕ). get_or s k 0) (omega arith)) (get_or_rest s i 1)
+  where
+    two : (ys : List ℕ) (a b : ℕ) → get_or ys 0 0 ≡ a → get_or ys 1 0 ≡ b → starts_with eqb ys (35 ∷ 35 ∷ []) ≡ pick (eqb a 35) (eqb b 35) false
+    two [] a b p q = rw (sym p) refl
+    two (x ∷ []) a b p q = rw (sym p, sym q, turned 35 x) (by_case (λ t. (t && false) ≡ pick t false false) (eqb x 35) (λ _. refl) (λ _. refl))
+    two (x ∷ y ∷ zs) a b p q = rw (sym p, sym q, turned 35 x, turned 35 y) (by_case (λ t. (t && (eqb y 35 && true)) ≡ pick t (eqb y 35) false) (eqb x 35) (λ _. and-true (eqb y 35)) (λ _. refl))

@@ -4,7 +4,7 @@
 ghost use Rattle.std.specs.Prelude.{◌≡◌, true, false, ◌+◌, ◌<◌, ◌≤◌, length};
 ghost use Rattle.label_spec.specs.Names.{blank};
 ghost use Rattle.label_spec.specs.Labels.{hashed};
-ghost use Rattle.label_lines.specs.Post.{NameEnd, Within, Ahead, LineEnd, Unblanked, Marked, Met};
+ghost use Rattle.label_lines.specs.Post.{NameEnd, Within, LineEnd, Unblanked, Marked, Met};
 
 use label_names::name_length;
 use label_spec::Label;
@@ -14,13 +14,11 @@ use text::byte_at;
 const LONGEST_NAME: usize = 40;
 
 // Is it a space or a tab?
+#[tactic(auto, unfolding(label_spec::specs::Names::blank))]
 fn is_blank(b: u8) -> bool
     ensures { result ≡ blank b }
 {
-    match b {
-        32 | 9 => true,
-        _ => false,
-    }
+    matches!(b, b' ' | b'\t')
 }
 
 // The place of the line's first `=` from a place on, or else of the line's end.
@@ -28,17 +26,10 @@ pub fn name_end(s: &[u8], at: usize) -> usize
     requires { at ≤ length s.now }
     ensures { NameEnd s.now at result }
 {
-    let mut i = at;
-    while i < s.len() {
-        if s[i] == b'=' {
-            return i;
-        }
-        if s[i] == b'\n' {
-            return i;
-        }
-        i += 1;
-    }
-    i
+    at + s[at..]
+        .iter()
+        .take_while(|b| **b != b'=' && **b != b'\n')
+        .count()
 }
 
 // Is LF one of the eight bytes from here on? No test hangs on another, so the compiler makes them together.
@@ -56,31 +47,12 @@ fn lf_near(s: &[u8], i: usize) -> bool
         | (s[i + 7] == b'\n')
 }
 
-// The place of the first LF from a place on, where there is one: the text's end is not asked for.
-fn lf_ahead(s: &[u8], at: usize) -> usize
-    requires { Ahead s.now at }
-    ensures { LineEnd s.now at result }
-{
-    let mut i = at;
-    while s[i] != b'\n' {
-        i += 1;
-    }
-    i
-}
-
-// The place of the line's LF from a place on, or the end, a byte a turn.
+// The place of the line's LF from a place on, or the end, byte for byte.
 fn rest_of_line(s: &[u8], at: usize) -> usize
     requires { at ≤ length s.now }
     ensures { LineEnd s.now at result }
 {
-    let mut i = at;
-    while i < s.len() {
-        if s[i] == b'\n' {
-            return i;
-        }
-        i += 1;
-    }
-    i
+    at + s[at..].iter().take_while(|b| **b != b'\n').count()
 }
 
 // The place of the line's LF from a place on, or the end: most of a file is passed here, eight bytes a turn.
@@ -89,10 +61,7 @@ fn line_end(s: &[u8], at: usize) -> usize
     ensures { LineEnd s.now at result }
 {
     let mut i = at;
-    while s.len() - i >= 8 {
-        if lf_near(s, i) {
-            return lf_ahead(s, i);
-        }
+    while s.len() - i >= 8 && !lf_near(s, i) {
         i += 8;
     }
     rest_of_line(s, i)
@@ -103,14 +72,7 @@ pub fn past_blanks(s: &[u8], at: usize) -> usize
     requires { at ≤ length s.now }
     ensures { Unblanked s.now at result }
 {
-    let mut i = at;
-    while i < s.len() {
-        if !is_blank(s[i]) {
-            return i;
-        }
-        i += 1;
-    }
-    i
+    at + s[at..].iter().take_while(|b| is_blank(**b)).count()
 }
 
 // Does `##` stand here?
@@ -118,14 +80,7 @@ pub fn is_hashed(s: &[u8], at: usize) -> bool
     requires { at < length s.now }
     ensures { result ≡ hashed s.now at }
 {
-    if s[at] != b'#' {
-        return false;
-    }
-    let next = at + 1;
-    if next >= s.len() {
-        return false;
-    }
-    s[next] == b'#'
+    s[at..].starts_with(b"##")
 }
 
 // The place of the next `##` that is first on a line after this one, or the end.
@@ -141,10 +96,7 @@ pub fn next_mark(s: &[u8], at: usize) -> usize
         }
         let line = end + 1;
         let k = past_blanks(s, line);
-        if k >= s.len() {
-            return k;
-        }
-        if is_hashed(s, k) {
+        if k >= s.len() || is_hashed(s, k) {
             return k;
         }
         i = k;

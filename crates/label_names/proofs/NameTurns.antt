@@ -1,15 +1,17 @@
 -- The turns of a comparison of names: no place of the code is named here.
 use mathlib.Core.Path.{◌≡◌, refl, sym, ap, ◌∙◌}
-use mathlib.Core.Bool.{Bool, true, false, not}
+use mathlib.Core.Bool.{Bool, true, false, not, cond}
 use mathlib.Core.List.{List, [], ◌∷◌}
 use Prim.Native.Nat.{ℕ, suc, ◌+◌, ◌-◌, ◌<◌, ◌≤◌}
 use native.Mathlib.Numerals.{add-one}
 use native.Mathlib.Omega.{arith}
-use lib.Dec.{eqb, leb}
-use lib.ListN.{length, get_or}
+use lib.Dec.{leb}
+use lib.ListN.{length, get_or, take}
+use Rattle.std.specs.List.{filter, prefix_len}
+use Rattle.text.proofs.Passing.{part, passed}
 use lib.Seq.{drop-cons}
 use borrow.Author.Tests.{eq-eqb, ne_eqb, leb-true, leb-false}
-use Rattle.terms.specs.Logic.{no_way}
+use Rattle.terms.specs.Logic.{pick, no_way, by_case}
 use Rattle.terms.specs.Places.{inside}
 use Rattle.label_spec.specs.Names.{name_in, norm, ignored, blank, upper, sames}
 use Rattle.label_spec.specs.NameLaws.{name_end, name_skip, name_keep, whole, both_done, left_done, right_done, differ, agree}
@@ -26,15 +28,10 @@ module _ (s : List ℕ) (i e r : ℕ) (k : Kept s i e r) where
 abbrev pub Idle : List ℕ → ℕ → ℕ → ℕ → Type 0
 Idle s i e k = (i ≤ k) × (k ≤ e) × (name_in s i e ≡ name_in s k e)
 
-module _ (s : List ℕ) (i e k : ℕ) (x : Idle s i e k) where
-  pub idle_end : e ≤ k → Kept s i e k
-  idle_end h = record { low = x.0; high = x.1; same = x.2; stops = λ l. absurd (omega arith) }
-
-  pub idle_stop : (z : Bool) → z ≡ ignored (get_or s k 0) → z ≡ false → Kept s i e k
-  idle_stop z h n = record { low = x.0; high = x.1; same = x.2; stops = λ l. sym h ∙ n }
-
-  pub idle_on : k < e → e ≤ length s → (z : Bool) → z ≡ ignored (get_or s k 0) → z ≡ true → Idle s i e (k + 1)
-  idle_on h l z g n = (omega (arith, x.0), omega arith, x.2 ∙ name_skip s k e h l (sym g ∙ n))
+pub idle_passed : (s : List ℕ) (i e : ℕ) → i ≤ e → e ≤ length s → (n : ℕ) → n ≡ length (take (prefix_len ignored (part s i e)) (part s i e)) → Kept s i e (i + n)
+idle_passed s i e h l n z =
+    let p = passed s i e h l (Idle s i e) ignored (omega arith, h, refl) (λ k f g t x. (omega arith, omega arith, x.2 ∙ name_skip s k e g l t)) n z in
+    record { low = p.low; high = p.high; same = p.kept.2; stops = p.stops }
 
 -- Two names, and the next byte of each that counts.
 module _ (s : List ℕ) (i ie x : ℕ) (p : Kept s i ie x) (t : List ℕ) (j je y : ℕ) (q : Kept t j je y) (ls : ie ≤ length s) (lt : je ≤ length t) where
@@ -55,43 +52,28 @@ module _ (s : List ℕ) (i ie x : ℕ) (p : Kept s i ie x) (t : List ℕ) (j je 
     pub name_on : u ≡ v → sames (name_in s i ie) (name_in t j je) ≡ sames (name_in s (x + 1) ie) (name_in t (y + 1) je)
     name_on n = rw (kept_cons s i ie x p h ls, kept_cons t j je y q l lt) (agree _ _ _ _ (sym eu ∙ n ∙ ev))
 
--- How long a name is.
+-- Does a byte count in a name? So many do, and so long the name is.
+abbrev pub counts : ℕ → Bool
+counts b = not (ignored b)
+
+norm_counts : (l : List ℕ) → length (filter counts l) ≡ length (norm l)
+unfolding norm
+norm_counts [] = refl
+norm_counts (b ∷ l) =
+    by_case (λ t. length (cond (not t) (b ∷ filter counts l) (filter counts l)) ≡ length (pick t (norm l) (upper b ∷ norm l))) (ignored b) (λ _. norm_counts l) (λ _. ap suc (norm_counts l))
+
+pub length_counts : (s : List ℕ) (i e : ℕ) → length (filter counts (part s i e)) ≡ length (name_in s i e)
+unfolding name_in
+length_counts s i e = norm_counts (part s i e)
+
+-- Is a name empty?
 module _ (s : List ℕ) (i e r : ℕ) (k : Kept s i e r) where
-  pub length_end : e ≤ r → length (name_in s i e) ≡ 0
-  length_end h = ap length (kept_end s i e r k h)
-
-  pub length_on : r < e → e ≤ length s → length (name_in s i e) ≡ length (name_in s (r + 1) e) + 1
-  length_on h l = ap length (kept_cons s i e r k h l) ∙ sym (add-one _)
-
   pub empty_is : e ≤ length s → leb e r ≡ empty (name_in s i e)
   empty_is l = cases (leb e r) refl
     where
       cases : (z : Bool) → leb e r ≡ z → z ≡ empty (name_in s i e)
       cases true h = rw (kept_end s i e r k (leb-true e r h)) (unfold empty in refl)
       cases false h = rw (kept_cons s i e r k (leb-false e r h) l) (unfold empty in refl)
-
--- A name's first byte, and whether two of them differ.
-module _ (s : List ℕ) (i b : ℕ) (h : b ≡ get_or s i 0) (z : Bool) (g : z ≡ ignored b) where
-  pub first_left : z ≡ true → 0 ≡ first_of s i
-  unfolding first_of
-  first_left n = rw (← h, ← g, n) refl
-
-  pub first_kept : z ≡ false → (u : ℕ) → u ≡ upper b → u ≡ first_of s i
-  unfolding first_of
-  first_kept n u e = rw (← h, ← g, n) e
-
-module _ (x y : ℕ) where
-  pub none_left : x ≡ 0 → false ≡ unlike x y
-  unfolding unlike
-  none_left e = rw (eq-eqb x 0 e) refl
-
-  pub none_right : (x ≡ 0 → ⊥) → y ≡ 0 → false ≡ unlike x y
-  unfolding unlike
-  none_right n e = rw (ne_eqb x 0 n, eq-eqb y 0 e) refl
-
-  pub both_first : (x ≡ 0 → ⊥) → (y ≡ 0 → ⊥) → not (eqb x y) ≡ unlike x y
-  unfolding unlike
-  both_first n o = rw (ne_eqb x 0 n, ne_eqb y 0 o) refl
 
 -- A name's first byte, where it says something, is the first of the name as it is compared.
 module _ (s : List ℕ) (i : ℕ) (n : first_of s i ≡ 0 → ⊥) where

@@ -1,57 +1,43 @@
 // Names of labels: they compare in upper case without blanks, `-`, `/`, `_` (01, The file).
 #![tactic(auto)]
 
-ghost use Rattle.std.specs.Prelude.{◌≡◌, ◌<◌, ◌≤◌, length};
+ghost use Rattle.std.specs.Prelude.{◌≡◌, ◌≤◌, length};
 ghost use Rattle.label_spec.specs.Names.{ignored, upper, norm, name_in, sames, TITLE, END};
 ghost use Rattle.label_names.specs.Post.{Kept, empty, first_of, unlike};
 
 use text::byte_at;
 
 // Is this byte left out where names are compared?
+#[tactic(auto, unfolding(label_spec::specs::Names::ignored, label_spec::specs::Names::blank))]
 fn is_ignored(b: u8) -> bool
     ensures { result ≡ ignored b }
 {
-    match b {
-        32 | 9 | 45 | 47 | 95 => true,
-        _ => false,
-    }
+    matches!(b, b' ' | b'\t' | b'-' | b'/' | b'_')
 }
 
 // The byte in upper case, if it is a letter a to z.
+#[tactic(auto, unfolding(label_spec::specs::Names::upper))]
 fn upper_of(b: u8) -> u8
     ensures { result ≡ upper b }
 {
-    if b < b'a' {
-        return b;
-    }
-    if b > b'z' {
-        return b;
-    }
-    b - 32
+    b.to_ascii_uppercase()
 }
 
 // The first byte of a name as it is compared; 0 says nothing, as where it is left out or the text is over.
+#[tactic(auto, unfolding(crate::specs::Post::first_of))]
 pub fn first_of(s: &[u8], i: usize) -> u8
     ensures { result ≡ first_of s.now i }
 {
     let b = byte_at(s, i);
-    if is_ignored(b) {
-        return 0;
-    }
-    upper_of(b)
+    if is_ignored(b) { 0 } else { upper_of(b) }
 }
 
 // Do names differ by these first bytes? Most do, and are then compared no further.
+#[tactic(auto, unfolding(crate::specs::Post::unlike))]
 pub fn differ(x: u8, y: u8) -> bool
     ensures { result ≡ unlike x y }
 {
-    if x == 0 {
-        return false;
-    }
-    if y == 0 {
-        return false;
-    }
-    x != y
+    x != 0 && y != 0 && x != y
 }
 
 // The place of the first byte from i on that counts in a name, or e, the name's end.
@@ -59,14 +45,7 @@ fn next_kept(s: &[u8], i: usize, e: usize) -> usize
     requires { (i ≤ e) × (e ≤ length s.now) }
     ensures { Kept s.now i e result }
 {
-    let mut k = i;
-    while k < e {
-        if !is_ignored(s[k]) {
-            return k;
-        }
-        k += 1;
-    }
-    k
+    i + s[i..e].iter().take_while(|b| is_ignored(**b)).count()
 }
 
 // Are two names equal as they are compared? They stand in one text or in two.
@@ -98,16 +77,7 @@ pub fn name_length(s: &[u8], i: usize, e: usize) -> usize
     requires { (i ≤ e) × (e ≤ length s.now) }
     ensures { result ≡ length (name_in s.now i e) }
 {
-    let mut k = i;
-    let mut n: usize = 0;
-    loop {
-        let x = next_kept(s, k, e);
-        if x >= e {
-            return n;
-        }
-        n += 1;
-        k = x + 1;
-    }
+    s[i..e].iter().filter(|b| !is_ignored(**b)).count()
 }
 
 // Is the name empty as it is compared?

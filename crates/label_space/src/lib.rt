@@ -8,32 +8,21 @@ ghost use Rattle.label_space.specs.Passed.{Passed};
 use text::byte_at;
 
 // Is it a blank or LF?
+#[tactic(auto, unfolding(label_spec::specs::Space::space, label_spec::specs::Names::blank))]
 fn is_space(b: u8) -> bool
     ensures { result ≡ space b }
 {
-    if b == b'\n' {
-        return true;
-    }
-    match b {
-        9 | 32 => true,
-        _ => false,
-    }
+    matches!(b, b'\n' | b'\t' | b' ')
 }
 
 // Is it CR before LF, or `$$`?
+#[tactic(auto, unfolding(label_spec::specs::Space::opens))]
 fn is_opening(s: &[u8], i: usize) -> bool
     requires { i < length s.now }
     ensures { result ≡ opens (get_or s.now i 0) (get_or s.now (i + 1) 0) }
 {
-    let next = i + 1;
-    let c = byte_at(s, next);
-    if s[i] == b'\r' {
-        return c == b'\n';
-    }
-    if s[i] == b'$' {
-        return c == b'$';
-    }
-    false
+    let c = byte_at(s, i + 1);
+    (s[i] == b'\r' && c == b'\n') || (s[i] == b'$' && c == b'$')
 }
 
 // The place after blanks, line ends and comments.
@@ -41,21 +30,16 @@ pub fn past_space(s: &[u8], at: usize) -> usize
     requires { at ≤ length s.now }
     ensures { Passed s.now at result }
 {
-    let mut i = at;
     let mut inside = false;
-    while i < s.len() {
-        let next = i + 1;
+    for i in at..s.len() {
         if inside {
             inside = s[i] != b'\n';
-            i = next;
-        } else if is_space(s[i]) {
-            i = next;
-        } else if is_opening(s, i) {
+        } else if !is_space(s[i]) {
+            if !is_opening(s, i) {
+                return i;
+            }
             inside = true;
-            i = next;
-        } else {
-            return i;
         }
     }
-    i
+    s.len()
 }

@@ -5,9 +5,14 @@ use mathlib.Core.List.{List, [], ◌∷◌, append-nil}
 use Prim.Native.Nat.{ℕ, suc, ◌+◌, ◌*◌, ◌-◌, ◌<◌, ◌≤◌}
 use native.Mathlib.Numerals.{add-one}
 use native.Mathlib.Omega.{arith}
-use lib.ListN.{length, take, drop, set, drop_of_length-le}
+use lib.ListN.{length, take, drop, drop_of_length-le}
 use lib.Seq.{sets, sets-eq, length-sets, drop-cons}
-use Rattle.terms.specs.Logic.{pick, zero_one}
+use borrow.Rule.Slice.PartMut.{put_mid}
+use Rattle.std.proofs.lemmas.Slice.{put_mid-paste}
+use Rattle.std.proofs.lemmas.List.Edits.{paste_all}
+use Rattle.std.proofs.Common.{append_assoc}
+use Rattle.std.specs.Int.{from_bool}
+use Rattle.terms.specs.Logic.{by_case, pick, zero_one}
 use Rattle.label_spec.specs.Space.{past_space}
 use Rattle.profile_spec.specs.declared.Shown.{Shown}
 use Rattle.profile_spec.specs.Wanted.{wanted, kth}
@@ -38,12 +43,14 @@ judged_source s p x ws q e r h = h ∙ (unfold judged judged_in in rw e refl)
 
 -- ---- `put`
 
-pub three : (l : List ℕ) (i : ℕ) (x : Shown) (q : ℕ) → q ≡ pick x.page 1 0 → set (set (set l i q) (i + 1) x.from) (i + 2) x.to ≡ sets l i (numbers (Some x) [])
+pub three : (l : List ℕ) (i : ℕ) (x : Shown) → i + 3 ≤ length l → (q : ℕ) → q ≡ from_bool x.page → (ys : List ℕ) → ys ≡ q ∷ x.from ∷ x.to ∷ []
+    → put_mid i (i + 3 - i) l ys ≡ sets l i (numbers (Some x) [])
 unfolding numbers
-three l i x q e =
-    let y : i + 1 ≡ suc i = omega arith in
-    let z : i + 2 ≡ suc (suc i) = omega arith in
-    rw (y, z, e) refl
+three l i x h q g ys e =
+    let vs : List ℕ = q ∷ x.from ∷ x.to ∷ [] in
+    let m : i + 3 - i ≡ 3 = omega arith in
+    put_mid-paste i (i + 3 - i) l ys vs 3 e (sym m) refl ∙ paste_all l i vs 3 refl ∙ sym (rw append_assoc at (sets-eq vs l i h))
+    ∙ rw g (by_case (λ t. sets l i (from_bool t ∷ x.from ∷ x.to ∷ []) ≡ sets l i (pick t 1 0 ∷ x.from ∷ x.to ∷ [])) x.page (λ _. refl) (λ _. refl))
 
 -- ---- `survey`
 

@@ -3,7 +3,6 @@
 
 ghost use Rattle.std.specs.Prelude.{◌≡◌, [], ◌+◌, ◌≤◌, length};
 ghost use Rattle.std.proofs.lemmas.List.Edits.{sets};
-ghost use Rattle.terms.specs.Logic.{pick};
 ghost use Rattle.profile_spec.specs.Wanted.{kth};
 ghost use Rattle.profile_spec.specs.Profile.{judged, numbers};
 ghost use Rattle.profile_find.specs.Post.{LocatedIn};
@@ -37,9 +36,10 @@ fn judge(file: &[u8], page: &[u8], x: Shown, k: usize) -> Result<(), Unfit>
 {
     let on_page = x.page;
     if on_page {
-        return judge_in(page, x, k);
+        judge_in(page, x, k)
+    } else {
+        judge_in(file, x, k)
     }
-    judge_in(file, x, k)
 }
 
 // What the records before say, if that is a fault; otherwise what the next one says.
@@ -50,27 +50,12 @@ fn first_fault(said: Result<(), Unfit>, next: Result<(), Unfit>) -> Result<(), U
     next
 }
 
-// Whether a text is on the page, as a number: 1, or 0.
-fn number_of(page: bool) -> u64
-    ensures { result ≡ pick page 1 0 }
-{
-    if page {
-        return 1;
-    }
-    0
-}
-
 // Stores the three numbers of a record from the entry i on.
 fn put(places: &mut [u64], i: usize, x: Shown)
     requires { i + 3 ≤ length places.old }
     ensures { places.new ≡ sets places.old i (numbers (Some x) []) }
 {
-    let from = x.from;
-    let to = x.to;
-    let page = number_of(x.page);
-    places[i] = page;
-    places[i + 1] = from as u64;
-    places[i + 2] = to as u64;
+    places[i..i + 3].copy_from_slice(&[u64::from(x.page), x.from as u64, x.to as u64]);
 }
 
 // What the fifteen records say, in one pass: each is looked for once, and the numbers that show it are stored. One that is absent from both (30) comes before every unlisted word (31).
@@ -79,18 +64,14 @@ pub fn survey(file: &[u8], start: usize, stop: usize, page: &[u8], places: &mut 
     ensures { Surveys file.now start stop page.now places.new result }
 {
     let mut said = Ok(());
-    let mut k: usize = 0;
-    let mut i: usize = 0;
-    while k < 15 {
+    for k in 0..15 {
         match find_kth(file, start, stop, page, k) {
             None => {
                 return Err(Unfit::Lacking);
             }
             Some(x) => {
                 said = first_fault(said, judge(file, page, x, k));
-                put(places, i, x);
-                i += 3;
-                k += 1;
+                put(places, 3 * k, x);
             }
         }
     }

@@ -31,12 +31,6 @@ pub fn refuse(file: &[u8], page: &[u8], on_page: bool, number: u64, place: usize
 pub fn store_numbers(numbers: &[u64], out: &mut [u64])
     ensures { out.new ≡ sets out.old 0 numbers.now }
 {
-    let mut i: usize = 0;
-    while i < numbers.len() {
-        if i >= out.len() {
-            return;
-        }
-        out[i] = numbers[i];
-        i += 1;
-    }
+    let n = numbers.len().min(out.len());
+    out[..n].copy_from_slice(&numbers[..n]);
 }

@@ -1,18 +1,15 @@
--- `compound_blocks::after_line` meets its contract: byte by byte up to LF.
-use mathlib.Core.Path.{refl}
-use Prim.Native.Nat.{◌-◌}
-use native.Mathlib.Omega.{arith}
-use Rattle.compound_blocks.proofs.PassTurns.{line_over, line_here, line_on}
+-- `compound_blocks::after_line` meets its contract: no LF was passed.
+use borrow.Author.Tests.{tests}
+use Rattle.std.proofs.Common.{rules}
+use Rattle.std.proofs.lemmas.Iterator.{YieldsList-from_slice}
+use Rattle.std.proofs.lemmas.Iterator.Consumers.{YieldsList-at, count_from_yields_List}
+use Rattle.std.proofs.lemmas.Iterator.Search.{YieldsList-from_take_while}
+use Rattle.compound_blocks.proofs.PassTurns.{line_passed}
 use Rattle.compound_blocks.proofs.after_line.Goals as goal
 
-pub loop-i-init : goal.loop-i-init
-loop-i-init c = (c.requires, refl)
-
-pub returns-then-s-i-eq10 : goal.returns-then-s-i-eq10
-returns-then-s-i-eq10 c = line_here _ _ _ c.loop-i.invariant c.loop-i-test.true c.if-s-i-eq10.true
-
-pub loop-i-preserved : goal.loop-i-preserved
-loop-i-preserved c = line_on _ _ _ c.loop-i.invariant c.loop-i-test.true c.if-s-i-eq10.false
-
 pub returns : goal.returns
-returns c = line_over _ _ _ c.loop-i.invariant (omega (arith, c.loop-i-test.false))
+returns c =
+    let road = YieldsList-at c.take_while.ensures.source (YieldsList-from_slice _ c.iter.ensures.rest) in
+    line_passed _ _ c.requires _
+    (count_from_yields_List _ _ c.count.ensures.ran (YieldsList-from_take_while _ _ road c.take_while.ensures.closure c.take_while.ensures.done (λ x b q k. search (rules, tests))))
+    _ c.min.ensures

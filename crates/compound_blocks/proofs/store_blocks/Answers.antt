@@ -1,6 +1,5 @@
 -- `compound_blocks::store_blocks` meets its contract: what is left to be stored makes the slice what it is to be.
 use mathlib.Core.Path.{refl}
-use mathlib.Core.Bool.{false}
 use Prim.Native.Nat.{◌-◌}
 use native.Mathlib.Omega.{arith}
 use Rattle.compound_blocks.proofs.PassTurns.{pass_begin, pass_done, pass_over, pass_other, pass_link, pass_title, pass_shut, pass_block, put_length}

@@ -1,7 +1,6 @@
 -- `file_given::title_fair` meets its contract: each byte is looked at once, with the one after it.
 use mathlib.Core.Path.{sym, ◌∙◌}
 use native.Mathlib.Omega.{arith}
-use Prim.Native.Nat.{◌-◌}
 use Rattle.file_given.specs.Titles.{too_long, short, clean_end, clean_on, clean_not}
 use Rattle.file_given.proofs.title_fair.Goals as goal
 

@@ -1,12 +1,9 @@
 -- `file_marks::first_mark` meets its contract: what is passed is blanks and line ends.
-use mathlib.Core.Path.{refl, sym, ◌∙◌}
-use Prim.Native.Nat.{◌-◌}
+use mathlib.Core.Path.{◌≡◌, sym, ◌∙◌}
+use lib.ListN.{length}
 use native.Mathlib.Omega.{arith}
 use Rattle.file_marks.proofs.TextLaws.{mark_end, mark_here, mark_on}
 use Rattle.file_marks.proofs.first_mark.Goals as goal
-
-pub loop-i-init : goal.loop-i-init
-loop-i-init c = (omega arith, refl)
 
 pub returns-then-not-spacing : goal.returns-then-not-spacing
 returns-then-not-spacing c =
@@ -21,4 +18,7 @@ loop-i-preserved c =
     (omega arith, l.invariant.1 ∙ mark_on s l.i c.loop-i-test.true (sym e ∙ c.if-not-spacing.false))
 
 pub returns : goal.returns
-returns c = let l = c.loop-i in (sym (l.invariant.1 ∙ mark_end c.args.s.now l.i c.loop-i-test.false), l.invariant.0)
+returns c =
+    let l = c.loop-i in
+    let e : l.i ≡ length c.args.s.now = omega arith in
+    (sym (l.invariant.1 ∙ mark_end c.args.s.now l.i c.loop-i-test.false ∙ e), omega arith)

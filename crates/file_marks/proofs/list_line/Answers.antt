@@ -1,9 +1,9 @@
 -- `file_marks::list_line` meets its contract: of the list so much has stood, and the rest of the line is against what is left.
 use mathlib.Core.Path.{◌≡◌, refl, sym, ◌∙◌}
 use mathlib.Core.List.{List}
-use Prim.Native.Nat.{ℕ, ◌-◌}
+use Prim.Native.Nat.{ℕ}
 use native.Mathlib.Omega.{arith}
-use lib.ListN.{drop}
+use lib.ListN.{length, drop}
 use Rattle.file_spec.specs.Texts.{LIST, listed_as, listed_in}
 use Rattle.file_marks.proofs.TextLaws.{list_end, list_lf, list_step_lem, list_stop, ended_in}
 use Rattle.file_marks.proofs.list_line.Goals as goal
@@ -43,4 +43,5 @@ list_ended-requires-2 c = c.loop-i.invariant.1
 pub returns : goal.returns
 returns c =
     let l = c.loop-i in let s = c.args.s.now in
-    (c.list_ended-2.ensures ∙ sym (l.invariant.2 ∙ list_end s l.i _ c.loop-i-test.false), rw c.list_ended-2.ensures (ended_in (drop l.k LIST) _ _ l.invariant.0))
+    let e : l.i ≡ length s = omega arith in
+    (c.list_ended-2.ensures ∙ rw (← e) (sym (l.invariant.2 ∙ list_end s l.i _ c.loop-i-test.false)), rw c.list_ended-2.ensures (ended_in (drop l.k LIST) _ _ (omega arith)))

@@ -1,19 +1,14 @@
--- `label_names::next_kept` meets its contract: the bytes passed do not count in the name.
-use mathlib.Core.Path.{refl}
-use Prim.Native.Nat.{◌-◌}
-use native.Mathlib.Omega.{arith}
-use Rattle.label_names.proofs.NameTurns.{idle_end, idle_stop, idle_on}
+-- `label_names::next_kept` meets its contract: no byte that was passed counts in the name.
+use borrow.Author.Tests.{tests}
+use Rattle.std.proofs.Common.{rules}
+use Rattle.std.proofs.lemmas.Iterator.{YieldsList-from_slice}
+use Rattle.std.proofs.lemmas.Iterator.Consumers.{YieldsList-at, count_from_yields_List}
+use Rattle.std.proofs.lemmas.Iterator.Search.{YieldsList-from_take_while}
+use Rattle.label_names.proofs.NameTurns.{idle_passed}
 use Rattle.label_names.proofs.next_kept.Goals as goal
 
-pub loop-k-init : goal.loop-k-init
-loop-k-init c = (omega arith, omega arith, refl)
-
-pub returns-then-not-is_ignored : goal.returns-then-not-is_ignored
-returns-then-not-is_ignored c = idle_stop _ _ _ _ c.loop-k.invariant _ c.is_ignored.ensures (c.if-not-is_ignored.true)
-
-pub loop-k-preserved : goal.loop-k-preserved
-loop-k-preserved c = idle_on _ _ _ _ c.loop-k.invariant c.loop-k-test.true (omega arith) _
-    c.is_ignored.ensures (c.if-not-is_ignored.false)
-
 pub returns : goal.returns
-returns c = idle_end _ _ _ _ c.loop-k.invariant c.loop-k-test.false
+returns c =
+    let road = YieldsList-at c.take_while.ensures.source (YieldsList-from_slice _ c.iter.ensures.rest) in
+    idle_passed _ _ _ c.requires.0 c.requires.1 _
+    (count_from_yields_List _ _ c.count.ensures.ran (YieldsList-from_take_while _ _ road c.take_while.ensures.closure c.take_while.ensures.done (λ x b q k. search (rules, tests))))

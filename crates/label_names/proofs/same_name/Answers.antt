@@ -1,6 +1,5 @@
 -- `label_names::same_name` meets its contract: what is left of one name equals what is left of the other exactly if the whole names are equal.
 use mathlib.Core.Path.{sym, ◌∙◌}
-use Prim.Native.Nat.{◌-◌}
 use native.Mathlib.Omega.{arith}
 use Rattle.label_names.proofs.NameTurns.{name_over, name_longer, name_differs, name_on}
 use Rattle.label_names.proofs.same_name.Goals as goal

@@ -1,5 +1,6 @@
 -- `profile_records::survey` meets its contract: one record after the other.
-use Prim.Native.Nat.{◌-◌}
+use mathlib.Core.Path.{◌≡◌}
+use Prim.Native.Nat.{◌+◌, ◌*◌}
 use native.Mathlib.Omega.{arith}
 use Rattle.profile_records.proofs.RecordTurns.{gone_begin, gone_done, gone_lacks, gone_on}
 use Rattle.profile_records.proofs.survey.Goals as goal
@@ -20,8 +21,8 @@ judge-requires c = let l = rw c.in-Some.is at c.find_kth.ensures in l.inside
 pub loop-k-preserved : goal.loop-k-preserved
 loop-k-preserved c =
     let found = rw c.in-Some.is at c.find_kth.ensures in
-    gone_on _ _ _ _ _ _ _ _ c.loop-k.invariant c.loop-k-test.true _ found
-    _ c.judge.ensures _ c.first_fault-said.ensures _ c.put.ensures
+    let e : 3 * c.loop-k.k + 3 ≡ 3 * (c.loop-k.k + 1) = omega arith in
+    rw e at (gone_on _ _ _ _ _ _ _ _ c.loop-k.invariant c.loop-k-test.true _ found _ c.judge.ensures _ c.first_fault-said.ensures _ c.put.ensures)
 
 pub returns : goal.returns
 returns c = gone_done _ _ _ _ _ _ _ _ c.loop-k.invariant (omega (arith, c.loop-k-test.false))
