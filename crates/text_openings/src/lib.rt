@@ -1,7 +1,7 @@
 // How a line begins (01, "The written text"): a head, or a check line's head and value; and how far the writing has come after a group. Inner functions: the frame is a sound one, and places are far from the largest number.
 #![tactic(auto)]
 
-ghost use Rattle.std.specs.Prelude.{◌≡◌, true, false, ◌+◌, ◌^◌, ◌≤◌, ◌<◌, length};
+ghost use Rattle.std.specs.Prelude.{◌≡◌, ◌+◌, ◌^◌, ◌≤◌, ◌<◌, length};
 ghost use Rattle.table_spec.specs.declared.Style.TheVariants.{Difdup};
 ghost use Rattle.table_spec.specs.Writing.{check};
 ghost use Rattle.table_spec.specs.Groups.{sqz_text};
