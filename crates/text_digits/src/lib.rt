@@ -83,7 +83,7 @@ pub fn digits_in(d: &[u64; 32], v: u64) -> usize
     requires { (d.now ≡ counts) × (v < 2147483648) }
     ensures { (result ≡ 1 + further 9 v) × (result ≤ 10) }
 {
-    let zeros = (v as u32).leading_zeros() as usize;
+    let zeros = u32::leading_zeros(v as u32) as usize;
     let entry = d[zeros - 1];
     let sum = v + entry;
     (sum / 4294967296) as usize
@@ -94,16 +94,18 @@ fn store_pairs(t: &[u8; 200], out: &mut [u8], at: usize, v: u64, n: usize) -> u3
     requires { (t.now ≡ pairs) × (n ≡ further 9 v) × (v < 4294967296) × (at + n ≤ length out.old) }
     ensures { Digits v n at out.old out.new result (n % 2) × (result < 100) }
 {
-    let first = at + n % 2;
     let mut w = v as u32;
-    for i in (0..n / 2).rev() {
+    let mut j = n;
+    while 2 <= j {
         let two = w % 100;
         let a = tens(t, two);
         let b = ones(t, two);
-        let before = first + 2 * i;
-        out[before + 1] = b;
+        let last = at + (j - 1);
+        let before = at + (j - 2);
+        out[last] = b;
         out[before] = a;
-        w /= 100;
+        w = w / 100;
+        j = j - 2;
     }
     w
 }
