@@ -57,7 +57,7 @@ pub fn fill_line(
     }
 }
 
-// The same with nothing lent: the values are counted.
+// The same with nothing lent: the values are counted. A loop of its own: one loop for both would take a table of digits that it does not read, and claim less plainly what is lent.
 pub fn count_line(d: &[u64; 32], m: Marks, ys: &[i32], s: State) -> State
     requires { (d.now ≡ counts) × Opened (length ys.now) s }
     ensures { Filled (shown m) (map ordinate_of ys.now) s [] [] result }
