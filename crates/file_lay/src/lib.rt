@@ -23,8 +23,7 @@ pub fn heading_length(title: &[u8], n: Numbers) -> usize
     requires { (length title.now ≤ 72) × AllWritable n }
     ensures { (result ≡ length (entries_text (heading_of title.now n))) × (result ≤ 960) }
 {
-    let mut none = [0u8; 1];
-    put_heading(&mut none[..0], title, n)
+    put_heading(&mut [], title, n)
 }
 
 // The file of a table that can be written: the body first, behind the room of the heading, so that nothing is altered where it does not fit (15).
@@ -53,7 +52,7 @@ pub fn lay(
         Ok(k) => {
             put_heading(text, title, n);
             let at = head + k;
-            let length = put_line(text, at, b"END", &title[..0]);
+            let length = put_line(text, at, b"END", b"");
             Ok(FileLength { length, exact })
         }
     }

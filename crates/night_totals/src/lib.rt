@@ -14,11 +14,7 @@ use terms::Refusal;
 pub fn size_of(x: i64) -> u64
     ensures { result ≡ nat_abs x }
 {
-    if x < 0 {
-        let below = -1 - x;
-        return below as u64 + 1;
-    }
-    x as u64
+    x.unsigned_abs()
 }
 
 // One accepted file more.
@@ -67,33 +63,21 @@ pub fn start() -> Progress
 }
 
 // Can so many files come to these totals?
+#[tactic(auto, unfolding(night_spec::specs::Steps::totals_legal))]
 fn totals_legal(seen: u64, t: Totals) -> bool
     requires { seen ≤ 1000 }
     ensures { result ≡ totals_legal seen t }
 {
-    let files = t.files;
-    let points = t.points;
-    let missing = t.missing;
-    if files > seen {
-        return false;
-    }
-    if points > seen * 65536 {
-        return false;
-    }
-    if missing > points {
-        return false;
-    }
-    size_of(t.sum) <= seen * 140737488355328
+    t.files <= seen
+        && t.points <= seen * 65536
+        && t.missing <= t.points
+        && size_of(t.sum) <= seen * 140737488355328
 }
 
 // Can a walk have come so far?
+#[tactic(auto, unfolding(night_spec::specs::Steps::walk_legal))]
 pub fn walk_legal(p: Progress) -> bool
     ensures { result ≡ walk_legal p }
 {
-    let seen = p.seen;
-    let totals = p.totals;
-    if seen > 1000 {
-        return false;
-    }
-    totals_legal(seen as u64, totals)
+    p.seen <= 1000 && totals_legal(p.seen as u64, p.totals)
 }

@@ -7,21 +7,14 @@ ghost use Rattle.night_spec.specs.Spool.{record_at, length_at, refused_at};
 use terms::{Fault, Reason};
 use label_spec::Span;
 
-// A byte as a number.
-fn wide(b: u8) -> usize
-    ensures { (result ≡ b) × (result < 256) }
-{
-    b as usize
-}
-
 // The length of the file whose record stands at a place: three bytes, high byte first.
 fn length_at(s: &[u8], at: usize) -> usize
     requires { at + 5 ≤ length s.now }
     ensures { (result ≡ length_at s.now at) × (result < 16777216) }
 {
-    let high = wide(s[at + 2]);
-    let middle = wide(s[at + 3]);
-    let low = wide(s[at + 4]);
+    let high = usize::from(s[at + 2]);
+    let middle = usize::from(s[at + 3]);
+    let low = usize::from(s[at + 4]);
     high * 65536 + middle * 256 + low
 }
 
@@ -40,10 +33,7 @@ pub fn record_at(s: &[u8], at: usize, left: usize) -> Result<Option<Span>, Fault
     if rest < 5 {
         return Err(Fault::new(Reason::CutOff, at));
     }
-    if s[at] != 74 {
-        return Err(Fault::new(Reason::NoMark, at));
-    }
-    if s[at + 1] != 68 {
+    if s[at] != b'J' || s[at + 1] != b'D' {
         return Err(Fault::new(Reason::NoMark, at));
     }
     let size = length_at(s, at);

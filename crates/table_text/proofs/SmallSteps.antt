@@ -1,8 +1,10 @@
 -- How many digits numbers of at most four have, by ranges and by comparisons added up. No place of the code is named here. Assumes nothing.
 use mathlib.Core.Path.{◌≡◌, refl, sym}
+use mathlib.Core.Bool.{Bool, true, false}
 use Prim.Native.Nat.{ℕ, ◌+◌, ◌≤◌, ◌<◌}
 use native.Mathlib.Omega.{arith}
 use lib.Dec.{ltb, lit≤}
+use mir.Val.{bool_byte}
 use borrow.Author.Tests.{ltb-true, ltb-false, lt-ltb, le-ltb}
 use Rattle.terms.specs.Logic.{pick, by_case}
 use Rattle.table_text.specs.Digits.{further}
@@ -27,6 +29,11 @@ module _ (v : ℕ) where
 
   pub further_four : 1000 ≤ v → v < 10000 → further 9 v ≡ 3
   further_four l h = sym (count_end v 3 10000 (count_four v (omega arith) l) h).0
+
+-- the number of a test
+pub bit_is : (b : Bool) → bool_byte b ≡ pick b 1 0
+bit_is true = refl
+bit_is false = refl
 
 abbrev sum_of : ℕ → ℕ
 sum_of v = pick (ltb 9 v) 1 0 + pick (ltb 99 v) 1 0 + pick (ltb 999 v) 1 0

@@ -27,13 +27,7 @@ fn quick_width(p: u64, y: u64, z: u64, v: u64) -> usize
     requires { (p < 4294967296) × (y < 4294967296) × (z < 4294967296) × (v ≡ apart p y) }
     ensures { (result ≤ 81) × (result ≤ 80 → (result ≡ lone p y z) × (result ≡ 1 + further 9 v) × (v < 10000)) }
 {
-    if y == 0 {
-        return 81;
-    }
-    if p + z == y + y {
-        return 81;
-    }
-    if 9999 < v {
+    if y == 0 || p + z == y + y || 9999 < v {
         return 81;
     }
     1 + small_further(v)
@@ -80,12 +74,9 @@ pub fn state_after(s: State, i: usize, p: u64, column: usize) -> State
     requires { (s.column ≤ column) × (column ≤ 2 ^ 59) × (s.at < 2 ^ 59) }
     ensures { result ≡ difference_state s i p column }
 {
-    let start = s.column;
-    let before = s.at;
-    let at = before + (column - start);
     State {
         given: i,
-        at,
+        at: s.at + (column - s.column),
         column,
         last: p,
         dif: true,
@@ -97,30 +88,25 @@ fn put_lone(t: &[u8; 200], k: &[u32; 4], ys: &[i32], out: &mut [u8], s: State) -
     requires { Scales t.now k.now × Countable (2 ^ 58) ys.now s × (s.given < length ys.now) × (s.dif ≡ true) × (0 < s.last) × (s.at - s.column + 83 ≤ length out.old) }
     ensures { Stored (ordinates ys.now) s out.old out.new result × (result.given < length ys.now) }
 {
-    let n = ys.len();
     let line = s.at - s.column;
-    let mut i = s.given;
     let mut p = s.last;
     let mut column = s.column;
-    let mut y = ordinate_at(ys, i);
-    let mut next = i + 1;
-    while next < n {
+    let mut y = ordinate_at(ys, s.given);
+    for next in s.given + 1..ys.len() {
         let z = ordinate_at(ys, next);
         let v = distance(p, y);
         let width = quick_width(p, y, z, v);
         let all = column + width;
         if all > Frame::LONGEST_LINE {
-            return state_after(s, i, p, column);
+            return state_after(s, next - 1, p, column);
         }
         let base = base_of(p, y);
         put_small(t, k, out, line + column, base, v, width - 1);
-        i = next;
         p = y;
         column = all;
         y = z;
-        next = i + 1;
     }
-    state_after(s, i, p, column)
+    state_after(s, ys.len() - 1, p, column)
 }
 
 // The same from any state: nothing is done where the last value is not in DIF form, or the line is not lent with three bytes after it.
@@ -129,13 +115,7 @@ pub fn put_differences(t: &[u8; 200], k: &[u32; 4], ys: &[i32], out: &mut [u8], 
     ensures { Stored (ordinates ys.now) s out.old out.new result × (result.given < length ys.now) }
 {
     let line = s.at - s.column;
-    if s.last == 0 {
-        return s;
-    }
-    if !s.dif {
-        return s;
-    }
-    if out.len() < line + 83 {
+    if s.last == 0 || !s.dif || out.len() < line + 83 {
         return s;
     }
     put_lone(t, k, ys, out, s)

@@ -26,15 +26,12 @@ fn pass(ys: &[i32], text: &mut [u8], fr: Frame) -> usize
     requires { Sound fr × (length ys.now ≡ fr.points) }
     ensures { Put text.old 0 text.new result (lines_of Difdup (head_of fr) (ordinates ys.now)) }
 {
-    let n = ys.len();
     let t = PAIRS;
     let k = SCALES;
     let mut s = begin(text, fr);
-    let mut i = 0;
-    while i < n {
+    while s.given < ys.len() {
         let r = put_differences(&t, &k, ys, text, s);
         s = turn(ys, text, fr, r);
-        i = s.given;
     }
     finish(text, fr, s)
 }
@@ -43,12 +40,7 @@ fn pass(ys: &[i32], text: &mut [u8], fr: Frame) -> usize
 fn is_full(style: Style) -> bool
     ensures { result ≡ in_full style }
 {
-    match style {
-        Style::Difdup => false,
-        Style::Affn => true,
-        Style::Pac => true,
-        Style::Sqz => true,
-    }
+    !matches!(style, Style::Difdup)
 }
 
 // The text in a form, from the start of the lent bytes, which hold it. Its length.
@@ -79,10 +71,6 @@ pub fn fits(style: Style, ys: &[i32], fr: Frame, room: usize) -> bool
     requires { Sound fr × (length ys.now ≡ fr.points) }
     ensures { result ≡ leb (length (lines_of style (head_of fr) (ordinates ys.now))) room }
 {
-    let n = fr.points;
-    if BYTES_A_POINT * n + BYTES_BESIDE <= room {
-        return true;
-    }
-    let needed = length_of(style, ys, fr);
-    needed <= room
+    let enough = BYTES_A_POINT * fr.points + BYTES_BESIDE;
+    enough <= room || length_of(style, ys, fr) <= room
 }

@@ -19,10 +19,7 @@ fn is_again(t: Token, q: u64, z: u64) -> bool
     requires { SmallToken t × (q < 4294967296) × (z < 4294967296) }
     ensures { result ≡ again t q z }
 {
-    if q + t.up != z + t.down {
-        return false;
-    }
-    (0 < z) == t.dif
+    q + t.up == z + t.down && (0 < z) == t.dif
 }
 
 // How many ordinates from a place on have the token again, after p.
@@ -30,18 +27,15 @@ fn copies_of(ys: &[i32], start: usize, t: Token, p: u64) -> usize
     requires { SmallToken t × (p < 4294967296) × (start ≤ length ys.now) }
     ensures { (result ≡ run t p (drop start (ordinates ys.now))) × (start + result ≤ length ys.now) }
 {
-    let n = ys.len();
     let mut q = p;
-    let mut k = start;
-    while k < n {
+    for k in start..ys.len() {
         let z = ordinate_at(ys, k);
         if !is_again(t, q, z) {
             return k - start;
         }
         q = z;
-        k = k + 1;
     }
-    k - start
+    ys.len() - start
 }
 
 // The bytes of the DUP for m more of a token.

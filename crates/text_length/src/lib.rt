@@ -4,7 +4,7 @@
 ghost use Rattle.std.specs.Prelude.{◌≡◌, true, ◌+◌, ◌^◌, ◌≤◌, ◌<◌, length};
 ghost use Rattle.table_spec.specs.declared.Style.TheVariants.{Difdup};
 ghost use Rattle.table_spec.specs.Writing.{lines_of};
-ghost use Rattle.text_tokens.specs.Tokens.{Found, lone};
+ghost use Rattle.text_tokens.specs.Tokens.{lone};
 ghost use Rattle.frame.specs.Legal.{Sound};
 ghost use Rattle.table_text.specs.Pieces.{head_of, ordinates};
 ghost use Rattle.text_openings.specs.Lines.{from, PointsLeft, Countable, Wrote, Counted, Full};
@@ -14,19 +14,15 @@ use signed::ordinate_at;
 use text_differences::state_after;
 use text_ends::{begin, finish};
 use text_groups::find;
-use text_openings::{State, new_line};
+use text_openings::{State, after_group, new_line};
 use text_points::{count_repeated, dif_width};
-use text_tokens::Group;
 
 // The bytes of the DIF for y after p, if it stands alone before z; else more than a line has: y is missing, or z may have the same DIF.
 fn lone_width(p: u64, y: u64, z: u64) -> usize
     requires { (p < 4294967296) × (y < 4294967296) × (z < 4294967296) }
     ensures { (result ≡ lone p y z) × (result ≤ 81) }
 {
-    if y == 0 {
-        return 81;
-    }
-    if p + z == y + y {
+    if y == 0 || p + z == y + y {
         return 81;
     }
     dif_width(p, y)
@@ -37,25 +33,20 @@ fn lone_differences(ys: &[i32], s: State) -> State
     requires { Countable (2 ^ 58) ys.now s × (s.given < length ys.now) × (s.dif ≡ true) × (0 < s.last) }
     ensures { Counted (ordinates ys.now) s result × (result.given < length ys.now) × (result.dif ≡ true) × (0 < result.last) }
 {
-    let n = ys.len();
-    let mut i = s.given;
     let mut p = s.last;
     let mut column = s.column;
-    let mut y = ordinate_at(ys, i);
-    let mut next = i + 1;
-    while next < n {
+    let mut y = ordinate_at(ys, s.given);
+    for next in s.given + 1..ys.len() {
         let z = ordinate_at(ys, next);
         let all = column + lone_width(p, y, z);
         if all > Frame::LONGEST_LINE {
-            return state_after(s, i, p, column);
+            return state_after(s, next - 1, p, column);
         }
-        i = next;
         p = y;
         column = all;
         y = z;
-        next = i + 1;
     }
-    state_after(s, i, p, column)
+    state_after(s, ys.len() - 1, p, column)
 }
 
 // The same from any state, and then the groups that repeat a difference, where one does.
@@ -63,36 +54,11 @@ fn count_differences(ys: &[i32], s: State) -> State
     requires { Countable (2 ^ 58) ys.now s × (s.given < length ys.now) }
     ensures { Counted (ordinates ys.now) s result × (result.given < length ys.now) }
 {
-    if s.last == 0 {
+    if s.last == 0 || !s.dif {
         return s;
     }
-    if s.dif {
-        let t = lone_differences(ys, s);
-        return count_repeated(ys, t);
-    }
-    s
-}
-
-// The state after the group g.
-fn count_group(ys: &[i32], s: State, g: Group) -> State
-    requires { Found (ordinates ys.now) s.given s.last g × (s.column + g.width ≤ 80) × (length ys.now ≤ 65536) × (s.column ≤ s.at) × (s.at < 2 ^ 59) }
-    ensures { Counted (ordinates ys.now) s result × (s.given < result.given) }
-{
-    let i = s.given;
-    let at = s.at;
-    let column = s.column;
-    let more = g.more;
-    let width = g.width;
-    let dif = g.dif;
-    let index = i + more;
-    let last = ordinate_at(ys, index);
-    State {
-        given: index + 1,
-        at: at + width,
-        column: column + width,
-        last,
-        dif,
-    }
+    let t = lone_differences(ys, s);
+    count_repeated(ys, t)
 }
 
 // The groups that fit on the line.
@@ -100,19 +66,14 @@ fn count_line(ys: &[i32], s: State) -> State
     requires { Countable (2 ^ 57) ys.now s × (s.given ≤ length ys.now) }
     ensures { Counted (ordinates ys.now) s result × Full (ordinates ys.now) s result }
 {
-    let n = ys.len();
     let mut r = s;
-    let mut i = s.given;
-    while i < n {
+    while r.given < ys.len() {
         let t = count_differences(ys, r);
         let g = find(ys, t.given, t.last);
-        let column = t.column;
-        let width = g.width;
-        if column + width > Frame::LONGEST_LINE {
+        if t.column + g.width > Frame::LONGEST_LINE {
             return t;
         }
-        r = count_group(ys, t, g);
-        i = r.given;
+        r = after_group(ys, t, g);
     }
     r
 }
@@ -135,12 +96,9 @@ pub fn measure(ys: &[i32], none: &mut [u8], fr: Frame) -> usize
     requires { Sound fr × (length ys.now ≡ fr.points) × (length none.old ≡ 0) }
     ensures { result ≡ length (lines_of Difdup (head_of fr) (ordinates ys.now)) }
 {
-    let n = ys.len();
     let mut s = begin(none, fr);
-    let mut i = 0;
-    while i < n {
+    while s.given < ys.len() {
         s = count_turn(ys, none, fr, s);
-        i = s.given;
     }
     finish(none, fr, s)
 }

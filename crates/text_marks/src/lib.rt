@@ -23,6 +23,7 @@ pub struct Marks {
 }
 
 // The marks of a form. DIFDUP writes its values in full as SQZ does.
+#[tactic(auto, unfolding(crate::specs::Shows::marks_of))]
 pub fn marks_of(style: Style) -> Marks
     ensures { result ≡ marks_of style }
 {
@@ -43,15 +44,7 @@ pub fn marks_of(style: Style) -> Marks
             plus: DIGIT,
             minus: DIGIT,
         },
-        Style::Sqz => Marks {
-            gap: false,
-            up: false,
-            down: false,
-            signed: false,
-            plus: SQZ,
-            minus: SQZ_MINUS,
-        },
-        Style::Difdup => Marks {
+        Style::Sqz | Style::Difdup => Marks {
             gap: false,
             up: false,
             down: false,
@@ -66,10 +59,7 @@ pub fn marks_of(style: Style) -> Marks
 pub fn mark_width(yes: bool) -> usize
     ensures { (result ≡ pick yes 1 0) × (result ≤ 1) }
 {
-    if yes {
-        return 1;
-    }
-    0
+    usize::from(yes)
 }
 
 // The bytes of the value that an ordinate is.
@@ -78,16 +68,10 @@ pub fn width_of(d: &[u64; 32], m: Marks, u: u64) -> usize
     ensures { (result ≡ length (shown m u)) × (result ≤ 12) }
 {
     if ZERO_ORDINATE <= u {
-        let space = mark_width(m.up);
-        let digits = digits_in(d, u - ZERO_ORDINATE);
-        return space + digits;
+        return mark_width(m.up) + digits_in(d, u - ZERO_ORDINATE);
     }
     if u == 0 {
-        let space = mark_width(m.gap);
-        return space + 1;
+        return mark_width(m.gap) + 1;
     }
-    let space = mark_width(m.down);
-    let minus = mark_width(m.signed);
-    let digits = digits_in(d, ZERO_ORDINATE - u);
-    space + minus + digits
+    mark_width(m.down) + mark_width(m.signed) + digits_in(d, ZERO_ORDINATE - u)
 }

@@ -115,7 +115,7 @@ module _ (hd : ℕ → List ℕ) (ys : List ℕ) where
 
   -- ---- the whole
 
-  pub starts : (o : List ℕ) (s : State) (n : ℕ) → s ≡ start n → n ≤ 15 → Going hd ys o s o s 0
+  pub starts : (o : List ℕ) (s : State) (n : ℕ) → s ≡ start n → n ≤ 15 → Going hd ys o s o s s.given
   starts o s n e h = rw e (begun o n h)
     where
       begun : (o : List ℕ) (n : ℕ) → n ≤ 15 → Going hd ys o (start n) o (start n) 0

@@ -4,6 +4,7 @@ use Rattle.terms.specs.Logic.{pick}
 use Rattle.table_spec.specs.Writing.{check, text}
 use Rattle.frame.specs.declared.Frame.{Frame}
 use Rattle.frame.specs.Legal.{Sound}
+use Rattle.text_tokens.specs.declared.Group.{Group}
 use Rattle.text_openings.specs.declared.State.{State}
 use Rattle.table_text.specs.Pieces.{Put, Ahead}
 use Rattle.text_tokens.specs.Tokens.{count_at, group_at, dif_at}
@@ -50,6 +51,10 @@ pub record Countable (far : ℕ) (es : List ℤ) (s : State) : Type 0 where
 -- the state after the start of a new line, at the place b
 abbrev pub line_state : State → ℕ → State
 line_state s b = record { given = s.given; at = b; column = b - (s.at + 2); last = pick s.dif s.last 0; dif = s.dif }
+
+-- the state after the group g
+abbrev pub group_state : List ℕ → State → Group → State
+group_state ys s g = record { given = s.given + g.more + 1; at = s.at + g.width; column = s.column + g.width; last = get_or ys (s.given + g.more) 0; dif = g.dif }
 
 -- the start of a new line was stored, and the state is that after it
 pub record NewLine (head_of : ℕ → List ℕ) (s : State) (o o' : List ℕ) (r : State) : Type 0 where

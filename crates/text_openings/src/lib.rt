@@ -1,18 +1,20 @@
-// How a line begins (01, "The written text"): a head, or a check line's head and value. Inner functions: the frame is a sound one, and places are far from the largest number.
+// How a line begins (01, "The written text"): a head, or a check line's head and value; and how far the writing has come after a group. Inner functions: the frame is a sound one, and places are far from the largest number.
 #![tactic(auto)]
 
-ghost use Rattle.std.specs.Prelude.{true, false, ◌+◌, ◌^◌, ◌≤◌, ◌<◌};
+ghost use Rattle.std.specs.Prelude.{◌≡◌, ◌+◌, ◌^◌, ◌≤◌, ◌<◌, length};
 ghost use Rattle.table_spec.specs.declared.Style.TheVariants.{Difdup};
 ghost use Rattle.table_spec.specs.Writing.{check};
 ghost use Rattle.table_spec.specs.Groups.{sqz_text};
 ghost use Rattle.frame.specs.Legal.{Sound};
-ghost use Rattle.table_text.specs.Pieces.{Put, head_of};
-ghost use Rattle.text_openings.specs.Lines.{opening, Started, NewLine};
+ghost use Rattle.table_text.specs.Pieces.{Put, head_of, ordinates};
+ghost use Rattle.text_tokens.specs.Tokens.{Found};
+ghost use Rattle.text_openings.specs.Lines.{opening, Started, NewLine, group_state};
 
 use frame::Frame;
-use signed::ZERO_ORDINATE;
+use signed::{ZERO_ORDINATE, ordinate_at};
 use table_text::digits::{SQZ, SQZ_MINUS, further_digits, put_end, put_number};
 use text_heads::put_head;
+use text_tokens::Group;
 
 // How far the writing has come: points given, the place after the last byte, the bytes of the line so far, the last ordinate, and whether its form is DIF.
 #[derive(Clone, Copy)]
@@ -67,26 +69,28 @@ pub fn new_line(out: &mut [u8], fr: Frame, s: State) -> State
     requires { Sound fr × Started s × (s.given < fr.points) × (s.at < 2 ^ 57) }
     ensures { NewLine (head_of fr) s out.old out.new result }
 {
-    let given = s.given;
-    let at = s.at;
-    let last = s.last;
-    let a = put_end(out, at);
+    let a = put_end(out, s.at);
     let b = put_opening(out, a, fr, s);
-    let column = b - a;
-    if s.dif {
-        return State {
-            given,
-            at: b,
-            column,
-            last,
-            dif: true,
-        };
-    }
     State {
-        given,
+        given: s.given,
         at: b,
-        column,
-        last: 0,
-        dif: false,
+        column: b - a,
+        last: if s.dif { s.last } else { 0 },
+        dif: s.dif,
+    }
+}
+
+// The state after the group g, whether its bytes are stored or only counted.
+pub fn after_group(ys: &[i32], s: State, g: Group) -> State
+    requires { Found (ordinates ys.now) s.given s.last g × (length ys.now ≤ 65536) × (s.column ≤ s.at) × (s.at < 2 ^ 59) }
+    ensures { (result ≡ group_state (ordinates ys.now) s g) × (result.last < 4294967296) }
+{
+    let index = s.given + g.more;
+    State {
+        given: index + 1,
+        at: s.at + g.width,
+        column: s.column + g.width,
+        last: ordinate_at(ys, index),
+        dif: g.dif,
     }
 }

@@ -21,9 +21,7 @@ pub fn dif_width(p: u64, y: u64) -> usize
     requires { (p < 4294967296) × (y < 4294967296) }
     ensures { (result ≡ 1 + further 9 (apart p y)) × (result ≤ 10) }
 {
-    let v = distance(p, y);
-    let further = further_digits(v);
-    1 + further
+    1 + further_digits(distance(p, y))
 }
 
 // The bytes that one point more adds to a group that has `more` after its first: its DUP, or the DUP's second digit. Where it would be the third, more than a line has.
@@ -33,33 +31,14 @@ fn copy_width(more: usize) -> usize
     if 97 < more {
         return 81;
     }
-    if more == 0 {
-        return 1;
-    }
-    if more == 8 {
-        return 1;
-    }
-    0
+    usize::from(more == 0 || more == 8)
 }
 
-// One of two ordinates: a choice that the compiler makes no jump of.
-fn ordinate_if(yes: bool, a: u64, b: u64) -> u64
+// One of two numbers: a choice that the compiler makes no jump of.
+fn one_of<T: Copy>(yes: bool, a: T, b: T) -> T
     ensures { result ≡ pick yes a b }
 {
-    if yes {
-        return a;
-    }
-    b
-}
-
-// One of two numbers of bytes or of points.
-fn width_if(yes: bool, a: usize, b: usize) -> usize
-    ensures { result ≡ pick yes a b }
-{
-    if yes {
-        return a;
-    }
-    b
+    if yes { a } else { b }
 }
 
 // The groups from the next point on, the ordinate `first`, whose DIF alone ends at the column `wide`, as long as they fit. The state before the last of them, which may go on.
@@ -67,15 +46,13 @@ fn count_points(ys: &[i32], s: State, first: u64, wide: usize) -> State
     requires { Countable (2 ^ 59) ys.now s × (s.given < length ys.now) × (s.dif ≡ true) × (0 < s.last) × Opens (ordinates ys.now) s first wide }
     ensures { Counted (ordinates ys.now) s result × (result.given < length ys.now) }
 {
-    let n = ys.len();
     let mut p = s.last;
     let mut y = first;
     let mut before = p;
     let mut start = s.column;
     let mut column = wide;
     let mut more = 0;
-    let mut next = s.given + 1;
-    while next < n {
+    for next in s.given + 1..ys.len() {
         let z = ordinate_at(ys, next);
         if z == 0 {
             return state_after(s, next - 1 - more, before, start);
@@ -83,19 +60,18 @@ fn count_points(ys: &[i32], s: State, first: u64, wide: usize) -> State
         let again = p + z == y + y;
         let width = dif_width(y, z);
         let copy = copy_width(more);
-        let wider = width_if(again, copy, width);
-        before = ordinate_if(again, before, y);
-        start = width_if(again, start, column);
-        more = width_if(again, more + 1, 0);
-        column = column + wider;
+        let wider = one_of(again, copy, width);
+        before = one_of(again, before, y);
+        start = one_of(again, start, column);
+        more = one_of(again, more + 1, 0);
+        column += wider;
         if column > Frame::LONGEST_LINE {
             return state_after(s, next - more, before, start);
         }
         p = y;
         y = z;
-        next = next + 1;
     }
-    state_after(s, next - 1 - more, before, start)
+    state_after(s, ys.len() - 1 - more, before, start)
 }
 
 // The same from a state after differences that stand alone: nothing is done where the next one stands alone too.
@@ -103,19 +79,14 @@ pub fn count_repeated(ys: &[i32], s: State) -> State
     requires { Countable (2 ^ 59) ys.now s × (s.given < length ys.now) × (s.dif ≡ true) × (0 < s.last) }
     ensures { Counted (ordinates ys.now) s result × (result.given < length ys.now) }
 {
-    let n = ys.len();
-    let i = s.given;
     let p = s.last;
-    let next = i + 1;
-    if next >= n {
+    let next = s.given + 1;
+    if next >= ys.len() {
         return s;
     }
-    let y = ordinate_at(ys, i);
+    let y = ordinate_at(ys, s.given);
     let z = ordinate_at(ys, next);
-    if y == 0 {
-        return s;
-    }
-    if p + z != y + y {
+    if y == 0 || p + z != y + y {
         return s;
     }
     let wide = s.column + dif_width(p, y);

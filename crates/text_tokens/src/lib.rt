@@ -52,16 +52,6 @@ fn own_token(y: u64) -> Token
     }
 }
 
-// How far a number is above another, 0 if it is not.
-fn above(a: u64, b: u64) -> u64
-    ensures { result ≡ a - b }
-{
-    if b < a {
-        return a - b;
-    }
-    0
-}
-
 // What the first digit of the DIF for y after p is added to.
 pub fn base_of(p: u64, y: u64) -> u64
     ensures { (result ≡ lead_of p y) × (result ≤ 105) }
@@ -80,13 +70,11 @@ fn dif_token(p: u64, y: u64) -> Token
     requires { (0 < p) × (p < 4294967296) × (0 < y) × (y < 4294967296) }
     ensures { TokenFor p y result }
 {
-    let base = base_of(p, y);
-    let up = above(y, p);
-    let down = above(p, y);
-    let size = up + down;
+    let up = y.saturating_sub(p);
+    let down = p.saturating_sub(y);
     Token {
-        base,
-        size,
+        base: base_of(p, y),
+        size: up + down,
         up,
         down,
         dif: true,

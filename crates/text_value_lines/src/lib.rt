@@ -34,12 +34,10 @@ pub fn fill_line(
     requires { Tables t.now d.now × Based m × Opened (length ys.now) s × Room (shown m) (map ordinate_of ys.now) s (length out.old) }
     ensures { Filled (shown m) (map ordinate_of ys.now) s out.old out.new result }
 {
-    let n = ys.len();
     let line = s.at - s.column;
     let full = line + Frame::LONGEST_LINE;
-    let mut i = s.given;
     let mut at = s.at;
-    while i < n {
+    for i in s.given..ys.len() {
         let u = ordinate_at(ys, i);
         let next = at + width_of(d, m, u);
         if full < next {
@@ -51,26 +49,23 @@ pub fn fill_line(
         }
         put_value(t, m, out, at, next, u);
         at = next;
-        i = i + 1;
     }
     State {
-        given: i,
+        given: ys.len(),
         at,
         column: at - line,
     }
 }
 
-// The same with nothing lent: the values are counted.
+// The same with nothing lent: the values are counted. A loop of its own: one loop for both would take a table of digits that it does not read, and claim less plainly what is lent.
 pub fn count_line(d: &[u64; 32], m: Marks, ys: &[i32], s: State) -> State
     requires { (d.now ≡ counts) × Opened (length ys.now) s }
     ensures { Filled (shown m) (map ordinate_of ys.now) s [] [] result }
 {
-    let n = ys.len();
     let line = s.at - s.column;
     let full = line + Frame::LONGEST_LINE;
-    let mut i = s.given;
     let mut at = s.at;
-    while i < n {
+    for i in s.given..ys.len() {
         let u = ordinate_at(ys, i);
         let next = at + width_of(d, m, u);
         if full < next {
@@ -81,10 +76,9 @@ pub fn count_line(d: &[u64; 32], m: Marks, ys: &[i32], s: State) -> State
             };
         }
         at = next;
-        i = i + 1;
     }
     State {
-        given: i,
+        given: ys.len(),
         at,
         column: at - line,
     }

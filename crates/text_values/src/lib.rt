@@ -19,15 +19,14 @@ use text_heads::{head_bytes, put_head};
 use text_marks::{Marks, marks_of};
 use text_value_lines::{State, count_line, fill_line, store_end};
 
-// The whole text from the start of the lent bytes, which hold it, a line at a time. Its length.
+// The whole text from the start of the lent bytes, which hold it, a line at a time. Its length. A loop by hand: a turn takes the points of a line, as many as fit.
 fn pass(t: &[u8; 200], d: &[u64; 32], m: Marks, ys: &[i32], text: &mut [u8], fr: Frame) -> usize
     requires { Tables t.now d.now × Based m × Sound fr × (length ys.now ≡ fr.points) × (length (whole m fr (map ordinate_of ys.now)) ≤ length text.old) }
     ensures { Put text.old 0 text.new result (whole m fr (map ordinate_of ys.now)) }
 {
-    let n = ys.len();
     let mut i = 0;
     let mut at = 0;
-    while i < n {
+    while i < ys.len() {
         let head = put_head(text, at, fr, i);
         let s = State {
             given: i,
@@ -41,15 +40,14 @@ fn pass(t: &[u8; 200], d: &[u64; 32], m: Marks, ys: &[i32], text: &mut [u8], fr:
     at
 }
 
-// The same with nothing lent: the length of the text.
+// The same with nothing lent: the length of the text. A loop of its own, since nothing that it calls is what the other calls.
 fn count(d: &[u64; 32], m: Marks, ys: &[i32], fr: Frame) -> usize
     requires { (d.now ≡ counts) × Sound fr × (length ys.now ≡ fr.points) }
     ensures { result ≡ length (whole m fr (map ordinate_of ys.now)) }
 {
-    let n = ys.len();
     let mut i = 0;
     let mut at = 0;
-    while i < n {
+    while i < ys.len() {
         let column = head_bytes(fr, i);
         let s = State {
             given: i,

@@ -4,6 +4,7 @@ use mathlib.Core.Path.{sym, ◌∙◌, ap}
 use Prim.Native.Nat.{◌-◌}
 use Rattle.spool_record.proofs.RecordLaws.{record_over, record_full, record_short, record_first, record_second, record_long, record_file}
 use Rattle.spool_record.proofs.record_at.Goals as goal
+use Rattle.spool_record.proofs.record_at.Goals.{then-s-at-ne74-via-then-s-at-ne74, then-s-at-ne74-via-else-s-at-ne74+then-s-at-ne68}
 
 pub returns-then-len-at : goal.returns-then-len-at
 returns-then-len-at c = sym (record_over _ _ _ c.if-len-at.true)
@@ -16,11 +17,13 @@ returns-then-rest-lt5 c = (ap Err c.new-then-rest-lt5.ensures) ∙ sym (record_s
 
 pub returns-then-s-at-ne74 : goal.returns-then-s-at-ne74
 returns-then-s-at-ne74 c =
-    (ap Err c.new-then-s-at-ne74.ensures) ∙ sym (record_first _ _ _ c.if-len-at.false c.if-left-eq0.false c.if-rest-lt5.false c.if-s-at-ne74.true)
-
-pub returns-then-s-at-ne68 : goal.returns-then-s-at-ne68
-returns-then-s-at-ne68 c =
-    (ap Err c.new-then-s-at-ne68.ensures) ∙ sym (record_second _ _ _ c.if-len-at.false c.if-left-eq0.false c.if-rest-lt5.false c.if-s-at-ne74.false c.if-s-at-ne68.true)
+    (ap Err c.new-then-s-at-ne74.ensures)
+    ∙ sym
+    (elim c.then-s-at-ne74.branch [
+      | then-s-at-ne74-via-then-s-at-ne74 w ↦ record_first _ _ _ c.if-len-at.false c.if-left-eq0.false c.if-rest-lt5.false w.if-s-at-ne74.true
+      | then-s-at-ne74-via-else-s-at-ne74+then-s-at-ne68 w ↦
+          record_second _ _ _ c.if-len-at.false c.if-left-eq0.false c.if-rest-lt5.false w.if-s-at-ne74.false w.if-s-at-ne68.true
+    ])
 
 pub returns-then-size-rest : goal.returns-then-size-rest
 returns-then-size-rest c =

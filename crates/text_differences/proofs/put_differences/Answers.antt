@@ -12,18 +12,6 @@ returns-then-s-eq0 c =
     let p = c.requires in
     (stored_none _ a.s _ p.1.started (omega (arith, p.2, length-map a.ys.now ordinate_of)) p.1.column_most, p.2)
 
-pub returns-then-not-s : goal.returns-then-not-s
-returns-then-not-s c =
-    let a = c.args in
-    let p = c.requires in
-    (stored_none _ a.s _ p.1.started (omega (arith, p.2, length-map a.ys.now ordinate_of)) p.1.column_most, p.2)
-
-pub returns-then-out-line : goal.returns-then-out-line
-returns-then-out-line c =
-    let a = c.args in
-    let p = c.requires in
-    (stored_none _ a.s _ p.1.started (omega (arith, p.2, length-map a.ys.now ordinate_of)) p.1.column_most, p.2)
-
 pub put_lone-requires : goal.put_lone-requires
 put_lone-requires c =
     let p = c.requires in

@@ -14,7 +14,8 @@ loop-next-init c =
     let p = c.requires in
     let y = c.ordinate_at-y.ensures in
     let t = lone_start (ordinates a.ys.now) a.s _ p.1.started p.3 p.4 (omega (arith, p.2, length-map a.ys.now ordinate_of)) p.1.column_most y.0 y.1 in
-    (t, stored_start _ _ _ p.3 t.counted)
+    let given : a.s.given + 1 - 1 ≡ a.s.given = omega arith in
+    rw given (t, stored_start _ _ _ p.3 t.counted)
 
 pub quick_width-width-requires : goal.quick_width-width-requires
 quick_width-width-requires c = let t = c.loop-next.invariant.0 in (t.counted.started.small, t.small, c.ordinate_at-z.ensures.1, c.distance-v.ensures)
@@ -67,9 +68,6 @@ put_small-requires c =
     let q = c.quick_width-width.ensures.1 (omega (arith, fits)) in
     (p.0, c.base_of-base.ensures.1, q.2, omega (arith, q.1), omega (arith, fits, q.1, p.5, same))
 
-pub loop-next-smaller : goal.loop-next-smaller
-loop-next-smaller c = omega (arith, c.loop-next-test.true)
-
 pub loop-next-preserved : goal.loop-next-preserved
 loop-next-preserved c =
     let p = c.requires in
@@ -83,7 +81,9 @@ loop-next-preserved c =
     let more : c.loop-next.next < length (ordinates a.ys.now) = omega (arith, c.loop-next-test.true, length-map a.ys.now ordinate_of) in
     let place : a.s.at - a.s.column + c.loop-next.column ≡ a.s.at + (c.loop-next.column - a.s.column) = omega (arith, p.1.column_most) in
     let over = rw place at c.put_small.ensures in
-    let b = c.base_of-base.ensures.0 in (
+    let b = c.base_of-base.ensures.0 in
+    let given : c.loop-next.next + 1 - 1 ≡ c.loop-next.next = omega arith in
+    rw given (
       lone_next _ _ t _ _ more z.0 z.1 q.0 fits,
       lone_stored _ _ t _ _ _ _ c.loop-next.invariant.1 more z.0 z.1 q.0 fits c.distance-v.ensures b over,
     )
@@ -102,5 +102,5 @@ returns c =
     let a = c.args in
     let t = c.loop-next.invariant.0 in
     let high = t.high in
-    let inside = t.inside in
-    rw c.state_after-2.ensures (c.loop-next.invariant.1, omega (arith, length-map a.ys.now ordinate_of))
+    let all : c.loop-next.next ≡ length a.ys.now = omega (arith, p.2, c.loop-next-test.false) in
+    rw (c.state_after-2.ensures, ← all) (c.loop-next.invariant.1, omega (arith, length-map a.ys.now ordinate_of))

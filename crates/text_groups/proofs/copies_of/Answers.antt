@@ -1,8 +1,8 @@
 -- `text_groups::copies_of` meets its contract: how many ordinates from a place on have the token again, after p.
 use Prim.Native.Nat.{◌-◌}
 use native.Mathlib.Omega.{arith}
-use mathlib.Core.Path.{sym, ◌∙◌}
-use lib.ListN.{length-map}
+use mathlib.Core.Path.{◌≡◌, sym, ◌∙◌}
+use lib.ListN.{length, length-map}
 use Rattle.table_spec.specs.Frame.{ordinate_of}
 use Rattle.table_text.specs.Pieces.{ordinates}
 use Rattle.text_tokens.proofs.TokenSteps.{copies_start, copies_more, copies_stop, copies_out}
@@ -33,4 +33,5 @@ overflow_sub-result-2 c = omega (arith, c.loop-k.invariant.on)
 pub returns : goal.returns
 returns c = let a = c.args in let l = length-map a.ys.now ordinate_of in
     let z = copies_out (ordinates a.ys.now) a.start a.t a.p c.loop-k.invariant (omega (arith, c.loop-k-test.false)) in
-    (z.0, omega (arith, z.1))
+    let e : c.loop-k.k ≡ length a.ys.now = omega (arith, c.requires.2, c.loop-k-test.false) in
+    rw (← e) (z.0, omega (arith, z.1))

@@ -20,11 +20,5 @@ count_repeated-requires c =
     let near = counted_near _ e.0 (omega (arith, p.few, length-map a.ys.now ordinate_of)) in
     (record { started = e.0.started; few = p.few; column_most = e.0.column_most; near = omega (arith, p.near) }, e.1, e.2, e.3)
 
-pub returns-then-s : goal.returns-then-s
-returns-then-s c = (counted_then _ c.lone_differences-t.ensures.0 c.count_repeated.ensures.0, c.count_repeated.ensures.1)
-
 pub returns : goal.returns
-returns c =
-    let a = c.args in
-    let p = c.requires in
-    (counted_none _ a.s p.0.started (omega (arith, p.1, length-map a.ys.now ordinate_of)) p.0.column_most, p.1)
+returns c = (counted_then _ c.lone_differences-t.ensures.0 c.count_repeated.ensures.0, c.count_repeated.ensures.1)

@@ -3,12 +3,14 @@ use mathlib.Core.Path.{◌∙◌}
 use native.Mathlib.Omega.{arith}
 use Rattle.text_differences.proofs.LoneSteps.{lone_gap, lone_again, lone_alone}
 use Rattle.text_length.proofs.lone_width.Goals as goal
+use Rattle.text_length.proofs.lone_width.Goals.{then-y-eq0-via-then-y-eq0, then-y-eq0-via-else-y-eq0+then-p-z}
 
 pub returns-then-y-eq0 : goal.returns-then-y-eq0
-returns-then-y-eq0 c = (lone_gap _ _ _ c.if-y-eq0.true, omega arith)
-
-pub returns-then-p-z : goal.returns-then-p-z
-returns-then-p-z c = (lone_again _ _ _ c.if-y-eq0.false c.if-p-z.true, omega arith)
+returns-then-y-eq0 c =
+    elim c.then-y-eq0.branch [
+      | then-y-eq0-via-then-y-eq0 w ↦ (lone_gap _ _ _ w.if-y-eq0.true, omega arith)
+      | then-y-eq0-via-else-y-eq0+then-p-z w ↦ (lone_again _ _ _ w.if-y-eq0.false w.if-p-z.true, omega arith)
+    ]
 
 pub returns : goal.returns
 returns c =

@@ -1,9 +1,9 @@
 -- `text_points::count_points` meets its contract: the groups from a point on, point by point.
-use mathlib.Core.Path.{refl}
+use mathlib.Core.Path.{◌≡◌, refl}
 use Prim.Native.Nat.{◌+◌, ◌-◌}
 use native.Mathlib.Omega.{arith}
 use lib.Dec.{eqb}
-use lib.ListN.{length-map}
+use lib.ListN.{length, length-map}
 use Rattle.table_spec.specs.Frame.{ordinate_of}
 use Rattle.text_points.proofs.PointSteps.{pick_most, points_start, points_reach, points_counted, points_next}
 use Rattle.text_points.proofs.count_points.Goals as goal
@@ -56,7 +56,7 @@ overflow_add-column c =
     let fits = t.invariant.fits in
     let z = c.ordinate_at-z.result in
     let m = pick_most (eqb (t.p + z) (t.y + t.y)) _ _ c.copy_width-copy.ensures.0 c.dif_width-width.ensures.1 in
-    omega (arith, c.width_if-wider.ensures, m)
+    omega (arith, c.one_of-wider.ensures, m)
 
 pub overflow_sub-next-then-column-gt-LONGEST_LINE : goal.overflow_sub-next-then-column-gt-LONGEST_LINE
 overflow_sub-next-then-column-gt-LONGEST_LINE c =
@@ -66,7 +66,7 @@ overflow_sub-next-then-column-gt-LONGEST_LINE c =
     let j = c.loop-next-test.true in
     let left = c.if-z-eq0.false in
     let k = points_counted _ _ c.loop-next.invariant _ (omega (arith, j, l)) z.0 z.1 (omega (arith, left)) _ refl in
-    rw c.width_if-more.ensures k.3
+    rw c.one_of-more.ensures k.3
 
 pub state_after-requires-then-column-gt-LONGEST_LINE : goal.state_after-requires-then-column-gt-LONGEST_LINE
 state_after-requires-then-column-gt-LONGEST_LINE c =
@@ -76,7 +76,7 @@ state_after-requires-then-column-gt-LONGEST_LINE c =
     let j = c.loop-next-test.true in
     let left = c.if-z-eq0.false in
     let k = points_counted _ _ c.loop-next.invariant _ (omega (arith, j, l)) z.0 z.1 (omega (arith, left)) _ refl in
-    rw c.width_if-start.ensures (k.1, omega (arith, k.2), c.requires.0.near)
+    rw c.one_of-start.ensures (k.1, omega (arith, k.2), c.requires.0.near)
 
 pub returns-then-column-gt-LONGEST_LINE : goal.returns-then-column-gt-LONGEST_LINE
 returns-then-column-gt-LONGEST_LINE c =
@@ -87,11 +87,8 @@ returns-then-column-gt-LONGEST_LINE c =
     let left = c.if-z-eq0.false in
     let t = c.loop-next.invariant in
     let k = points_counted _ _ t _ (omega (arith, j, l)) z.0 z.1 (omega (arith, left)) _ refl in
-    rw (c.state_after-then-column-gt-LONGEST_LINE.ensures, c.width_if-more.ensures, c.ordinate_if-before.ensures, c.width_if-start.ensures)
+    rw (c.state_after-then-column-gt-LONGEST_LINE.ensures, c.one_of-more.ensures, c.one_of-before.ensures, c.one_of-start.ensures)
     (k.0, omega (arith, j))
-
-pub loop-next-smaller : goal.loop-next-smaller
-loop-next-smaller c = omega (arith, c.loop-next-test.true)
 
 pub loop-next-preserved : goal.loop-next-preserved
 loop-next-preserved c =
@@ -100,18 +97,12 @@ loop-next-preserved c =
     let z = c.ordinate_at-z.ensures in
     let j = c.loop-next-test.true in
     let left = c.if-z-eq0.false in
-    let w = c.width_if-wider.ensures in
+    let w = c.one_of-wider.ensures in
     let t = c.loop-next.invariant in
     let copy = c.copy_width-copy.ensures.1 in
     let width = c.dif_width-width.ensures.0 in
-    rw (c.ordinate_if-before.ensures, c.width_if-start.ensures, w, c.width_if-more.ensures)
+    rw (c.one_of-before.ensures, c.one_of-start.ensures, w, c.one_of-more.ensures)
     (points_next _ _ t _ (omega (arith, j, l)) z.0 z.1 (omega (arith, left)) _ _ _ refl copy width (rw w at c.if-column-gt-LONGEST_LINE.false))
-
-pub overflow_sub-next-2 : goal.overflow_sub-next-2
-overflow_sub-next-2 c = omega (arith, points_reach c.loop-next.invariant)
-
-pub overflow_sub-next-3 : goal.overflow_sub-next-3
-overflow_sub-next-3 c = omega (arith, points_reach c.loop-next.invariant)
 
 pub state_after-requires-2 : goal.state_after-requires-2
 state_after-requires-2 c =
@@ -124,5 +115,14 @@ pub returns : goal.returns
 returns c =
     let a = c.args in
     let t = c.loop-next.invariant in
+    let all : c.loop-next.next ≡ length a.ys.now = omega (arith, c.requires.1, c.loop-next-test.false) in
+    rw (c.state_after-2.ensures, ← all) (t.counted, omega (arith, points_reach t, length-map a.ys.now ordinate_of))
+
+pub overflow_sub-ys : goal.overflow_sub-ys
+overflow_sub-ys c = omega (arith, c.requires.1)
+
+pub overflow_sub-ys-2 : goal.overflow_sub-ys-2
+overflow_sub-ys-2 c =
+    let t = c.loop-next.invariant in
     let inside = t.inside in
-    rw c.state_after-2.ensures (t.counted, omega (arith, points_reach t, length-map a.ys.now ordinate_of))
+    omega (arith, points_reach t, length-map c.args.ys.now ordinate_of)

@@ -7,5 +7,5 @@ use Rattle.text_points.proofs.dif_width.Goals as goal
 
 pub returns : goal.returns
 returns c =
-    let n = c.further_digits-further.ensures in
-    (ap (λ (x : ℕ). 1 + x) (n.0 ∙ ap (further 9) c.distance-v.ensures), omega (arith, n.1))
+    let n = c.further_digits.ensures in
+    (ap (λ (x : ℕ). 1 + x) (n.0 ∙ ap (further 9) c.distance.ensures), omega (arith, n.1))

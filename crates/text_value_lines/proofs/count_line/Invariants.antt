@@ -1,7 +1,5 @@
 -- `text_value_lines::count_line` meets its contract: the values that fit on the line, one after the other, with nothing stored.
 use mathlib.Core.List.{[], map}
-use Prim.Native.Nat.{◌-◌}
-use lib.ListN.{length}
 use Rattle.table_spec.specs.Frame.{ordinate_of}
 use Rattle.text_marks.specs.Shows.{shown}
 use Rattle.text_value_lines.specs.Lines.{Filling}
@@ -9,6 +7,3 @@ use Rattle.text_value_lines.proofs.count_line.Given as goal
 
 abbrev pub invariant-loop-i : goal.invariant-loop-i
 invariant-loop-i l = Filling (shown l.m) (map ordinate_of l.ys) l.initial.i l.initial.at l.line [] [] l.i l.at
-
-abbrev pub decreases-loop-i : goal.decreases-loop-i
-decreases-loop-i l = length l.ys - l.i

@@ -1,8 +1,9 @@
 -- `text_value_lines::fill_line` meets its contract: the values that fit on the line, one after the other.
+use mathlib.Core.Path.{◌≡◌}
 use mathlib.Core.List.{map}
 use Prim.Native.Nat.{◌-◌}
 use native.Mathlib.Omega.{arith}
-use lib.ListN.{length-map}
+use lib.ListN.{length, length-map}
 use Rattle.table_spec.specs.Frame.{ordinate_of}
 use Rattle.text_marks.specs.Shows.{shown}
 use Rattle.text_value_lines.proofs.LineSteps.{filling_starts, filling_room, filling_more, filled_full, filled_end}
@@ -41,9 +42,6 @@ put_value-requires c =
           (omega (arith, c.loop-i-test.true, length-map a.ys.now ordinate_of)) c.ordinate_at-u.ensures.0 width c.if-full-next.false p.3,
     )
 
-pub loop-i-smaller : goal.loop-i-smaller
-loop-i-smaller c = let t = c.loop-i-test.true in omega arith
-
 pub loop-i-preserved : goal.loop-i-preserved
 loop-i-preserved c =
     let a = c.args in
@@ -56,5 +54,8 @@ overflow_sub-result-2 c = let behind = c.loop-i.invariant.behind in omega arith
 pub returns : goal.returns
 returns c =
     let a = c.args in
-    filled_end (shown a.m) (map ordinate_of a.ys.now) a.s (rw (length-map a.ys.now ordinate_of) c.requires.2) c.loop-i.invariant
-    (omega (arith, c.loop-i-test.false, length-map a.ys.now ordinate_of))
+    let left = c.requires.2.left in
+    let all : c.loop-i.i ≡ length a.ys.now = omega (arith, c.loop-i-test.false) in
+    rw (← all)
+    (filled_end (shown a.m) (map ordinate_of a.ys.now) a.s (rw (length-map a.ys.now ordinate_of) c.requires.2) c.loop-i.invariant
+    (omega (arith, c.loop-i-test.false, length-map a.ys.now ordinate_of)))
