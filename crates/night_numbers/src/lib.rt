@@ -15,11 +15,7 @@ const NONE: u64 = 18446744071562067968;
 fn number_of(u: u64) -> i64
     ensures { result ≡ number_of u }
 {
-    if u < 9223372036854775808 {
-        return u as i64;
-    }
-    let below = 18446744073709551615 - u;
-    -1 - below as i64
+    u.cast_signed()
 }
 
 // A number of the report, or the mark for `none`.
