@@ -20,30 +20,21 @@ const TABLE: [u8; 256] = [
     240, 240, 240, 240, 240, 240, 240, 240, 240, 240, 240, 240, 240, 240, 240,
 ];
 
-// Has the byte the kind and the digit of the old entry? If not, it is printed with both.
-fn alike(rt: &impl Print, b: u8, old: u8) -> io::Result<bool> {
-    let e = alphabet::entry_of(b);
-    if e / 16 == old as u64 / 16 {
-        if e % 16 == old as u64 % 16 {
-            return Ok(true);
-        }
-    }
-    println!(rt; "byte {b}: {e}, not {old}")?;
-    Ok(false)
-}
-
-// Compares every byte.
+// Compares every byte: one that has not the kind and the digit of the old entry is printed with both.
 fn main(rt: HostRuntime) -> io::Result<()> {
-    let t = TABLE;
     let mut same = true;
-    for b in 0u8..=255 {
-        if !alike(&rt, b, t[b as usize])? {
+    for (b, old) in (0u8..=255).zip(TABLE) {
+        let e = alphabet::entry_of(b);
+        if e != u64::from(old) {
+            println!(rt; "byte {b}: {e}, not {old}")?;
             same = false;
         }
     }
     if same {
-        let n = t.len();
-        println!(rt; "{n} bytes have the kind and the digit of the old table")?;
+        println!(rt;
+            "{} bytes have the kind and the digit of the old table",
+            TABLE.len()
+        )?;
     }
     Ok(())
 }

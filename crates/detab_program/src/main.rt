@@ -15,22 +15,15 @@ const BLOCK_NUMBERS: usize = 12288;
 
 // Converts the data block that stands from one place up to another: it is a file of its own. Has it a body?
 fn convert_block(file: &mut [u8], from: usize, to: usize) -> bool {
-    if from > to || to > file.len() {
-        return false;
-    }
-    file_detab::detab_file(&mut file[from..to])
+    file.get_mut(from..to)
+        .is_some_and(|block| file_detab::detab_file(block))
 }
 
 // Converts the data blocks, so many of them. Has any of them a body?
 fn convert_each(file: &mut [u8], blocks: &[u64; BLOCK_NUMBERS], n: usize) -> bool {
     let mut found = false;
-    for k in 0..BLOCK_NUMBERS / 4 {
-        if k >= n {
-            return found;
-        }
-        if convert_block(file, blocks[4 * k] as usize, blocks[4 * k + 1] as usize) {
-            found = true;
-        }
+    for block in blocks.chunks_exact(4).take(n) {
+        found |= convert_block(file, block[0] as usize, block[1] as usize);
     }
     found
 }
@@ -51,7 +44,7 @@ fn convert(file: &mut [u8]) -> bool {
 // Converts a file and writes it.
 fn answer(output: &impl Print, errors: &impl Print, file: &mut [u8]) -> io::Result<()> {
     if !convert(file) {
-        errors.write_all(b"no body of a table was found: the file is written as it was\n")?;
+        println!(errors; "no body of a table was found: the file is written as it was")?;
     }
     output.write_all(file)
 }
@@ -61,7 +54,7 @@ fn main(rt: HostRuntime) -> io::Result<()> {
     let mut file = [0u8; LONGEST_INPUT + 1];
     let n = read_full(&mut rt.stdin(), &mut file);
     if n > LONGEST_INPUT {
-        errors.write_all(b"the input has more than 49152 bytes: nothing is written\n")
+        println!(errors; "the input has more than {LONGEST_INPUT} bytes: nothing is written")
     } else {
         answer(&rt.stdout(), &errors, &mut file[..n])
     }

@@ -14,8 +14,5 @@ pub fn lastarunc_detab_table(body: &mut [u8])
 pub fn lastarunc_detab_file(file: &mut [u8]) -> u64
     ensures { FileConverted file.old file.new result }
 {
-    if file_detab::detab_file(file) {
-        return 1;
-    }
-    0
+    u64::from(file_detab::detab_file(file))
 }

@@ -8,19 +8,12 @@ ghost use Rattle.host_numbers.specs.Numbers.{bits, flag};
 pub fn bits_of(x: i64) -> u64
     ensures { result ≡ bits x }
 {
-    if x < 0 {
-        let below = -1 - x;
-        return 18446744073709551615 - below as u64;
-    }
-    x as u64
+    x.cast_unsigned()
 }
 
 // A truth as C has it: 1, or 0.
 pub fn flag_of(truth: bool) -> u64
     ensures { result ≡ flag truth }
 {
-    if truth {
-        return 1;
-    }
-    0
+    u64::from(truth)
 }

@@ -1,8 +1,8 @@
--- Numbers with a sign from 64 bits, and a walk there and back. No place of the code is named here. Assumes nothing.
+-- Numbers with a sign there and back in 64 bits, and a walk. No place of the code is named here. Assumes nothing.
 use mathlib.Core.Path.{◌≡◌, refl, sym, ap, ◌∙◌}
-use Prim.Native.Nat.{ℕ, zero, suc, ◌-◌, ◌≤◌, ◌<◌}
+use Prim.Native.Nat.{ℕ, ◌-◌, ◌≤◌, ◌<◌}
 use native.Mathlib.Omega.{arith}
-use lib.IntN.{ℤ, pos, negsuc, ◌-ℤ◌}
+use lib.IntN.{ℤ, pos, negsuc}
 use mir.Syntax.{w64}
 use mir.Val.{SFits}
 use borrow.Author.Tests.{lt-ltb, le-ltb}
@@ -10,14 +10,10 @@ use Rattle.night_spec.specs.declared.Progress.{Progress}
 use Rattle.host_numbers.specs.Numbers.{bits}
 use Rattle.night_numbers.specs.Numbers.{number_of, numbers_of, progress_of}
 
-pub minus_one : (b : ℕ) → negsuc 0 -ℤ pos b ≡ negsuc b
-minus_one zero = refl
-minus_one (suc b) = ap negsuc (omega arith)
-
-pub number_low : (u : ℕ) → u < 9223372036854775808 → pos u ≡ number_of u
+number_low : (u : ℕ) → u < 9223372036854775808 → pos u ≡ number_of u
 number_low u h = rw (lt-ltb u 9223372036854775808 h) refl
 
-pub number_high : (u : ℕ) → 9223372036854775808 ≤ u → negsuc (18446744073709551615 - u) ≡ number_of u
+number_high : (u : ℕ) → 9223372036854775808 ≤ u → negsuc (18446744073709551615 - u) ≡ number_of u
 number_high u h = rw (le-ltb u 9223372036854775808 h) refl
 
 number_bits : (x : ℤ) → SFits w64 x → number_of (bits x) ≡ x

@@ -16,11 +16,7 @@ const NONE: u64 = 18446744071562067968;
 fn number_of(u: u64) -> i64
     ensures { result ≡ number_of u }
 {
-    if u < 9223372036854775808 {
-        return u as i64;
-    }
-    let below = 18446744073709551615 - u;
-    -1 - below as i64
+    u.cast_signed()
 }
 
 // A number of the report, or the mark for `none`.
@@ -37,17 +33,15 @@ fn level_bits(l: Option<i64>) -> u64
 pub fn progress_of(progress: &[u64; 6]) -> Progress
     ensures { result ≡ progress_of progress.now }
 {
-    let sum = number_of(progress[5]);
-    let totals = Totals {
-        files: progress[2],
-        points: progress[3],
-        missing: progress[4],
-        sum,
-    };
     Progress {
         at: progress[0] as usize,
         seen: progress[1] as usize,
-        totals,
+        totals: Totals {
+            files: progress[2],
+            points: progress[3],
+            missing: progress[4],
+            sum: number_of(progress[5]),
+        },
     }
 }
 
@@ -56,14 +50,13 @@ pub fn keep(p: Progress, progress: &mut [u64; 6])
     ensures { progress.new ≡ numbers_of p }
 {
     let t = p.totals;
-    let sum = bits_of(t.sum);
     *progress = [
         p.at as u64,
         p.seen as u64,
         t.files,
         t.points,
         t.missing,
-        sum,
+        bits_of(t.sum),
     ];
 }
 
@@ -79,13 +72,10 @@ pub fn tell_end(number: u64, place: u64, answer: &mut [u64; 11]) -> u64
 fn tell_account(a: Account, answer: &mut [u64; 11]) -> u64
     ensures { (answer.new ≡ account_answer a) × (result ≡ 0) }
 {
-    let low = a.lowest;
-    let high = a.highest;
-    let faint = a.faintest;
-    let lowest = level_bits(low);
-    let highest = level_bits(high);
+    let lowest = level_bits(a.lowest);
+    let highest = level_bits(a.highest);
     let sum = bits_of(a.sum);
-    let faintest = level_bits(faint);
+    let faintest = level_bits(a.faintest);
     *answer = [
         0, 0, 0, 0, 0, a.points, a.missing, lowest, highest, sum, faintest,
     ];

@@ -7,4 +7,4 @@ use Rattle.night_numbers.proofs.keep.Goals as goal
 
 pub returns : goal.returns
 returns c = let p = c.args.p in
-    rw (c.bits_of-sum.ensures, to_z-of_z (sfits_of {w = w64} {z = p.totals.sum} c.struct_told-1.given.1.1.1.0.1)) refl
+    rw (c.bits_of.ensures, to_z-of_z (sfits_of {w = w64} {z = p.totals.sum} c.struct_told-1.given.1.1.1.0.1)) refl

@@ -6,4 +6,4 @@ use borrow.Author.Rules.{sfits_of}
 use Rattle.night_numbers.proofs.progress_of.Goals as goal
 
 pub returns : goal.returns
-returns c = rw (to_z-of_z (sfits_of {w = w64} c.number_of-sum.type_inv), c.number_of-sum.ensures) refl
+returns c = rw (to_z-of_z (sfits_of {w = w64} c.number_of.type_inv), c.number_of.ensures) refl
