@@ -8,7 +8,7 @@ use lib.Dec.{eqb}
 use lib.ListN.{length}
 use lib.Seq.{sets, take_all, length-sets}
 use borrow.Author.Tests.{eq-eqb, ne_eqb, le-leb}
-use Rattle.terms.specs.Logic.{pick, zero_one}
+use Rattle.terms.specs.Logic.{pick, zero_one, ok_same}
 use Rattle.terms.specs.Refusals.{fault_at, refusal_in}
 use Rattle.terms.specs.declared.Fault.{Fault}
 use Rattle.terms.specs.declared.Refusal.{Refusal}
@@ -119,9 +119,10 @@ record Known (s : List ℕ) (o : Block) (w : Own) (n : ℕ) : Type 0 where
 known : (s : List ℕ) (o : Block) (w : Own) (n : ℕ) (r : Survey) → surveyed s ≡ r → Ok (surveyed_with o w n) ≡ told r → Known s o w n
 known s o w n (refused c a) e f = zero_one cc
 known s o w n (ended l b bs) e f =
-    let x : o ≡ b = cc in
-    let y : w ≡ own_of l = cc in
-    let z : n ≡ length bs = cc in
+    let same = ok_same f in
+    let x = ap (λ r. r.outermost) same in
+    let y = ap (λ r. r.own) same in
+    let z = ap (λ r. r.count) same in
     record { level = l; blocks = bs; is = rw x e; own = y; count = z }
 
 -- the answer for each case of the whole

@@ -3,7 +3,7 @@ use Rattle.std.specs.Prelude.{◌≡◌, Bool, true, false, ℕ, suc, ◌+◌, l
 use Rattle.std.proofs.Math.Path.{refl}
 use Rattle.std.proofs.Common.{ap, sym, ◌∙◌, inl, inr, arith}
 use mathlib.Core.List.{List, [], ◌∷◌}
-use Rattle.terms.specs.Logic.{pick, both, no_way}
+use Rattle.terms.specs.Logic.{pick, both, no_way, ok_same}
 use Rattle.terms.specs.Refusals.{fault_at}
 use Rattle.label_spec.specs.Space.{past_space}
 use Rattle.label_spec.specs.Names.{sames, TITLE, END}
@@ -150,8 +150,8 @@ titled_since s p m e (label x n q v rest) d h = cases (sames v TITLE) refl h
   where
     cases : (t : Bool) → sames v TITLE ≡ t → pick t (Ok (edges_with x q)) (Err (fault_at 21 p)) ≡ Ok (edges_with m e) → Since s (fresh m e) (from s (e + 1) false)
     cases true g f =
-        let y : x ≡ m = cc in
-        let z : q ≡ e = cc in
+        let y = ap (λ r. r.mark) (ok_same f) in
+        let z = ap (λ r. r.eq) (ok_same f) in
         rw (← y, ← z) (rw d.0.on at (fresh_since s x n q v rest g d.0))
     cases false g f = absurd (let z : ◌≡◌ {A = ℕ} 0 1 = cc in omega arith)
 

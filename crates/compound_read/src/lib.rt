@@ -6,7 +6,7 @@ ghost use Rattle.compound_read.specs.Answers.{ReadsBlock};
 pub use compound_record::find_in_block;
 use file::read_part;
 use text::refusal_in;
-use terms::Refusal;
+use terms::{Reason, Refusal};
 use file_spec::FileTable;
 
 // The most bytes of a file.
@@ -18,7 +18,7 @@ pub fn read_block(file: &[u8], start: usize, end: usize, out: &mut [i32]) -> Opt
     ensures { ReadsBlock file.now start end out.old out.new result }
 {
     if file.len() > LONGEST_FILE {
-        return Some(Err(refusal_in(file, 19, 0)));
+        return Some(Err(refusal_in(file, Reason::LongFile.number(), 0)));
     }
     if start > end {
         return None;

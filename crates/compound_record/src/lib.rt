@@ -10,7 +10,7 @@ use label_lines::is_hashed;
 use label_page::find_from_mark;
 use text::refusal_in;
 use label_spec::Span;
-use terms::Refusal;
+use terms::{Reason, Refusal};
 
 // The most bytes of a file.
 const LONGEST_FILE: usize = 1048576;
@@ -20,7 +20,7 @@ pub fn find_in_block(file: &[u8], from: usize, end: usize, name: &[u8]) -> Resul
     ensures { (result ≡ record_in_block file.now from end (norm name.now)) × FindIn (length file.now) result }
 {
     if file.len() > LONGEST_FILE {
-        return Err(refusal_in(file, 19, 0));
+        return Err(refusal_in(file, Reason::LongFile.number(), 0));
     }
     if end > file.len() {
         return Ok(None);

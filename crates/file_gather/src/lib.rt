@@ -7,7 +7,8 @@ ghost use Rattle.label.specs.Answers.{found_in};
 ghost use Rattle.file_gather.specs.Order.{name_at, needed_of};
 ghost use Rattle.file_gather.specs.Bounds.{GatheredIn};
 
-use file_spec::{Needed, Span};
+use label_spec::Span;
+use file_spec::Needed;
 use label::find_record;
 
 // The text of one of the seven records that a table needs, counted in the order that 25 lists.

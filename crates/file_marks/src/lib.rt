@@ -5,7 +5,7 @@ ghost use Rattle.std.specs.Prelude.{◌≡◌, ◌-◌, ◌≤◌, length, drop}
 ghost use Rattle.file_spec.specs.Texts.{«spacing», text_in, mark_in, mark_of, LIST, ended, listed_in};
 ghost use Rattle.file_marks.specs.Spans.{Within, ListedWithin, list_step};
 
-use file_spec::Span;
+use label_spec::Span;
 use text::byte_at;
 
 // A blank, LF, or CR before LF: b, with c after it.

@@ -8,9 +8,10 @@ ghost use Rattle.file_marks.specs.Spans.{Within};
 ghost use Rattle.file_texts.specs.Counts.{CountSmall};
 ghost use Rattle.figure.specs.Bounds.{GivenIn, FactorIn};
 
+use label_spec::Span;
 use decimal_spec::Count;
 use figure::exceed;
-use file_spec::{Decimal, Span};
+use file_spec::Decimal;
 use label_space::past_space;
 
 // The decimal that the text of a record is, with blanks, line ends and comments around it.

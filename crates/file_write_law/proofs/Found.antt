@@ -23,7 +23,7 @@ use Rattle.file_write_spec.specs.Decimals.{decimal_text}
 use Rattle.file_write_spec.specs.File.{title_legal, scales_legal, numbers, needed, end_line, file_entries, file_text}
 use Rattle.file_write_law.specs.Labels.{plain, named, Good, AllGood, labels}
 use Rattle.file_write_law.proofs.Labels.{walk_settles, records_walk}
-use Rattle.file_write_law.specs.Texts.{after, nth, span_of, record_labels, Texts, texts_are}
+use Rattle.file_write_law.specs.Texts.{after, nth, record_span, record_labels, Texts, texts_are}
 use Rattle.file_write_law.specs.Numbers.{decimal_in_lem, factor_in, count_in_lem}
 use Rattle.file_write_law.specs.Settled.{OneLine, count_line, decimal_line}
 use Rattle.file_write_law.proofs.Settled.{line_settles, lined_settles}
@@ -140,7 +140,7 @@ module _ (title : List ℕ) (c : Scales) (n : ℕ) (body : List ℕ) where
         xydata = nth 6 (needed c n body) begin;
       }
 
-  gathers : (found : List ℕ → Option Span) → ((w : List ℕ) → found w ≡ span_of w (needed c n body) begin)
+  gathers : (found : List ℕ → Option Span) → ((w : List ℕ) → found w ≡ record_span w (needed c n body) begin)
       → with_text (found XFACTOR) (λ xf. with_text (found YFACTOR) (λ yf. with_text (found FIRSTX) (λ fx. with_text (found LASTX) (λ lx.
       with_text (found NPOINTS) (λ np. with_text (found FIRSTY) (λ fy. with_text (found XYDATA) (λ xy.
       Some (record { xfactor = xf; yfactor = yf; firstx = fx; lastx = lx; npoints = np; firsty = fy; xydata = xy }))))))))

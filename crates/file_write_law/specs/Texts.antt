@@ -1,4 +1,5 @@
 -- Where the texts of written records are found, and that each is what was written (01, "The text of a record"; 02, T-04). Assumes nothing.
+use Rattle.label_spec.specs.Parts.{span_of}
 use Rattle.std.specs.Prelude.{◌≡◌, refl, List, [], ◌∷◌, ◌++◌, ℕ, zero, suc, ◌+◌, ◌-◌, ◌≤◌, ◌<◌, length, drop, Option, Some, None}
 use Rattle.std.proofs.Common.{sym, ap, ◌∙◌, append_assoc, arith, length-append, drop-drop, lt-ltb, le-ltb}
 use Rattle.std.proofs.Math.Seq.{take-append_seam, drop-append_seam}
@@ -32,9 +33,9 @@ nth zero (r ∷ rs) i = span r i
 nth (suc k) (r ∷ rs) i = nth k rs (i + size r)
 
 -- the first of the records with that name, from i on
-abbrev pub span_of : List ℕ → List Entry → ℕ → Option Span
-span_of w [] i = None
-span_of w (r ∷ rs) i = pick (sames r.name w) (Some (span_of (i + inset r) (i + size r))) (span_of w rs (i + size r))
+abbrev pub record_span : List ℕ → List Entry → ℕ → Option Span
+record_span w [] i = None
+record_span w (r ∷ rs) i = pick (sames r.name w) (Some (span_of (i + inset r) (i + size r))) (record_span w rs (i + size r))
 
 -- is what `record_of` finds before a last record
 mark_labels : (len : ℕ) (rs : List Entry) (e : Entry) (i : ℕ) → mark_of len (labels (rs ++ e ∷ []) i) ≡ i
@@ -42,7 +43,7 @@ unfolding mark_of
 mark_labels len [] e i = refl
 mark_labels len (r ∷ rs) e i = refl
 
-pub record_labels : (len : ℕ) (w : List ℕ) (rs : List Entry) (e : Entry) (i : ℕ) → record_of len (after rs i) w (labels (rs ++ e ∷ []) i) ≡ span_of w rs i
+pub record_labels : (len : ℕ) (w : List ℕ) (rs : List Entry) (e : Entry) (i : ℕ) → record_of len (after rs i) w (labels (rs ++ e ∷ []) i) ≡ record_span w rs i
 unfolding record_of
 record_labels len w [] e i = rw (le-ltb i i (omega arith)) refl
 record_labels len w (r ∷ rs) e i =

@@ -5,7 +5,7 @@ use mathlib.Core.List.{List, [], ◌∷◌}
 use Prim.Native.Nat.{ℕ}
 use lib.IntN.{ℤ}
 use lib.ListN.{length}
-use Rattle.terms.specs.Logic.{zero_one}
+use Rattle.terms.specs.Logic.{zero_one, err_same}
 use Rattle.terms.specs.Refusals.{refusal_in}
 use Rattle.terms.specs.declared.Refusal.{Refusal}
 use Rattle.file_spec.specs.declared.FileTable.{FileTable}
@@ -24,7 +24,7 @@ accepted s p (accept_profile x ys ns) {t} e = let z : t ≡ x = cc in rw z refl
 refused : (s p : List ℕ) (x : ProfileAnswer) {q : Bool} {r : Refusal} → Err (page_refusal q r) ≡ told_profile s p x
     → r.number ∷ r.place ∷ r.line ∷ r.column ∷ 0 ∷ 0 ∷ 0 ∷ 0 ∷ 0 ∷ 0 ∷ flag q ∷ [] ≡ profile_answer s p x
 refused s p (accept_profile t ys ns) e = zero_one cc
-refused s p (refuse_profile d c a) {q} {r} e = let z : r ≡ refusal_in (source s p d) c a = cc in let y : q ≡ d = cc in rw (z, y) refl
+refused s p (refuse_profile d c a) {q} {r} e = let z = ap (λ x. x.refusal) (err_same e) in let y = ap (λ x. x.page) (err_same e) in rw (z, y) refl
 
 module _ {file page : List ℕ} {out out' : List ℤ} {ns ns' : List ℕ} where
   pub told_profile_lem : {t : FileTable} {f l ef el ey : ℕ} → ProfileSays file page out out' ns ns' (Ok t) → f ≡ bits t.first → l ≡ bits t.last

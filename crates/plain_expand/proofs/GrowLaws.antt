@@ -1,4 +1,5 @@
 -- What stands next on a line, and how a row grows by it. No place of the code is named here. Assumes nothing.
+use Rattle.terms.specs.declared.Reason.{Reason}
 use mathlib.Core.Path.{◌≡◌, refl, ap, ◌∙◌}
 use mathlib.Core.List.{List, [], ◌∷◌, ◌++◌, append-nil, map}
 use Prim.Native.Nat.{ℕ, ◌+◌, ◌-◌, ◌≤◌, ◌<◌}
@@ -24,7 +25,7 @@ use Rattle.plain_expand.specs.Grows.{NextSays, Stands, rest_of, ExpandSays}
 use Rattle.plain_expand.specs.declared.Grows.{Grows}
 use Rattle.std.specs.Prelude.{Some, Ok, Err}
 use Rattle.plain_expand.specs.declared.Next.{Next}
-use Rattle.terms.specs.Refusals.{fault_at}
+use Rattle.terms.specs.Refusals.{fault_at, reason_number}
 
 -- ---- what stands next
 
@@ -37,7 +38,7 @@ module _ (s : List ℕ) (from at q : ℕ) (f : Form) (b : Blanked s from at) whe
   next_fault c a h = let z = b.within ∙ h in (rw z refl, rw z refl)
 
   module _ {x : Value} {j : ℕ} (t : Token s at x j) where
-    pub next_not : (c : ℕ) → Means q f x (Err c) → NextSays s from q f (Err (fault_at c at))
+    pub next_not : (c : Reason) → Means q f x (Err c) → NextSays s from q f (Err (fault_at (reason_number c) at))
     unfolding values
     next_not c h = let z = b.within ∙ t.law in (rw (z, h) refl, rw z refl)
 

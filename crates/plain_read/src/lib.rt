@@ -78,13 +78,13 @@ pub fn read_plain(first: i64, last: i64, points: usize, body: &[u8], out: &mut [
     ensures { TableSays first last points body.now out.old out.new result }
 {
     if body.len() > Frame::LONGEST_BODY {
-        return Err(refusal_in(body, 1, 0));
+        return Err(refusal_in(body, Reason::OutsideLimits.number(), 0));
     }
     match Frame::new(first, last, points) {
-        None => Err(refusal_in(body, 1, 0)),
+        None => Err(refusal_in(body, Reason::OutsideLimits.number(), 0)),
         Some(fr) => {
             if out.len() < points {
-                return Err(refusal_in(body, 2, 0));
+                return Err(refusal_in(body, Reason::LittleRoom.number(), 0));
             }
             match check_body(body, fr) {
                 Err(f) => Err(refusal_in(body, f.number, f.place)),

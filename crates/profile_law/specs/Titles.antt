@@ -3,9 +3,9 @@ use Rattle.std.specs.Prelude.{◌≡◌, Bool, true, false, ℕ, zero, suc, ◌+
 use Rattle.std.proofs.Math.Path.{refl}
 use mathlib.Core.List.{List, [], ◌∷◌, ◌++◌}
 use Rattle.std.proofs.Math.Numerals.{add-one}
-use Rattle.std.proofs.Common.{arith, not-suc-le-zero, le_of_suc-le-suc}
+use Rattle.std.proofs.Common.{ap, arith, not-suc-le-zero, le_of_suc-le-suc}
 use borrow.Author.Tests.{lt-ltb}
-use Rattle.terms.specs.Logic.{pick, zero_one, no_way}
+use Rattle.terms.specs.Logic.{pick, zero_one, no_way, ok_same}
 use Rattle.terms.specs.Refusals.{fault_at}
 use Rattle.label_spec.specs.Names.{sames, TITLE, END}
 use Rattle.label_spec.specs.NameLaws.{sames_eq}
@@ -64,7 +64,7 @@ ended_above i len done (label y n z v rest) x q a e = first (λ g. ended_above i
     first : (judged len (done ++ v ∷ []) rest ≡ Ok (edges_with x q) → i ≤ x) → (t : Bool)
         → pick t (Ok (edges_with y z)) (pick (sames v TITLE) (Err (fault_at 24 y)) (pick (twice v done) (Err (fault_at 23 y)) (judged len (done ++ v ∷ []) rest)))
         ≡ Ok (edges_with x q) → i ≤ x
-    first k true g = let w : y ≡ x = cc in omega (arith, a.0)
+    first k true g = let w = ap (λ r. r.mark) (ok_same g) in omega (arith, a.0)
     first k false g = second k (sames v TITLE) g
 
 module _ (s : List ℕ) (m e x : ℕ) where
@@ -77,7 +77,8 @@ module _ (s : List ℕ) (m e x : ℕ) where
   unfolding placed
   by_walk m' e' (Err r) h o g = zero_one cc
   by_walk m' e' (Ok z) h o g =
-      let a : m' ≡ m = cc in let b : e' ≡ e = cc in let c : z.mark ≡ x = cc in
+      let same = ok_same g in
+      let a = ap (λ r. r.title) same in let b = ap (λ r. r.eq) same in let c = ap (λ r. r.end) same in
       record { opens = rw (a, b) at o; last = z.eq; ends = rw (b, c) at h }
 
   by_title : (o : Result Edges Fault) → opened s ≡ o → after_title s o ≡ Ok (places_with m e x) → Between

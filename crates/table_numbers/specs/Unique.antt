@@ -28,7 +28,7 @@ no_further : {s : List ℕ} {i e v j u k : ℕ} → NumberAt s i e v j → Numbe
 no_further {i = i} {j = j} x y l =
     let a = x.token.low in let b : i + 1 ≤ j = omega arith in let d = y.digits j b l in let m = x.over in omega arith
 
-number_same : {s : List ℕ} {i e v j u k : ℕ} → NumberAt s i e v j → NumberAt s i e u k → Some (v, j) ≡ Some (u, k)
+number_same : {s : List ℕ} {i e v j u k : ℕ} → NumberAt s i e v j → NumberAt s i e u k → ◌≡◌ {A = Option (ℕ × ℕ)} (Some (v, j)) (Some (u, k))
 number_same {s} {i} {e} {v} {j} {u} {k} x y =
     let a : j < k → ⊥ = no_further x y in let b : k < j → ⊥ = no_further y x in let p : j ≡ k = omega (arith, a, b) in
     let z = sym x.token.law ∙ y.token.law in

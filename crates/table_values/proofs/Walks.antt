@@ -1,4 +1,5 @@
 -- States of the code, one after the other: past blanks, and along a line. No place of the code is named here. Assumes nothing.
+use Rattle.terms.specs.declared.Reason.{Reason}
 use mathlib.Core.Path.{◌≡◌, sym, subst}
 use mathlib.Core.List.{List}
 use Prim.Native.Nat.{ℕ}
@@ -12,7 +13,7 @@ use Rattle.table_value.proofs.Walks.{went_went, went_over}
 use Rattle.table_values.proofs.Turns.{gone_done, gone_broken}
 use Rattle.std.specs.Prelude.{Ok, Err}
 use Rattle.table_value.specs.declared.Step.{Step}
-use Rattle.terms.specs.Refusals.{fault_at}
+use Rattle.terms.specs.Refusals.{fault_at, reason_number}
 
 -- ---- blanks
 
@@ -41,5 +42,5 @@ module _ {N : ℕ} {s : List ℕ} {at k want : ℕ} {b : Cur} {out mid : List �
         done = λ p w v. rw h.same (gone_done N s at k p w out mid b (g.law p w v) j h.law);
       }
 
-  pub went_refused : {n : ℕ} → Stepped N s b mid out' (Err n) → Lined N s at k want out out' (Err (fault_at n b.at))
-  went_refused {n} h = λ p w v. rw h.0 (gone_broken N s at k p w out mid b (g.law p w v) n b.at h.1)
+  pub went_refused : (n : Reason) → Stepped N s b mid out' (Err n) → Lined N s at k want out out' (Err (fault_at (reason_number n) b.at))
+  went_refused n h = λ p w v. rw h.0 (gone_broken N s at k p w out mid b (g.law p w v) (reason_number n) b.at h.1)

@@ -33,7 +33,7 @@ row_same : (x y : Row) → x.at ≡ y.at → x.k ≡ y.k → x.q ≡ y.q → x.d
 row_same x y a b c d = λ i. record { at = a i; k = b i; q = c i; dif = d i }
 
 module _ (N : ℕ) (s : List ℕ) (i k : ℕ) (out : List ℤ) {p : ℕ} {w : Spot} {a b : List ℤ} where
-  done_same : {x y : Row} → x.at ≡ y.at → LineDone N s i k p w out a x → LineDone N s i k p w out b y → (Ok x ≡ Ok y) × (a ≡ b)
+  done_same : {x y : Row} → x.at ≡ y.at → LineDone N s i k p w out a x → LineDone N s i k p w out b y → (◌≡◌ {A = Result Row Fault} (Ok x) (Ok y)) × (a ≡ b)
   done_same {x} {y} e f g =
       let z = sym f.law ∙ g.law in
       let us : f.points ≡ g.points = cc in let q : f.ordinate ≡ g.ordinate = cc in let v : f.spot ≡ g.spot = cc in
@@ -42,7 +42,7 @@ module _ (N : ℕ) (s : List ℕ) (i k : ℕ) (out : List ℤ) {p : ℕ} {w : Sp
       let d : x.dif ≡ y.dif = f.form ∙ rw v (sym g.form) in
       (ap Ok (row_same x y e n l d), f.stored ∙ rw us (sym g.stored))
 
-  broken_same : {n m u v : ℕ} → LineBroken N s i k p w out a n u → LineBroken N s i k p w out b m v → (Err (fault_at n u) ≡ Err (fault_at m v)) × (a ≡ b)
+  broken_same : {n m u v : ℕ} → LineBroken N s i k p w out a n u → LineBroken N s i k p w out b m v → (◌≡◌ {A = Result Row Fault} (Err (fault_at n u)) (Err (fault_at m v))) × (a ≡ b)
   broken_same {n} {m} {u} {v} f g =
       let z = sym f.law ∙ g.law in
       let us : f.points ≡ g.points = cc in let c : n ≡ m = cc in let d : u ≡ v = cc in

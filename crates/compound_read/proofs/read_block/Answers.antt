@@ -4,7 +4,7 @@ use Rattle.compound_read.proofs.BlockTurns.{read_long, read_crossed, read_outsid
 use Rattle.compound_read.proofs.read_block.Goals as goal
 
 pub returns-then-file-gt-LONGEST_FILE : goal.returns-then-file-gt-LONGEST_FILE
-returns-then-file-gt-LONGEST_FILE c = read_long _ _ _ _ c.if-file-gt-LONGEST_FILE.true _ c.refusal_in.ensures
+returns-then-file-gt-LONGEST_FILE c = read_long _ _ _ _ c.if-file-gt-LONGEST_FILE.true _ (rw c.number.ensures at c.refusal_in.ensures)
 
 pub returns-then-start-end : goal.returns-then-start-end
 returns-then-start-end c = read_crossed _ _ _ _ (omega (arith, c.if-file-gt-LONGEST_FILE.false)) c.if-start-end.true

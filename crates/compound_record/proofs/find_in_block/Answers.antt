@@ -5,7 +5,7 @@ use Rattle.compound_record.proofs.RecordTurns.{in_long, in_outside, in_crossed, 
 use Rattle.compound_record.proofs.find_in_block.Goals as goal
 
 pub returns-then-file-gt-LONGEST_FILE : goal.returns-then-file-gt-LONGEST_FILE
-returns-then-file-gt-LONGEST_FILE c = in_long _ _ _ _ c.if-file-gt-LONGEST_FILE.true _ c.refusal_in.ensures
+returns-then-file-gt-LONGEST_FILE c = in_long _ _ _ _ c.if-file-gt-LONGEST_FILE.true _ (rw c.number.ensures at c.refusal_in.ensures)
 
 pub returns-then-end-file : goal.returns-then-end-file
 returns-then-end-file c = in_outside _ _ _ _ (omega (arith, c.if-file-gt-LONGEST_FILE.false)) c.if-end-file.true

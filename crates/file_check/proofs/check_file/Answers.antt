@@ -9,8 +9,8 @@ use Rattle.file_body.proofs.BodyLaws.{stage_refused, stage_same}
 use Rattle.file_check.proofs.StageLaws.{labels_refused, labels_placed, labels_body, labelled_short}
 use Rattle.file_check.proofs.check_file.Goals as goal
 
-pub overflow_add-check_part : goal.overflow_add-check_part
-overflow_add-check_part c = let x = c.in_ok-places.ensures.1 in let h = x.0.high in omega arith
+pub overflow_add-places : goal.overflow_add-places
+overflow_add-places c = let x = c.in_ok-places.ensures.1 in let h = x.0.high in omega arith
 
 pub check_part-requires : goal.check_part-requires
 check_part-requires c =

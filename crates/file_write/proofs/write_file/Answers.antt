@@ -1,7 +1,7 @@
 -- `file_write::write_file` meets its contract: the refusal of the tests before it, or what laying the plan answers.
 -- where the file is planned, and the start from there
 use Rattle.std.specs.Prelude.{Err}
-use mathlib.Core.Path.{ap}
+use mathlib.Core.Path.{ap, ◌∙◌}
 use Rattle.std.proofs.lemmas.Result.{err_from_is_err_and}
 use mir.Syntax.{w64}
 use mir.Facts.{to_z-of_z}

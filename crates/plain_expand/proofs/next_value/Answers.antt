@@ -18,7 +18,7 @@ returns-in-Some c =
 pub returns-in-None : goal.returns-in-None
 returns-in-None c =
     let x = rw c.in-None.is at c.line_end.ensures in
-    next_fault _ _ _ _ _ c.blanks-at.ensures 3 _ (x.1 _)
+    rw c.new.ensures (next_fault _ _ _ _ _ c.blanks-at.ensures 3 _ (x.1 _))
 
 pub returns-then-e-eq-MISSING : goal.returns-then-e-eq-MISSING
 returns-then-e-eq-MISSING c =
@@ -37,17 +37,17 @@ stands_for-requires c =
     let no_gap : c.entry_at-e.result < 96 ⊎ 128 ≤ c.entry_at-e.result = let e = c.entry_at-e.ensures in
     kinds _ _ _ e c.if-e-ge-POINT.false (λ z. c.blanks-at.ensures.stops (sym e ∙ z)) c.if-e-eq-MISSING.false in
     let p = c.requires in
-    (p.2, p.3, c.if-e-ge-POINT.false, no_gap, (rw c.in-Some.is at c.number.ensures).small)
+    (p.2, p.3, c.if-e-ge-POINT.false, no_gap, (rw c.in-Some-number.is at c.number.ensures).small)
 
 pub returns-in-None-number : goal.returns-in-None-number
-returns-in-None-number c = next_fault _ _ _ _ _ c.blanks-at.ensures 5 _ (rw c.in-None-number.is at c.number.ensures)
+returns-in-None-number c = rw c.new-in-None-number.ensures (next_fault _ _ _ _ _ c.blanks-at.ensures 5 _ (rw c.in-None-number.is at c.number.ensures))
 
 pub returns-in-Err : goal.returns-in-Err
 returns-in-Err c =
-    let x = rw c.in-Some.is at c.number.ensures in
-    next_not _ _ _ _ _ c.blanks-at.ensures x.token _ (rw c.in-Err.is at c.stands_for.ensures)
+    let x = rw c.in-Some-number.is at c.number.ensures in
+    rw c.new-in-Err.ensures (next_not _ _ _ _ _ c.blanks-at.ensures x.token _ (rw c.in-Err.is at c.stands_for.ensures))
 
 pub returns-in-Ok : goal.returns-in-Ok
 returns-in-Ok c =
-    let x = rw c.in-Some.is at c.number.ensures in
+    let x = rw c.in-Some-number.is at c.number.ensures in
     next_gives _ _ _ _ _ c.blanks-at.ensures x.token _ (rw c.in-Ok.is at c.stands_for.ensures)

@@ -13,13 +13,13 @@ use Rattle.table_read.proofs.AnswerLaws.{body_long, frame_outside, no_room, body
 use Rattle.plain_read.proofs.read_plain.Goals as goal
 
 pub returns-then-body-gt-LONGEST_BODY : goal.returns-then-body-gt-LONGEST_BODY
-returns-then-body-gt-LONGEST_BODY c = read_refused {r = fault_at 1 0} (sym (ap told_first (body_long _ _ _ _ _ c.if-body-gt-LONGEST_BODY.true))) c.refusal_in.ensures
+returns-then-body-gt-LONGEST_BODY c = read_refused {r = fault_at 1 0} (sym (ap told_first (body_long _ _ _ _ _ c.if-body-gt-LONGEST_BODY.true))) (rw c.number.ensures at c.refusal_in.ensures)
 
 pub returns-then-out-points : goal.returns-then-out-points
 returns-then-out-points c =
     let frame : Frame = c.in-Some.fr in
     let framing : let a = c.args in Framing a.first a.last a.points frame = let f = c.ranges in framed_legal _ _ _ (rw (to_z-of_z f.first, to_z-of_z f.last) at (sym c.new.ensures ∙ c.in-Some.is)) in
-    read_refused {r = fault_at 2 0} (sym (ap told_first (no_room _ _ _ _ _ c.if-body-gt-LONGEST_BODY.false framing c.if-out-points.true))) c.refusal_in-then-out-points.ensures
+    read_refused {r = fault_at 2 0} (sym (ap told_first (no_room _ _ _ _ _ c.if-body-gt-LONGEST_BODY.false framing c.if-out-points.true))) (rw c.number-then-out-points.ensures at c.refusal_in-then-out-points.ensures)
 
 pub check_body-requires : goal.check_body-requires
 check_body-requires c =
@@ -38,7 +38,7 @@ pub returns-in-None : goal.returns-in-None
 returns-in-None c =
     let f = c.ranges in
     let z = rw (to_z-of_z f.first, to_z-of_z f.last) at (sym c.new.ensures ∙ c.in-None.is) in
-    read_refused {r = fault_at 1 0} (sym (ap told_first (frame_outside _ _ _ _ _ (framed_outside _ _ _ z)))) c.refusal_in-in-None.ensures
+    read_refused {r = fault_at 1 0} (sym (ap told_first (frame_outside _ _ _ _ _ (framed_outside _ _ _ z)))) (rw c.number-in-None.ensures at c.refusal_in-in-None.ensures)
 
 pub returns-in-Err : goal.returns-in-Err
 returns-in-Err c =

@@ -56,7 +56,7 @@ pub returns-in-None : goal.returns-in-None
 returns-in-None c =
     let frame : Frame = c.args.fr in
     let row : Row = c.args.r in
-    line_four frame _ row _ (rw c.in-None.is at c.head.ensures) [] []
+    rw c.new-in-None.ensures (line_four frame _ row _ (rw c.in-None.is at c.head.ensures) [] [])
 
 pub returns-in-End : goal.returns-in-End
 returns-in-End c =

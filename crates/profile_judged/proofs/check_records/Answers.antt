@@ -7,7 +7,7 @@ pub returns-in-Ok : goal.returns-in-Ok
 returns-in-Ok c = records_checked _ _ _ _ _ _ _ (rw c.in-Ok.is at c.survey.ensures) _ refl
 
 pub returns-in-Err-Lacking : goal.returns-in-Err-Lacking
-returns-in-Err-Lacking c = records_checked _ _ _ _ _ _ _ (rw c.in-Err-Lacking.is at c.survey.ensures) _ c.refused.ensures
+returns-in-Err-Lacking c = records_checked _ _ _ _ _ _ _ (rw (c.in-Err-Lacking.is, c.in-Err-Lacking.field-0-is) at c.survey.ensures) _ c.refused.ensures
 
 pub returns-in-Err-Unlisted : goal.returns-in-Err-Unlisted
-returns-in-Err-Unlisted c = records_checked _ _ _ _ _ _ _ (rw c.in-Err-Unlisted.is at c.survey.ensures) _ c.refused-in-Err-Unlisted.ensures
+returns-in-Err-Unlisted c = records_checked _ _ _ _ _ _ _ (rw (c.in-Err-Unlisted.is, c.in-Err-Unlisted.field-0-is) at c.survey.ensures) _ c.refused-in-Err-Unlisted.ensures

@@ -39,7 +39,7 @@ value-requires c =
     let begins : (c.entry_there-e.result < 96) ⊎ (128 ≤ c.entry_there-e.result) = kinds _ _ _ c.entry_there-e.ensures c.if-e-ge-POINT.false
     (λ x. blank_seen_not _ _ c.standing.ensures c.is_blank.ensures c.if-is_blank.false (sym c.entry_there-e.ensures ∙ x)) c.if-e-eq-MISSING.false in
     let p = c.requires in
-    let x = rw c.in-Some.is at c.number.ensures in
+    let x = rw c.in-Some-number.is at c.number.ensures in
     record { sits = p.1; most = p.0; before_point = c.if-e-ge-POINT.false; kind = begins; small = x.small; token = x.token }
 
 pub returns-in-None-number : goal.returns-in-None-number

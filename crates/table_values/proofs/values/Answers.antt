@@ -23,19 +23,19 @@ token-requires c = (c.requires.most, c.run-b.ensures.sits)
 
 pub loop-d-smaller : goal.loop-d-smaller
 loop-d-smaller c =
-    let x = rw c.in-Go.is at c.token.ensures in
+    let x = rw (c.in-Ok-Go.is, c.in-Ok-Go.field-0-is) at c.token.ensures in
     let l = c.past_blanks-a.ensures.0.low in let y = c.run-b.ensures.low in
     let z = x.1.sits.high in omega (arith, x.0)
 
 pub loop-d-preserved : goal.loop-d-preserved
 loop-d-preserved c =
-    let x = rw c.in-Go.is at c.token.ensures in
+    let x = rw (c.in-Ok-Go.is, c.in-Ok-Go.field-0-is) at c.token.ensures in
     let e = c.past_blanks-a.ensures in let g = c.loop-d.invariant.0 in
     (went_went (went_went (went_past g e) c.run-b.ensures) x.1, search rules)
 
-pub returns-in-Line : goal.returns-in-Line
-returns-in-Line c =
-    let x = rw c.in-Line.is at c.token.ensures in
+pub returns-in-Ok-Line : goal.returns-in-Ok-Line
+returns-in-Ok-Line c =
+    let x = rw (c.in-Ok-Line.is, c.in-Ok-Line.field-0-is) at c.token.ensures in
     let e = c.past_blanks-a.ensures in let g = c.loop-d.invariant.0 in
     rw c.row_after.ensures (went_line _ (went_went (went_past g e) c.run-b.ensures) x)
 
@@ -43,4 +43,4 @@ pub returns-in-Err : goal.returns-in-Err
 returns-in-Err c =
     let x = rw c.in-Err.is at c.token.ensures in
     let e = c.past_blanks-a.ensures in let g = c.loop-d.invariant.0 in
-    went_refused _ (went_went (went_past g e) c.run-b.ensures) x
+    rw c.new.ensures (went_refused _ (went_went (went_past g e) c.run-b.ensures) _ x)

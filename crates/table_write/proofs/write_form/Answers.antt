@@ -1,6 +1,6 @@
 -- `table_write::write_form` meets its contract: the refusal of the tests before writing, and else what the frame gives.
 -- where the tests are made, and the start from there
-use mathlib.Core.Path.{ap}
+use mathlib.Core.Path.{ap, ◌∙◌}
 use Rattle.std.proofs.lemmas.Result.{err_from_is_err_and}
 use mir.Facts.{to_z-of_z}
 use Rattle.frame.specs.FrameLaws.{framed_legal}
