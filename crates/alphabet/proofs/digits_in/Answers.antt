@@ -1,6 +1,5 @@
 -- `alphabet::digits_in` meets its contract: the digits from a place on, where more bytes stand than may be taken.
 use mathlib.Core.Path.{refl, sym, ◌∙◌}
-use Prim.Native.Nat.{◌-◌}
 use native.Mathlib.Omega.{arith}
 use Rattle.alphabet.specs.Ran.{start, stop, Taken, taken, ended}
 use Rattle.alphabet.proofs.digits_in.Goals as goal
