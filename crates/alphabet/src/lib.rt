@@ -100,20 +100,17 @@ pub fn digits_in(s: &[u8], from: usize, v: u64, most: usize) -> Run
     requires { (from + most < length s.now) × ((v + 1) * 10 ^ most ≤ 10000000000000000000) }
     ensures { Ran s.now from v most result.v result.at (entry_at s.now result.at) × (result.b ≡ standing s.now result.at) }
 {
+    let end = from + most;
     let mut w = v;
-    let mut i = from;
-    let mut left = most;
-    let mut b = standing_in(s, i);
-    while is_digit(b) {
-        if left == 0 {
+    for i in from..end {
+        let b = standing_in(s, i);
+        if !is_digit(b) {
             return Run { v: w, at: i, b };
         }
-        left -= 1;
         w = w * 10 + (b - 48);
-        i += 1;
-        b = standing_in(s, i);
     }
-    Run { v: w, at: i, b }
+    let b = standing_in(s, end);
+    Run { v: w, at: end, b }
 }
 
 // At most three digits from a place on, after the number v, where four bytes stand: without a loop, and no end of the text is asked for. The number does not fall.
