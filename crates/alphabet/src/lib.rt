@@ -27,20 +27,15 @@ pub struct Run {
 pub fn entry_at(s: &[u8], i: usize) -> u64
     ensures { result ≡ entry_at s.now i }
 {
-    if i < s.len() {
-        return entry_of(s[i]);
-    }
-    END
+    if i < s.len() { entry_of(s[i]) } else { END }
 }
 
 // The byte at a place, END at the end of the text.
+#[tactic(auto, unfolding(crate::specs::Standing::standing))]
 pub fn standing(s: &[u8], i: usize) -> u64
     ensures { result ≡ standing s.now i }
 {
-    if i < s.len() {
-        return wide(s[i]);
-    }
-    END
+    if i < s.len() { wide(s[i]) } else { END }
 }
 
 // The byte at a place within the text: no end is asked for.
@@ -55,10 +50,7 @@ pub fn standing_in(s: &[u8], i: usize) -> u64
 pub fn is_digit(b: u64) -> bool
     ensures { result ≡ within 48 10 b }
 {
-    if b < 48 {
-        return false;
-    }
-    b < 58
+    b >= 48 && b < 58
 }
 
 // Is the byte that stands there a blank? A tab is none (02, T-13).
@@ -73,10 +65,7 @@ pub fn entry_there(s: &[u8], at: usize) -> u64
     ensures { result ≡ entry_at s.now at }
 {
     let b = standing(s, at);
-    if is_digit(b) {
-        return b - 48;
-    }
-    entry_at(s, at)
+    if is_digit(b) { b - 48 } else { entry_at(s, at) }
 }
 
 // Where a run of so many digits ends at the latest, in a text of n bytes: at the end of the text, if that is nearer.
@@ -84,11 +73,7 @@ fn run_end(n: usize, from: usize, most: usize) -> usize
     requires { from ≤ n }
     ensures { RunEnd n from most result }
 {
-    let room = n - from;
-    if room < most {
-        return n;
-    }
-    from + most
+    from + most.min(n - from)
 }
 
 // The digits from a place on, after the number v: at most `most` of them are taken, and as many as there are up to that (01, "A digit run is always as long as it can be"). One test in the
@@ -99,17 +84,15 @@ pub fn digits(s: &[u8], from: usize, v: u64, most: usize) -> Run
 {
     let end = run_end(s.len(), from, most);
     let mut w = v;
-    let mut i = from;
-    while i < end {
+    for i in from..end {
         let b = standing_in(s, i);
         if !is_digit(b) {
             return Run { v: w, at: i, b };
         }
         w = w * 10 + (b - 48);
-        i += 1;
     }
-    let b = standing(s, i);
-    Run { v: w, at: i, b }
+    let b = standing(s, end);
+    Run { v: w, at: end, b }
 }
 
 // The same where more bytes stand than may be taken, for a limit that the compiler knows and unrolls the loop for: no end of the text is asked for.
@@ -117,20 +100,17 @@ pub fn digits_in(s: &[u8], from: usize, v: u64, most: usize) -> Run
     requires { (from + most < length s.now) × ((v + 1) * 10 ^ most ≤ 10000000000000000000) }
     ensures { Ran s.now from v most result.v result.at (entry_at s.now result.at) × (result.b ≡ standing s.now result.at) }
 {
+    let end = from + most;
     let mut w = v;
-    let mut i = from;
-    let mut left = most;
-    let mut b = standing_in(s, i);
-    while is_digit(b) {
-        if left == 0 {
+    for i in from..end {
+        let b = standing_in(s, i);
+        if !is_digit(b) {
             return Run { v: w, at: i, b };
         }
-        left -= 1;
         w = w * 10 + (b - 48);
-        i += 1;
-        b = standing_in(s, i);
     }
-    Run { v: w, at: i, b }
+    let b = standing_in(s, end);
+    Run { v: w, at: end, b }
 }
 
 // At most three digits from a place on, after the number v, where four bytes stand: without a loop, and no end of the text is asked for. The number does not fall.

@@ -127,20 +127,6 @@ passes_other s m y name eq d b c l e f h =
     apart_title : unlike (first_of s (m + 2)) 84 ≡ true → (a : ℕ) → sames (name_in s (m + 2) a) TITLE ≡ false
     apart_title k a = word_title s (m + 2) k a
 
--- `is_other`
-pub other_end : (b c : ℕ) (r : Bool) → r ≡ unlike b 69 → r ≡ false → false ≡ other_by b c
-unfolding other_by
-other_end b c r e f = rw (sym e ∙ f) refl
-
-module _ (b c : ℕ) (r q : Bool) (e : r ≡ unlike b 69) (f : r ≡ true) (g : q ≡ unlike b 84) where
-  pub other_title : q ≡ false → false ≡ other_by b c
-  unfolding other_by
-  other_title h = rw (sym e ∙ f, sym g ∙ h) refl
-
-  pub other_name : (z : Bool) → z ≡ unlike b c → q ≡ true → z ≡ other_by b c
-  unfolding other_by
-  other_name z k h = rw (sym e ∙ f, sym g ∙ h) k
-
 -- `own_known`
 pub record Near (s : List ℕ) (start mark : ℕ) (w : List ℕ) (at d : ℕ) : Type 0 where
   pub high : at ≤ length s

@@ -21,16 +21,11 @@ enum Meet {
 }
 
 // Is a name with this first byte neither END nor TITLE, nor the one that is looked for, by its first byte? Most are, and are then looked at no further.
+#[tactic(auto, unfolding(crate::specs::Post::other_by))]
 fn is_other(byte: u8, first: u8) -> bool
     ensures { result ≡ other_by byte first }
 {
-    if !differ(byte, b'E') {
-        return false;
-    }
-    if !differ(byte, b'T') {
-        return false;
-    }
-    differ(byte, first)
+    differ(byte, b'E') && differ(byte, b'T') && differ(byte, first)
 }
 
 // One label of the scan, which stands so many blocks down: its name runs from n up to e, the one that is looked for from `name` up to `eq`.
@@ -86,10 +81,7 @@ fn own_known(s: &[u8], start: usize, mark: usize, name: usize, eq: usize) -> boo
     let mut depth: usize = 0;
     loop {
         let here = next_mark(s, at);
-        if here >= mark {
-            return false;
-        }
-        if here >= s.len() {
+        if here >= mark || here >= s.len() {
             return false;
         }
         match met_here(s, here, depth, first, name, eq) {
@@ -112,8 +104,5 @@ pub fn own_clash(s: &[u8], start: usize, mark: usize, name: usize, eq: usize) ->
     requires { (start ≤ length s.now) × (name ≤ eq) × (eq ≤ length s.now) }
     ensures { result ≡ own_clash mark (name_in s.now name eq) (from s.now start false) }
 {
-    if is_empty(s, name, eq) {
-        return false;
-    }
-    own_known(s, start, mark, name, eq)
+    !is_empty(s, name, eq) && own_known(s, start, mark, name, eq)
 }

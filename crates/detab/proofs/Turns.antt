@@ -1,13 +1,10 @@
 -- The loop of the converter: the bytes before a place are as they will be, and those from it on are still to be converted. Assumes nothing.
 use mathlib.Core.Path.{◌≡◌, refl, ap}
-use mathlib.Core.Bool.{Bool, true, false, not}
+use mathlib.Core.Bool.{Bool, false}
 use mathlib.Core.List.{List, [], ◌∷◌, ◌++◌}
 use Prim.Native.Nat.{ℕ, zero, suc, ◌≤◌, ◌<◌}
 use native.Mathlib.Nat.{not-suc-le-zero, le_of_suc-le-suc}
-use lib.Dec.{eqb}
 use lib.ListN.{length, get_or, set, take, drop}
-use Rattle.terms.specs.Logic.{pick, by_case}
-use Rattle.table_spec.specs.Reading.{starts}
 use Rattle.table_spec.specs.Tabs.{commented, changed, spaced}
 
 -- the whole text, converted from a place on that is within a comment, or not
@@ -17,22 +14,6 @@ from_there c i s = take i s ++ spaced c (drop i s)
 pub at_start : (s : List ℕ) → from_there false 0 s ≡ spaced false s
 at_start [] = refl
 at_start (b ∷ s) = refl
-
--- what a comment's test says of the next byte, where there is one
-pub next_starts : (s : List ℕ) (i : ℕ) → i < length s → starts 36 (drop i s) ≡ eqb (get_or s i 0) 36
-next_starts [] i h = absurd (not-suc-le-zero h)
-next_starts (b ∷ s) zero h = refl
-next_starts (b ∷ s) (suc i) h = next_starts s i (le_of_suc-le-suc h)
-
-pub none_starts : (s : List ℕ) (i : ℕ) → length s ≤ i → starts 36 (drop i s) ≡ false
-none_starts [] zero h = refl
-none_starts [] (suc i) h = refl
-none_starts (b ∷ s) zero h = absurd (not-suc-le-zero h)
-none_starts (b ∷ s) (suc i) h = none_starts s i (le_of_suc-le-suc h)
-
--- a byte in a comment is its last if it is LF
-pub unended : (b : ℕ) → not (eqb b 10) ≡ pick (eqb b 10) false true
-unended b = by_case (λ t. not t ≡ pick t false true) (eqb b 10) (λ _. refl) (λ _. refl)
 
 -- one byte more
 pub turn : (c : Bool) (s : List ℕ) (i : ℕ) → i < length s → let s' = set s i (changed c (get_or s i 0)) in from_there (commented c (get_or s i 0) (drop (suc i) s')) (suc i) s' ≡ from_there c i s

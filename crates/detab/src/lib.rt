@@ -9,41 +9,27 @@ fn commented(inside: bool, b: u8, body: &[u8], next: usize) -> bool
     ensures { result ≡ commented inside b (drop next body.now) }
 {
     if inside {
-        return b != 10;
+        b != b'\n'
+    } else {
+        b == b'$' && next < body.len() && body[next] == b'$'
     }
-    if b != 36 {
-        return false;
-    }
-    if next < body.len() {
-        return body[next] == 36;
-    }
-    false
 }
 
 // The byte that the converter leaves where b stood.
 fn changed(inside: bool, b: u8) -> u8
     ensures { result ≡ changed inside b }
 {
-    if inside {
-        return b;
-    }
-    if b == 9 {
-        return 32;
-    }
-    b
+    if !inside && b == b'\t' { b' ' } else { b }
 }
 
 // Converts the body of an old table in place: any bytes.
 pub fn detab(body: &mut [u8])
     ensures { body.new ≡ spaced false body.old }
 {
-    let n = body.len();
     let mut inside = false;
-    let mut i = 0;
-    while i < n {
+    for i in 0..body.len() {
         let b = body[i];
         body[i] = changed(inside, b);
-        i += 1;
-        inside = commented(inside, b, body, i);
+        inside = commented(inside, b, body, i + 1);
     }
 }

@@ -19,13 +19,10 @@ pub fn put_bytes(out: &mut [u8], at: usize, s: &[u8]) -> usize
     requires { (length s.now ≤ 100) × (at < 2 ^ 59) }
     ensures { Put out.old at out.new result s.now }
 {
-    let mut i = 0;
-    while i < s.len() {
-        let place = at + i;
-        put(out, place, s[i]);
-        i = i + 1;
+    for (i, b) in s.iter().enumerate() {
+        put(out, at + i, *b);
     }
-    at + i
+    at + s.len()
 }
 
 // A sign and two digits. The place after them.
@@ -49,9 +46,10 @@ fn put_power(out: &mut [u8], at: usize, p: u64) -> usize
     put(out, at, b'E');
     let next = at + 1;
     if p >= ORIGIN {
-        return put_two(out, next, b'+', p - ORIGIN);
+        put_two(out, next, b'+', p - ORIGIN)
+    } else {
+        put_two(out, next, b'-', ORIGIN - p)
     }
-    put_two(out, next, b'-', ORIGIN - p)
 }
 
 // A number of at most nine digits. The place after it.

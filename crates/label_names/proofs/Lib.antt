@@ -1,1 +1,2 @@
 pub mod NameTurns
+pub mod Comparing

@@ -1,7 +1,7 @@
 -- The turns of a comparison of names: no place of the code is named here.
 use mathlib.Core.Path.{◌≡◌, refl, sym, ap, ◌∙◌}
 use mathlib.Core.Bool.{Bool, true, false, not, cond}
-use mathlib.Core.List.{List, [], ◌∷◌}
+use mathlib.Core.List.{List, [], ◌∷◌, map}
 use Prim.Native.Nat.{ℕ, suc, ◌+◌, ◌-◌, ◌<◌, ◌≤◌}
 use native.Mathlib.Numerals.{add-one}
 use native.Mathlib.Omega.{arith}
@@ -14,7 +14,7 @@ use borrow.Author.Tests.{eq-eqb, ne_eqb, leb-true, leb-false}
 use Rattle.terms.specs.Logic.{pick, no_way, by_case}
 use Rattle.terms.specs.Places.{inside}
 use Rattle.label_spec.specs.Names.{name_in, norm, ignored, blank, upper, sames}
-use Rattle.label_spec.specs.NameLaws.{name_end, name_skip, name_keep, whole, both_done, left_done, right_done, differ, agree}
+use Rattle.label_spec.specs.NameLaws.{name_end, name_skip, name_keep, whole, left_done, differ}
 use Rattle.label_names.specs.Post.{Kept, empty, first_of, unlike}
 
 module _ (s : List ℕ) (i e r : ℕ) (k : Kept s i e r) where
@@ -33,25 +33,6 @@ idle_passed s i e h l n z =
     let p = passed s i e h l (Idle s i e) ignored (omega arith, h, refl) (λ k f g t x. (omega arith, omega arith, x.2 ∙ name_skip s k e g l t)) n z in
     record { low = p.low; high = p.high; same = p.kept.2; stops = p.stops }
 
--- Two names, and the next byte of each that counts.
-module _ (s : List ℕ) (i ie x : ℕ) (p : Kept s i ie x) (t : List ℕ) (j je y : ℕ) (q : Kept t j je y) (ls : ie ≤ length s) (lt : je ≤ length t) where
-  pub name_over : ie ≤ x → leb je y ≡ sames (name_in s i ie) (name_in t j je)
-  name_over h = rw (kept_end s i ie x p h) (cases (leb je y) refl)
-    where
-      cases : (z : Bool) → leb je y ≡ z → z ≡ sames [] (name_in t j je)
-      cases true e = rw (kept_end t j je y q (leb-true je y e)) (sym both_done)
-      cases false e = rw (kept_cons t j je y q (leb-false je y e) lt) (sym (left_done _ _))
-
-  pub name_longer : x < ie → je ≤ y → false ≡ sames (name_in s i ie) (name_in t j je)
-  name_longer h l = rw (kept_cons s i ie x p h ls, kept_end t j je y q l) (sym (right_done _ _))
-
-  module _ (u v : ℕ) (eu : u ≡ upper (get_or s x 0)) (ev : v ≡ upper (get_or t y 0)) (h : x < ie) (l : y < je) where
-    pub name_differs : (u ≡ v → ⊥) → false ≡ sames (name_in s i ie) (name_in t j je)
-    name_differs n = rw (kept_cons s i ie x p h ls, kept_cons t j je y q l lt, ← eu, ← ev) (sym (differ _ _ _ _ n))
-
-    pub name_on : u ≡ v → sames (name_in s i ie) (name_in t j je) ≡ sames (name_in s (x + 1) ie) (name_in t (y + 1) je)
-    name_on n = rw (kept_cons s i ie x p h ls, kept_cons t j je y q l lt) (agree _ _ _ _ (sym eu ∙ n ∙ ev))
-
 -- Does a byte count in a name? So many do, and so long the name is.
 abbrev pub counts : ℕ → Bool
 counts b = not (ignored b)
@@ -65,6 +46,18 @@ norm_counts (b ∷ l) =
 pub length_counts : (s : List ℕ) (i e : ℕ) → length (filter counts (part s i e)) ≡ length (name_in s i e)
 unfolding name_in
 length_counts s i e = norm_counts (part s i e)
+
+-- The bytes that count, in upper case, are the name as it is compared.
+norm_map : (l : List ℕ) → map upper (filter counts l) ≡ norm l
+unfolding norm
+norm_map [] = refl
+norm_map (b ∷ l) =
+    by_case (λ t. map upper (cond (not t) (b ∷ filter counts l) (filter counts l)) ≡ pick t (norm l) (upper b ∷ norm l)) (ignored b) (λ _. norm_map l)
+    (λ _. ap (λ (n : List ℕ). upper b ∷ n) (norm_map l))
+
+pub name_counts : (s : List ℕ) (i e : ℕ) → map upper (filter counts (part s i e)) ≡ name_in s i e
+unfolding name_in
+name_counts s i e = norm_map (part s i e)
 
 -- Is a name empty?
 module _ (s : List ℕ) (i e r : ℕ) (k : Kept s i e r) where

@@ -53,23 +53,15 @@ pub fn same_name(s: &[u8], a: usize, ae: usize, t: &[u8], b: usize, be: usize) -
     requires { (a ≤ ae) × (ae ≤ length s.now) × (b ≤ be) × (be ≤ length t.now) }
     ensures { result ≡ sames (name_in s.now a ae) (name_in t.now b be) }
 {
-    let mut i = a;
-    let mut j = b;
-    loop {
-        let x = next_kept(s, i, ae);
-        let y = next_kept(t, j, be);
-        if x >= ae {
-            return y >= be;
-        }
-        if y >= be {
-            return false;
-        }
-        if upper_of(s[x]) != upper_of(t[y]) {
-            return false;
-        }
-        i = x + 1;
-        j = y + 1;
-    }
+    let x = s[a..ae]
+        .iter()
+        .filter(|b| !is_ignored(**b))
+        .map(|b| upper_of(*b));
+    let y = t[b..be]
+        .iter()
+        .filter(|b| !is_ignored(**b))
+        .map(|b| upper_of(*b));
+    x.eq(y)
 }
 
 // How many bytes a name has as it is compared.

@@ -3,7 +3,7 @@
 
 ghost use Rattle.std.specs.Prelude.{◌≡◌, map, ◌<◌, ◌≤◌, length, take};
 ghost use Rattle.table_spec.specs.Frame.{ordinate_of};
-ghost use Rattle.ordinate_tally.specs.Tally.{less_of, great_of, faint_of, with_ordinate, Tallied};
+ghost use Rattle.ordinate_tally.specs.Tally.{less_of, faint_of, with_ordinate, Tallied};
 
 // What ordinates come to: how many are not missing and what they add up to, each as y + 2^31; the lowest and the highest of them and the faintest magnitude, 0 for none.
 #[derive(Clone, Copy)]
@@ -19,23 +19,7 @@ pub struct Tally {
 fn less_of(low: u64, u: u64) -> u64
     ensures { result ≡ less_of low u }
 {
-    if low == 0 {
-        return u;
-    }
-    if low < u {
-        return low;
-    }
-    u
-}
-
-// The greater of the two.
-fn great_of(high: u64, u: u64) -> u64
-    ensures { result ≡ great_of high u }
-{
-    if u < high {
-        return high;
-    }
-    u
+    if low == 0 { u } else { low.min(u) }
 }
 
 // The faintest magnitude, with one ordinate more; zero has none that counts.
@@ -43,12 +27,14 @@ fn faint_of(faint: u64, u: u64) -> u64
     ensures { result ≡ faint_of faint u }
 {
     if u == 2147483648 {
-        return faint;
+        faint
+    } else {
+        less_of(faint, frame::distance(u, 2147483648))
     }
-    less_of(faint, frame::distance(u, 2147483648))
 }
 
 // One ordinate more; a missing one adds nothing.
+#[tactic(auto, unfolding(crate::specs::Tally::with_ordinate))]
 fn tallied(t: Tally, u: u64) -> Tally
     requires { (t.given < 65536) × (t.raised < 281474976710656) × (u < 4294967296) }
     ensures { result ≡ with_ordinate t u }
@@ -59,7 +45,7 @@ fn tallied(t: Tally, u: u64) -> Tally
     let given = t.given + 1;
     let raised = t.raised + u;
     let low = less_of(t.low, u);
-    let high = great_of(t.high, u);
+    let high = t.high.max(u);
     let faint = faint_of(t.faint, u);
     Tally {
         given,
@@ -82,11 +68,8 @@ pub fn tally_up(ys: &[i32], n: usize) -> Tally
         high: 0,
         faint: 0,
     };
-    let mut k = n;
-    while 0 < k {
-        k = k - 1;
-        let u = signed::ordinate_at(ys, k);
-        t = tallied(t, u);
+    for k in (0..n).rev() {
+        t = tallied(t, signed::ordinate_at(ys, k));
     }
     t
 }

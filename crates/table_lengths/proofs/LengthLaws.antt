@@ -192,14 +192,6 @@ module _ (s : List ℕ) (at : ℕ) where
   pub scan_none : (i : ℕ) → Scanned s at i → i ≤ at → LastLf s at i
   scan_none i g l = record { low = g.low; high = g.high; found = λ k. absurd (omega arith); none = g.none }
 
--- ---- the two bytes after the 80
-
-pub ends_not : (s : List ℕ) (at : ℕ) → (get_or s (at + 80) 0 ≡ 13 → ⊥) → false ≡ ends_there s at
-ends_not s at e = rw (ne_eqb (get_or s (at + 80) 0) 13 e) refl
-
-pub ends_by : (s : List ℕ) (at b : ℕ) → get_or s (at + 80) 0 ≡ 13 → b ≡ get_or s (at + 80 + 1) 0 → eqb b 10 ≡ ends_there s at
-ends_by s at b e f = let k : at + 80 + 1 ≡ at + 81 = omega arith in rw (eq-eqb (get_or s (at + 80) 0) 13 e, f, k) refl
-
 -- ---- the next line
 
 module _ (s : List ℕ) (at : ℕ) (l : at + 80 < length s) where

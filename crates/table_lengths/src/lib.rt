@@ -15,14 +15,12 @@ fn past_last_lf(s: &[u8], at: usize) -> usize
     requires { at + longest_line < length s.now }
     ensures { LastLf s.now at result }
 {
-    let mut i = at + Frame::LONGEST_LINE + 1;
-    while i > at {
-        if s[i - 1] == b'\n' {
-            return i;
+    for i in (at..at + Frame::LONGEST_LINE + 1).rev() {
+        if s[i] == b'\n' {
+            return i + 1;
         }
-        i -= 1;
     }
-    i
+    at
 }
 
 // Does CR LF stand directly after the 80 bytes from a place on?
@@ -30,10 +28,7 @@ fn ends_at_80(s: &[u8], at: usize) -> bool
     requires { at + longest_line < length s.now }
     ensures { result ≡ ends_there s.now at }
 {
-    if s[at + Frame::LONGEST_LINE] != b'\r' {
-        return false;
-    }
-    byte_at(s, at + Frame::LONGEST_LINE + 1) == b'\n'
+    s[at + Frame::LONGEST_LINE] == b'\r' && byte_at(s, at + Frame::LONGEST_LINE + 1) == b'\n'
 }
 
 // From a line's first byte, with at least 81 bytes left: the first byte of a later line, where all lines before that one are short enough; the line's own if it is too long.
@@ -42,9 +37,10 @@ fn next_line(s: &[u8], at: usize) -> usize
     ensures { NextLine s.now at result }
 {
     if ends_at_80(s, at) {
-        return at + Frame::LONGEST_LINE + 2;
+        at + Frame::LONGEST_LINE + 2
+    } else {
+        past_last_lf(s, at)
     }
-    past_last_lf(s, at)
 }
 
 // Where the first line over 80 bytes of a body begins.

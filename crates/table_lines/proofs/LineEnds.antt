@@ -1,14 +1,16 @@
 -- Blanks, comments and ends of lines: from the entries at a place to what is left to read. No place of the code is named here. Assumes nothing.
 use mathlib.Core.Path.{◌≡◌, refl, sym, ap, ◌∙◌}
-use mathlib.Core.Bool.{Bool, true, false}
+use mathlib.Core.Bool.{Bool, true, false, not}
 use mathlib.Core.List.{List}
-use Prim.Native.Nat.{ℕ, suc, ◌+◌, ◌-◌, ◌≤◌, ◌<◌}
+use Prim.Native.Nat.{ℕ, suc, min, ◌+◌, ◌-◌, ◌≤◌, ◌<◌}
 use native.Mathlib.Omega.{arith}
 use native.Mathlib.Numerals.{add-one}
 use lib.Dec.{ltb, eqb}
-use lib.ListN.{length, get_or, drop, drop_of_length-le}
+use lib.ListN.{length, get_or, take, drop, drop_of_length-le}
 use lib.Seq.{drop-cons, drop-drop}
 use borrow.Author.Tests.{eq-eqb, ne_eqb, lt-ltb, le-ltb, ltb-true, ltb-false}
+use Rattle.std.specs.List.{prefix_len}
+use Rattle.text.proofs.Passing.{differs, equals, rest, passed}
 use Rattle.terms.specs.Logic.{pick, by_case}
 use Rattle.alphabet_spec.specs.Kinds.{tabs_too}
 use Rattle.alphabet_spec.specs.Bytes.{Byte, blank, point, lf, cr, dollar, other, kind}
@@ -47,17 +49,31 @@ blank_within s i q e =
 
 -- ---- comments
 
-pub comment_end : (s : List ℕ) (i : ℕ) → length s ≤ i → comment (drop i s) ≡ 0
+comment_end : (s : List ℕ) (i : ℕ) → length s ≤ i → comment (drop i s) ≡ 0
 unfolding comment
 comment_end s i h = rw (drop_of_length-le s h) refl
 
-pub comment_lf : (s : List ℕ) (i : ℕ) → i < length s → get_or s i 0 ≡ 10 → comment (drop i s) ≡ 1
+comment_lf : (s : List ℕ) (i : ℕ) → i < length s → get_or s i 0 ≡ 10 → comment (drop i s) ≡ 1
 unfolding comment
 comment_lf s i h e = rw (drop-cons s i 0 h, eq-eqb (get_or s i 0) 10 e) refl
 
-pub comment_on : (s : List ℕ) (i : ℕ) → i < length s → (get_or s i 0 ≡ 10 → ⊥) → comment (drop i s) ≡ suc (comment (drop (i + 1) s))
+comment_on : (s : List ℕ) (i : ℕ) → i < length s → (get_or s i 0 ≡ 10 → ⊥) → comment (drop i s) ≡ suc (comment (drop (i + 1) s))
 unfolding comment
 comment_on s i h e = rw (drop-cons s i 0 h, ne_eqb (get_or s i 0) 10 e, add-one i) refl
+
+-- so many bytes of a comment are passed
+pub comment_passed : (s : List ℕ) (at : ℕ) → at ≤ length s → (n : ℕ) → n ≡ length (take (prefix_len (λ b. not (eqb b 10)) (rest s at)) (rest s at))
+    → (r : ℕ) → r ≡ min (length s) (at + n + 1) → Commented s at r
+comment_passed s at h n z r e =
+    let p = passed s at (length s) h (omega arith) (λ i. comment (drop at s) ≡ i - at + comment (drop i s)) (λ b. not (eqb b 10)) (omega arith)
+    (λ i l m t x. let c = comment_on s i m (differs (get_or s i 0) 10 t) in omega (arith, c, x)) n z in
+    by_case (λ t. ltb (at + n) (length s) ≡ t → Commented s at r) (ltb (at + n) (length s))
+    (λ _ q. let l = ltb-true (at + n) (length s) q in
+    let c = comment_lf s (at + n) l (equals (get_or s (at + n) 0) 10 (p.stops l)) in
+    record { low = omega arith; high = omega arith; is = p.kept ∙ omega (arith, c) })
+    (λ _ q. let l = ltb-false (at + n) (length s) q in
+    let c = comment_end s (at + n) l in
+    record { low = omega (arith, p.high); high = omega arith; is = p.kept ∙ omega (arith, c, p.high) }) refl
 
 -- ---- ends of lines
 

@@ -46,15 +46,8 @@ fn comment(s: &[u8], from: usize) -> usize
     requires { from ≤ length s.now }
     ensures { Commented s.now from result }
 {
-    let mut i = from;
-    while i < s.len() {
-        let b = s[i];
-        i += 1;
-        if b == b'\n' {
-            return i;
-        }
-    }
-    i
+    let end = from + s[from..].iter().take_while(|b| **b != b'\n').count();
+    s.len().min(end + 1)
 }
 
 // What stands at a place whose entry e is a point's or above: a line's end, a comment counted in, or a byte that cannot stand there.

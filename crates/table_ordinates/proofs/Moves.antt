@@ -1,5 +1,5 @@
 -- Ordinates that move by differences, and copies of them. No place of the code is named here. Assumes nothing.
-use mathlib.Core.Path.{◌≡◌, refl, sym, ap, ◌∙◌, subst}
+use mathlib.Core.Path.{◌≡◌, refl, sym, ap, ◌∙◌}
 use mathlib.Core.Bool.{Bool, true, false}
 use mathlib.Core.List.{List, ◌∷◌}
 use mathlib.Core.Logic.{◌⊎◌, inl, inr}
@@ -116,13 +116,6 @@ reach_small false d n q h k = k
 pub reaches : (m : Bool) (d n q : ℕ) → in_range (moved m (d * n) q) ≡ true → Reaches m d n q
 reaches true d n q e = let z = ranged (q - d * n) e in omega (arith, z.0)
 reaches false d n q e = (ranged (q + d * n) e).1
-
--- one step within reach, down or up
-pub reach_down : {m : Bool} (d q : ℕ) → m ≡ true → Reaches m d 1 q → d ≤ q
-reach_down {m} d q e h = let g = subst (λ (t : Bool). Reaches t d 1 q) e h in let y : d * 1 ≡ d = mul-one d in omega (arith, g)
-
-pub reach_up : {m : Bool} (d q : ℕ) → m ≡ false → Reaches m d 1 q → q + d < 4294967296
-reach_up {m} d q e h = let g = subst (λ (t : Bool). Reaches t d 1 q) e h in let y : d * 1 ≡ d = mul-one d in omega (arith, g)
 
 -- an ordinate less or more a difference, as the code tests it
 shift_down : {m : Bool} (v q : ℕ) → m ≡ true → q ≤ v → 0 ≡ shifted_to m v q

@@ -27,9 +27,6 @@ pub record Repeating (out₀ out : List ℤ) (k q n i u left : ℕ) (m : Bool) (
   pub count : i + left ≡ k + n
   pub same : length out ≡ length out₀
 
-pub repeat_start : (out : List ℤ) (k q n : ℕ) (m : Bool) (d : ℕ) → q < 4294967296 → Reaches m d n q → Repeating out out k q n k q n m d
-repeat_start out k q n m d h r = record { stored = refl; reach = r; small = h; count = refl; same = refl }
-
 module _ {out₀ out : List ℤ} {k q n i u left : ℕ} {m : Bool} {d : ℕ} (g : Repeating out₀ out k q n i u left m d) (l : 0 < left) where
   one_less : left ≡ suc (left - 1)
   one_less = omega arith
@@ -53,6 +50,3 @@ module _ {out₀ out : List ℤ} {k q n i u left : ℕ} {m : Bool} {d : ℕ} (g 
         count = omega arith;
         same = rw f (length-set out i (entry_for v)) ∙ g.same;
       }
-
-pub repeat_end : {out₀ out : List ℤ} {k q n i u left : ℕ} {m : Bool} {d : ℕ} → Repeating out₀ out k q n i u left m d → left ≡ 0 → out ≡ sets out₀ k (map entry_for (copies n (By m d) q))
-repeat_end {out₀} {out} {k} {q} {n} {i} {u} {left} {m} {d} g z = subst (λ (x : ℕ). sets out i (map entry_for (copies x (By m d) u)) ≡ sets out₀ k (map entry_for (copies n (By m d) q))) z g.stored

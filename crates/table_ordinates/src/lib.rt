@@ -14,10 +14,7 @@ pub fn moved_by(q: u64, minus: bool, v: u64) -> u64
     requires { Reaches minus v 1 q }
     ensures { result ≡ moved minus v q }
 {
-    if minus {
-        return q - v;
-    }
-    q + v
+    if minus { q - v } else { q + v }
 }
 
 // An ordinate and a difference, where both sums are ones. Both are made, and the sign picks one: no processor can foresee a jump on it.
@@ -27,10 +24,7 @@ pub fn turned(q: u64, minus: bool, v: u64) -> u64
 {
     let up = q + v;
     let down = q - v;
-    if minus {
-        return down;
-    }
-    up
+    if minus { down } else { up }
 }
 
 // So much higher an ordinate stands while a difference moves it: no difference is larger.
@@ -72,13 +66,9 @@ pub fn repeat(out: &mut [i32], k: usize, q: u64, minus: bool, d: u64, n: usize)
     if k >= out.len() {
         return;
     }
-    let mut i = k;
     let mut u = q;
-    let mut left = n;
-    while left > 0 {
+    for i in k..k + n {
         u = moved_by(u, minus, d);
         put(out, i, u);
-        i += 1;
-        left -= 1;
     }
 }

@@ -6,5 +6,5 @@ use Rattle.alphabet.proofs.entry_at.Goals as goal
 pub returns-then-i-s : goal.returns-then-i-s
 returns-then-i-s c = c.entry_of.ensures ∙ sym (at_entry _ _ c.if-i-s.true)
 
-pub returns : goal.returns
-returns c = sym (past_end _ _ c.if-i-s.false)
+pub returns-else-i-s : goal.returns-else-i-s
+returns-else-i-s c = sym (past_end _ _ c.if-i-s.false)

@@ -1,9 +1,9 @@
 -- `compound_names::own_known` meets its contract: mark by mark, up to the label's own.
-use Prim.Native.Nat.{◌-◌}
 use native.Mathlib.Omega.{arith}
 use Rattle.label_spec.specs.LabelLaws.{hash_in}
 use Rattle.compound_names.proofs.NameScan.{near_begin, near_past, near_none, near_known, near_over, near_on}
 use Rattle.compound_names.proofs.own_known.Goals as goal
+use Rattle.compound_names.proofs.own_known.Goals.{then-here-mark-via-then-here-mark, then-here-mark-via-else-here-mark+then-here-s}
 
 pub loop-start-init : goal.loop-start-init
 loop-start-init c = near_begin _ _ _ _ c.requires.0
@@ -12,10 +12,10 @@ pub next_mark-here-requires : goal.next_mark-here-requires
 next_mark-here-requires c = c.loop-start.invariant.high
 
 pub returns-then-here-mark : goal.returns-then-here-mark
-returns-then-here-mark c = near_past _ _ _ _ _ _ c.loop-start.invariant _ c.next_mark-here.ensures c.if-here-mark.true
-
-pub returns-then-here-s : goal.returns-then-here-s
-returns-then-here-s c = near_none _ _ _ _ _ _ c.loop-start.invariant _ c.next_mark-here.ensures c.if-here-s.true
+returns-then-here-mark c = elim c.then-here-mark.branch [
+  | then-here-mark-via-then-here-mark w ↦ near_past _ _ _ _ _ _ c.loop-start.invariant _ c.next_mark-here.ensures w.if-here-mark.true
+  | then-here-mark-via-else-here-mark+then-here-s w ↦ near_none _ _ _ _ _ _ c.loop-start.invariant _ c.next_mark-here.ensures w.if-here-s.true
+]
 
 pub met_here-requires : goal.met_here-requires
 met_here-requires c =

@@ -1,14 +1,9 @@
 -- `detab::detab` meets its contract: every byte of the body is as the converter leaves it.
 use mathlib.Core.Path.{◌≡◌}
 use mathlib.Core.Bool.{false}
-use Prim.Native.Nat.{◌-◌, ◌≤◌}
-use lib.ListN.{length}
 use Rattle.table_spec.specs.Tabs.{spaced}
 use Rattle.detab.proofs.Turns.{from_there}
 use Rattle.detab.proofs.detab.Given as goal
 
 abbrev pub invariant-loop-i : goal.invariant-loop-i
-invariant-loop-i l = (from_there l.inside l.i l.body ≡ spaced false l.initial.body) × (length l.body ≡ length l.initial.body) × (l.i ≤ l.n)
-
-abbrev pub decreases-loop-i : goal.decreases-loop-i
-decreases-loop-i l = l.n - l.i
+invariant-loop-i l = (from_there l.inside l.i l.body ≡ spaced false l.initial.body)

@@ -1,6 +1,6 @@
 -- `file_pieces::put_bytes` meets its contract: each byte in its place; what is left is stored from the next one on.
 use mathlib.Core.Path.{◌≡◌, refl}
-use Prim.Native.Nat.{◌+◌, ◌-◌}
+use Prim.Native.Nat.{◌+◌}
 use native.Mathlib.Omega.{arith}
 use lib.ListN.{length-set}
 use Rattle.file_pieces.proofs.Steps.{bytes_again, bytes_end}

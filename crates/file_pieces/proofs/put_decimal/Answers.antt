@@ -1,5 +1,4 @@
 -- `file_pieces::put_decimal` meets its contract: a sign only if it is negative, digits, exponent.
-use Prim.Native.Nat.{◌-◌}
 use native.Mathlib.Omega.{arith}
 use Rattle.file_pieces.proofs.Steps.{decimal_minus, decimal_plain}
 use Rattle.file_pieces.proofs.put_decimal.Goals as goal

@@ -1,5 +1,4 @@
 -- `file_pieces::put_two` meets its contract: three bytes in a row.
-use Prim.Native.Nat.{◌-◌}
 use Rattle.file_pieces.proofs.Steps.{put_three_bytes}
 use Rattle.file_pieces.proofs.put_two.Goals as goal
 

@@ -1,31 +1,19 @@
--- `label_names::same_name` meets its contract: what is left of one name equals what is left of the other exactly if the whole names are equal.
-use mathlib.Core.Path.{sym, ◌∙◌}
-use native.Mathlib.Omega.{arith}
-use Rattle.label_names.proofs.NameTurns.{name_over, name_longer, name_differs, name_on}
+-- `label_names::same_name` meets its contract: the bytes of either that count, in upper case, are compared.
+use mathlib.Core.Path.{◌≡◌}
+use borrow.Author.Tests.{tests}
+use Rattle.std.proofs.Common.{rules}
+use Rattle.std.proofs.lemmas.Iterator.{YieldsList-from_slice, YieldsList-from_map}
+use Rattle.std.proofs.lemmas.Iterator.Consumers.{YieldsList-at, YieldsList-from_filter}
+use Rattle.label_spec.specs.Names.{upper}
+use Rattle.label_names.proofs.NameTurns.{counts, name_counts}
+use Rattle.label_names.proofs.Comparing.{sames_from_yields}
 use Rattle.label_names.proofs.same_name.Goals as goal
 
-pub returns-then-x-ae : goal.returns-then-x-ae
-returns-then-x-ae c =
-    let l = c.loop-a in
-    sym (l.invariant.2 ∙ sym (name_over _ _ _ _ c.next_kept-x.ensures _ _ _ _ c.next_kept-y.ensures (omega arith) (omega arith) c.if-x-ae.true))
-
-pub returns-then-y-be : goal.returns-then-y-be
-returns-then-y-be c =
-    let l = c.loop-a in
-    sym (l.invariant.2 ∙ sym (name_longer _ _ _ _ c.next_kept-x.ensures _ _ _ _ c.next_kept-y.ensures (omega arith) (omega arith)
-    c.if-x-ae.false c.if-y-be.true))
-
-pub returns-then-upper_of : goal.returns-then-upper_of
-returns-then-upper_of c =
-    let l = c.loop-a in
-    sym (l.invariant.2 ∙ sym (name_differs _ _ _ _ c.next_kept-x.ensures _ _ _ _ c.next_kept-y.ensures (omega arith) (omega arith)
-    _ _ c.upper_of.ensures c.upper_of-in-loop-a.ensures (omega arith) (omega arith) c.if-upper_of.true))
-
-pub loop-a-preserved : goal.loop-a-preserved
-loop-a-preserved c =
-    let l = c.loop-a in (
-      omega arith,
-      omega arith,
-      l.invariant.2 ∙ name_on _ _ _ _ c.next_kept-x.ensures _ _ _ _ c.next_kept-y.ensures (omega arith) (omega arith)
-          _ _ c.upper_of.ensures c.upper_of-in-loop-a.ensures (omega arith) (omega arith) c.if-upper_of.false,
-    )
+pub returns : goal.returns
+returns c =
+    let x = YieldsList-at c.filter.ensures.source (YieldsList-from_slice _ c.iter.ensures.rest) in
+    let y = YieldsList-at c.filter-2.ensures.source (YieldsList-from_slice _ c.iter-2.ensures.rest) in
+    rw (← name_counts c.args.s.now c.args.a c.args.ae, ← name_counts c.args.t.now c.args.b c.args.be)
+    (sames_from_yields (λ p q. q ≡ p) c.map-y.result _ c.eq.ensures.ran
+    (YieldsList-from_map _ upper (YieldsList-at c.map-x.ensures.source (YieldsList-from_filter _ counts x c.filter.ensures.closure (λ x b q k. search (rules, tests)))) c.map-x.ensures.closure (λ x r q k. search rules))
+    (λ it h. rw h (YieldsList-from_map _ upper (YieldsList-at c.map-y.ensures.source (YieldsList-from_filter _ counts y c.filter-2.ensures.closure (λ x b q k. search (rules, tests)))) c.map-y.ensures.closure (λ x r q k. search rules))))

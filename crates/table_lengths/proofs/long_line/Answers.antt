@@ -1,7 +1,5 @@
 -- `table_lengths::long_line` meets its contract: no line before `at` is too long.
 use mathlib.Core.Path.{refl, sym, ap, ◌∙◌}
-use mathlib.Core.Bool.{true}
-use Prim.Native.Nat.{◌-◌}
 use native.Mathlib.Omega.{arith}
 use Rattle.table_lengths.specs.Lengths.{shown_long}
 use Rattle.table_lengths.proofs.LengthLaws.{text_ends}

@@ -7,5 +7,5 @@ use Rattle.table_lengths.proofs.next_line.Goals as goal
 pub returns-then-ends_at_80 : goal.returns-then-ends_at_80
 returns-then-ends_at_80 c = next_after _ _ c.requires _ (sym c.ends_at_80.ensures ∙ c.if-ends_at_80.true) (omega arith)
 
-pub returns : goal.returns
-returns c = next_by _ _ c.requires _ c.past_last_lf.ensures (sym c.ends_at_80.ensures ∙ c.if-ends_at_80.false)
+pub returns-else-ends_at_80 : goal.returns-else-ends_at_80
+returns-else-ends_at_80 c = next_by _ _ c.requires _ c.past_last_lf.ensures (sym c.ends_at_80.ensures ∙ c.if-ends_at_80.false)

@@ -1,10 +1,6 @@
 -- `table_lengths::past_last_lf` meets its contract: no LF stands from i on.
-use Prim.Native.Nat.{◌-◌}
 use Rattle.table_lengths.proofs.LengthLaws.{Scanned}
 use Rattle.table_lengths.proofs.past_last_lf.Given as goal
 
 abbrev pub invariant-loop-i : goal.invariant-loop-i
 invariant-loop-i l = Scanned l.s l.at l.i
-
-abbrev pub decreases-loop-i : goal.decreases-loop-i
-decreases-loop-i l = l.i

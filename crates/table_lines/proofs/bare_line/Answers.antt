@@ -1,6 +1,5 @@
 -- `table_lines::bare_line` meets its contract: only blanks or a comment between a head and its line's end?
 use Rattle.table_lines.proofs.Bare.{bare_value, bare_end, bare_bad}
-use Prim.Native.Nat.{◌-◌}
 use Rattle.table_lines.proofs.bare_line.Goals as goal
 
 pub returns-then-e-lt-POINT : goal.returns-then-e-lt-POINT

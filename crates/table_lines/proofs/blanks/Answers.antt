@@ -1,6 +1,5 @@
 -- `table_lines::blanks` meets its contract: the first place from here on where no blank stands.
 use mathlib.Core.Path.{refl, ◌∙◌}
-use Prim.Native.Nat.{◌-◌}
 use native.Mathlib.Omega.{arith}
 use borrow.Author.Rules.{rules}
 use Rattle.alphabet.specs.Standing.{blank_seen, blank_seen_not}

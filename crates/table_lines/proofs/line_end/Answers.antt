@@ -1,9 +1,8 @@
 -- `table_lines::line_end` meets its contract: what stands at a place whose entry e is a point's or above.
 use mathlib.Core.Path.{sym, ◌∙◌}
-use Prim.Native.Nat.{◌+◌, ◌-◌}
+use Prim.Native.Nat.{◌+◌}
 use native.Mathlib.Omega.{arith}
 use Rattle.alphabet_spec.proofs.EntryLaws.{entry_in}
-use Rattle.table_spec.specs.Reading.{comment}
 use Rattle.table_lines.proofs.LineEnds.{end_over, end_lf, end_cr, end_comment, end_no_cr, end_no_dollar, end_bad}
 use Rattle.table_lines.proofs.line_end.Goals as goal
 

@@ -1,6 +1,5 @@
 -- `table_lines::row_start` meets its contract: the start of the next line that is not passed over.
 use mathlib.Core.Path.{sym, ◌∙◌}
-use Prim.Native.Nat.{◌-◌}
 use native.Mathlib.Omega.{arith}
 use Rattle.alphabet_spec.proofs.EntryLaws.{entry_in}
 use Rattle.table_lines.proofs.LineEnds.{start_end}
