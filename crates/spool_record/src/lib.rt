@@ -7,6 +7,11 @@ ghost use Rattle.night_spec.specs.Spool.{record_at, length_at, refused_at};
 use night_spec::Spooled;
 use terms::Fault;
 
+// The two bytes that a record begins with.
+const FIRST_MARK: u8 = b'J';
+
+const SECOND_MARK: u8 = b'D';
+
 // The length of the file whose record stands at a place: three bytes, high byte first.
 fn length_at(s: &[u8], at: usize) -> usize
     requires { at + 5 ≤ length s.now }
@@ -40,7 +45,7 @@ pub fn record_at(s: &[u8], at: usize, left: usize) -> Spooled
     if rest < 5 {
         return refused(35, at);
     }
-    if s[at] != b'J' || s[at + 1] != b'D' {
+    if s[at] != FIRST_MARK || s[at + 1] != SECOND_MARK {
         return refused(34, at);
     }
     let size = length_at(s, at);
