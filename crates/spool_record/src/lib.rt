@@ -7,6 +7,11 @@ ghost use Rattle.night_spec.specs.Spool.{record_at, length_at, refused_at};
 use terms::{Fault, Reason};
 use label_spec::Span;
 
+// The two bytes that a record begins with.
+const FIRST_MARK: u8 = b'J';
+
+const SECOND_MARK: u8 = b'D';
+
 // The length of the file whose record stands at a place: three bytes, high byte first.
 fn length_at(s: &[u8], at: usize) -> usize
     requires { at + 5 ≤ length s.now }
@@ -33,7 +38,7 @@ pub fn record_at(s: &[u8], at: usize, left: usize) -> Result<Option<Span>, Fault
     if rest < 5 {
         return Err(Fault::new(Reason::CutOff, at));
     }
-    if s[at] != b'J' || s[at + 1] != b'D' {
+    if s[at] != FIRST_MARK || s[at + 1] != SECOND_MARK {
         return Err(Fault::new(Reason::NoMark, at));
     }
     let size = length_at(s, at);

@@ -21,7 +21,7 @@ const BYTES_A_POINT: usize = 15;
 
 const BYTES_BESIDE: usize = 44;
 
-// The whole text in DIFDUP form from the start of the lent bytes. Its length.
+// The whole text in DIFDUP form from the start of the lent bytes. Its length. A loop by hand: a turn takes the differences that stand alone, and a group.
 fn pass(ys: &[i32], text: &mut [u8], fr: Frame) -> usize
     requires { Sound fr × (length ys.now ≡ fr.points) }
     ensures { Put text.old 0 text.new result (lines_of Difdup (head_of fr) (ordinates ys.now)) }
@@ -59,11 +59,10 @@ pub fn length_of(style: Style, ys: &[i32], fr: Frame) -> usize
     requires { Sound fr × (length ys.now ≡ fr.points) }
     ensures { result ≡ length (lines_of style (head_of fr) (ordinates ys.now)) }
 {
-    let mut none = [0u8; 1];
     if is_full(style) {
-        return text_values::measure(style, ys, &mut none[..0], fr);
+        return text_values::measure(style, ys, &mut [], fr);
     }
-    measure(ys, &mut none[..0], fr)
+    measure(ys, &mut [], fr)
 }
 
 // Does the text in a form fit into so many bytes? It is measured only where there are fewer than always suffice.

@@ -8,7 +8,7 @@ ghost use Rattle.table_text.specs.Pieces.{Put, head_of};
 
 use frame::Frame;
 use table_text::digits::{DIGIT, further_digits, put, put_number};
-use text_thousandths::{abscissa, fraction_length, put_fraction};
+use text_thousandths::{abscissa, put_fraction};
 
 // g thousandths. The place after them.
 fn put_magnitude(out: &mut [u8], at: usize, g: u64) -> usize
@@ -36,27 +36,10 @@ pub fn put_head(out: &mut [u8], at: usize, fr: Frame, i: usize) -> usize
     put_magnitude(out, next, 10000000000 - h)
 }
 
-// The bytes of g thousandths.
-fn magnitude_length(g: u64) -> usize
-    requires { g ≤ 10000000000 }
-    ensures { (result ≡ length (magnitude g)) × (result ≤ 14) }
-{
-    let whole = g / 1000;
-    let part = g % 1000;
-    let n = further_digits(whole);
-    let rest = fraction_length(part);
-    n + 1 + rest
-}
-
-// The bytes of the head of the point i.
+// The bytes of the head of the point i: the place after it where nothing is lent.
 pub fn head_bytes(fr: Frame, i: usize) -> usize
     requires { Sound fr × (i < fr.points) }
     ensures { (result ≡ length (head_of fr i)) × (result ≤ 15) }
 {
-    let h = abscissa(fr, i);
-    if 10000000000 <= h {
-        return magnitude_length(h - 10000000000);
-    }
-    let bytes = magnitude_length(10000000000 - h);
-    bytes + 1
+    put_head(&mut [], 0, fr, i)
 }

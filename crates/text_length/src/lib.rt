@@ -61,7 +61,7 @@ fn count_differences(ys: &[i32], s: State) -> State
     count_repeated(ys, t)
 }
 
-// The groups that fit on the line.
+// The groups that fit on the line. A loop by hand: a turn takes as many points as differences go on, and a group.
 fn count_line(ys: &[i32], s: State) -> State
     requires { Countable (2 ^ 57) ys.now s × (s.given ≤ length ys.now) }
     ensures { Counted (ordinates ys.now) s result × Full (ordinates ys.now) s result }

@@ -29,7 +29,7 @@ fn break_line(ys: &[i32], out: &mut [u8], fr: Frame, s: State, g: Group) -> Stat
     if s.dif {
         return fill(ys, out, fr, t, g);
     }
-    let h = find(ys, t.given, t.last);
+    let h = find(ys, t.given, 0);
     fill(ys, out, fr, t, h)
 }
 

@@ -54,19 +54,10 @@ pub fn put_fraction(out: &mut [u8], at: usize, f: u64) -> usize
     at + 4
 }
 
-// The bytes of the thousandths after the point, and of the point.
+// The bytes of the thousandths after the point, and of the point: the place after them where nothing is lent.
 pub fn fraction_length(part: u64) -> usize
     requires { part < 1000 }
     ensures { (result ≡ length (fraction part)) × (result ≤ 4) }
 {
-    if part == 0 {
-        return 0;
-    }
-    if part % 100 == 0 {
-        return 2;
-    }
-    if part % 10 == 0 {
-        return 3;
-    }
-    4
+    put_fraction(&mut [], 0, part)
 }

@@ -14,7 +14,7 @@ use signed::ordinate_at;
 use text_marks::{Marks, width_of};
 use text_shows::put_value;
 
-// How far the writing has come: points given, the place after the last byte, and the bytes of the line so far.
+// How far the writing has come: points given, the place after the last byte, and the bytes of the line so far. Less than text_openings' State: no value in full hangs on the ordinate before it.
 #[derive(Clone, Copy)]
 pub struct State {
     pub given: usize,

@@ -23,15 +23,15 @@ find-h-requires c =
     let few = p.0.sound.few in
     let v = c.new_line-t.ensures in
     let given = ap (λ (x : State). x.given) v.is in
-    let last = ap (λ (x : State). x.last) v.is in
-    (omega (arith, given, p.0.some), omega (arith, p.0.all), rw (last, c.if-s.false) (omega arith))
+    (omega (arith, given, p.0.some), omega (arith, p.0.all), omega arith)
 
 pub fill-requires-2 : goal.fill-requires-2
 fill-requires-2 c =
     let p = c.requires in
     let few = p.0.sound.few in
     let v = c.new_line-t.ensures in
-    (c.find-h.ensures, omega (arith, p.0.all), omega (arith, v.most, p.0.near), v.column_most)
+    let last = ap (λ (x : State). x.last) v.is in
+    (rw (last, c.if-s.false) c.find-h.ensures, omega (arith, p.0.all), omega (arith, v.most, p.0.near), v.column_most)
 
 pub returns-then-s : goal.returns-then-s
 returns-then-s c =

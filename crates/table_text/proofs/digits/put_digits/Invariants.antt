@@ -2,8 +2,5 @@
 use Rattle.table_text.specs.Digits.{Digits}
 use Rattle.table_text.proofs.digits.put_digits.Given as goal
 
-abbrev pub invariant-loop-j : goal.invariant-loop-j
-invariant-loop-j l = Digits l.v l.n l.at l.initial.out l.out l.w l.j
-
-abbrev pub decreases-loop-j : goal.decreases-loop-j
-decreases-loop-j l = l.j
+abbrev pub invariant-loop-i : goal.invariant-loop-i
+invariant-loop-i l = Digits l.v l.n l.at l.initial.out l.out l.w l.i
