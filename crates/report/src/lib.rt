@@ -1,4 +1,5 @@
-// What the programs print (01, "Bench samples"): ordinates, and on standard error, which each function is lent, what a person is told. What is printed is tested against stored output; nothing is claimed of it.
+// What the programs print (01, "Bench samples"): ordinates, and on standard error, which each function is lent, what a person is told.
+// What is printed is tested against stored output; nothing is claimed of it.
 #![tactic(auto)]
 
 use refusal_words::meaning;
