@@ -77,7 +77,7 @@ pub enum FoundBody {
 }
 
 // Whether the quotients of a file are exact, nothing being rounded (02, T-08): F's, L's, and FIRSTY's, which is exact too where it is not compared.
-#[derive(Clone, Copy)]
+#[derive(Clone, Copy, PartialEq)]
 pub struct Exactness {
     pub first: bool,
     pub last: bool,

@@ -6,14 +6,9 @@ use replay_back::{WRITTEN, same};
 use replay_input::Asked;
 use replay_show::FILL;
 
-// Is the same exact?
-fn same_exact(x: Exactness, y: Exactness) -> bool {
-    x.first == y.first && x.last == y.last && x.firsty == y.firsty
-}
-
 // Has a file that was read back N and the ordinates, and what the writer said is exact?
 fn same_table(a: Asked, exact: Exactness, t: FileTable, ys: &[i32], back: &[i32]) -> bool {
-    t.points == a.points && same_exact(t.exact, exact) && same(ys, back, t.points)
+    t.points == a.points && t.exact == exact && same(ys, back, t.points)
 }
 
 // Does reading the written file give it back?
