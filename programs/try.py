@@ -40,10 +40,10 @@ def same_words():
     """The meanings of crates/refusal_words are those of refusals.c."""
     report = open(ROOT + "/crates/refusal_words/src/lib.rt", encoding="utf-8").read()
     ours = dict(re.findall(r'\[(\d+)\] = "(.*)"', open(ROOT + "/programs/refusals.c", encoding="utf-8").read().split("write_words")[0]))
-    theirs = re.findall(r'(\d+|_) => say\(\s*errors,\s*b"(.*)",?\s*\)', report)
-    others = iter(["16", "29"])
+    theirs = re.findall(r'(\S+) => "(.*)",', report)
+    others = {"0..=18": "16", "_": "29"}
     for number, words in theirs:
-        number = next(others) if number == "_" else number
+        number = others.get(number, number)
         need(ours.get(number) == words, f"refusal {number} means {words!r} in crates/refusal_words, {ours.get(number)!r} here")
     need(len(theirs) == 25, f"crates/refusal_words has words for {len(theirs)} refusals, not for 25")
     numbers = set(re.findall(r"^\| (\d+) \|", open(ROOT + "/docs/REFUSALS.md", encoding="utf-8").read(), re.M)) - {"15", "37"}

@@ -23,9 +23,8 @@ pub fn lastarunc_read_block(
 ) -> u64
     ensures { BlockTold file.now block.now out.old out.new answer.new result }
 {
-    let start = block[2] as usize;
-    let end = block[3] as usize;
-    let read = compound_read::read_block(file, start, end, out);
+    let [_, _, start, end] = *block;
+    let read = compound_read::read_block(file, start as usize, end as usize, out);
     tell_block(read, answer)
 }
 
@@ -38,8 +37,7 @@ pub fn lastarunc_find_in_block(
 ) -> u64
     ensures { BlockRecordTold file.now block.now name.now answer.new result }
 {
-    let from = block[0] as usize;
-    let end = block[3] as usize;
-    let found = compound_read::find_in_block(file, from, end, name);
+    let [from, _, _, end] = *block;
+    let found = compound_read::find_in_block(file, from as usize, end as usize, name);
     tell_record(found, answer)
 }

@@ -20,7 +20,7 @@ enum Form {
     NoForm,
 }
 
-// The form of this number (02, T-02).
+// The form of this number (02, T-02). A function of its own: an impl of `TryFrom` for `Style` can stand only in `table_spec`, which knows no header.
 fn form_of(form: u64) -> Form
     ensures { FormOf form result }
 {

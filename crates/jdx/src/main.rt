@@ -2,10 +2,11 @@
 #![tactic(auto)]
 
 use file_spec::FileTable;
+use report::Ordinate;
 use standard_input::read_full;
 use std::io;
 use std::io::Print;
-use terms::Refusal;
+use terms::{Reason, Refusal};
 
 // The most bytes that are read (01, "Bench samples").
 const LONGEST_INPUT: usize = 49152;
@@ -20,41 +21,27 @@ fn show(
     table: FileTable,
     out: &[i32; MOST_POINTS],
 ) -> io::Result<()> {
-    output.write_all(b"ok ")?;
-    output.print(table.points)?;
-    output.write_all(b" ")?;
-    report::print_abscissa(output, table.first)?;
-    output.write_all(b" ")?;
-    report::print_abscissa(output, table.last)?;
-    report::end_line(output)?;
-    show_points(output, out, table.points)?;
+    println!(output; "ok {} {} {}", table.points, table.first, table.last)?;
+    for y in out.iter().take(table.points) {
+        output.println(Ordinate(*y))?;
+    }
     explain_rounded(errors, table)
 }
 
 // On standard error, which of F and L was rounded (02, T-08); nothing where both are exact.
 fn explain_rounded(errors: &impl Print, table: FileTable) -> io::Result<()> {
     if !table.exact.first {
-        report::explain_rounded(errors, b"FIRSTX", table.first)?;
+        report::explain_rounded(errors, "FIRSTX", table.first)?;
     }
     if !table.exact.last {
-        report::explain_rounded(errors, b"LASTX", table.last)?;
-    }
-    Ok(())
-}
-
-// The first n ordinates, a line each.
-fn show_points(output: &impl Print, out: &[i32; MOST_POINTS], n: usize) -> io::Result<()> {
-    for y in out.iter().take(n) {
-        report::print_ordinate(output, *y)?;
-        report::end_line(output)?;
+        report::explain_rounded(errors, "LASTX", table.last)?;
     }
     Ok(())
 }
 
 // A refusal on standard output; on standard error where it stands in the file, and what it means.
 fn refuse(output: &impl Print, errors: &impl Print, file: &[u8], r: Refusal) -> io::Result<()> {
-    report::print_refused(output, r.number, r.place)?;
-    report::end_line(output)?;
+    println!(output; "refused {} {}", r.number, r.place)?;
     report::explain(errors, file, r)
 }
 
@@ -73,7 +60,7 @@ fn main(rt: HostRuntime) -> io::Result<()> {
     let mut file = [0u8; LONGEST_INPUT + 1];
     let n = read_full(&mut rt.stdin(), &mut file);
     if n > LONGEST_INPUT {
-        refuse(&output, &errors, &file, text::refusal_in(&file, 19, 0))
+        refuse(&output, &errors, &file, text::refusal_in(&file, Reason::LongFile.number(), 0))
     } else {
         answer(&output, &errors, &file[..n])
     }

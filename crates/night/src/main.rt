@@ -57,8 +57,8 @@ fn answer(
 ) -> io::Result<()> {
     let n = read_full(input, spool);
     if n > LONGEST_SPOOL {
-        errors.write_all(
-            b"spool: it has more than 4194304 bytes, and there is no room for it; nothing is reported\n",
+        println!(errors;
+            "spool: it has more than {LONGEST_SPOOL} bytes, and there is no room for it; nothing is reported"
         )
     } else {
         walk(output, errors, &spool[..n], out)

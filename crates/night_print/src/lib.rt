@@ -2,62 +2,45 @@
 #![tactic(auto)]
 
 use night_spec::{Account, Progress, Totals};
-use std::io;
 use std::io::Print;
+use std::{fmt, io};
 use terms::{Fault, Refusal};
 
 // What stands before a file: two mark bytes and three of its length.
 const MARK_LENGTH: usize = 5;
 
-// Words, and a number after them.
-fn print_count(output: &impl Print, words: &[u8], n: u64) -> io::Result<()> {
-    output.write_all(words)?;
-    output.print(n)
-}
+// A number of the report, or `none`.
+#[derive(Drop)]
+struct OrNone(Option<i64>);
 
-// Words, and a number with its sign after them.
-fn print_signed(output: &impl Print, words: &[u8], x: i64) -> io::Result<()> {
-    output.write_all(words)?;
-    if x < 0 {
-        output.write_all(b"-")?;
-    }
-    output.print(night_totals::size_of(x))
-}
-
-// Words, and a number of the report after them, or `none`.
-fn print_level(output: &impl Print, words: &[u8], l: Option<i64>) -> io::Result<()> {
-    match l {
-        None => {
-            output.write_all(words)?;
-            output.write_all(b"none")
+impl fmt::Display for OrNone {
+    fn fmt<W: fmt::Write>(&self, f: &mut fmt::Formatter<W>) -> fmt::Result {
+        match self.0 {
+            None => write!(f, "none"),
+            Some(x) => write!(f, "{x}"),
         }
-        Some(x) => print_signed(output, words, x),
     }
 }
 
 // What is said of a file that was read, in the order of document 02.
 fn print_account(output: &impl Print, a: Account) -> io::Result<()> {
-    print_count(output, b"points ", a.points)?;
-    print_count(output, b", missing ", a.missing)?;
-    print_level(output, b", lowest ", a.lowest)?;
-    print_level(output, b", highest ", a.highest)?;
-    print_signed(output, b", sum ", a.sum)?;
-    print_level(output, b", faintest ", a.faintest)?;
-    report::end_line(output)
+    println!(output;
+        "points {}, missing {}, lowest {}, highest {}, sum {}, faintest {}",
+        a.points,
+        a.missing,
+        OrNone(a.lowest),
+        OrNone(a.highest),
+        a.sum,
+        OrNone(a.faintest)
+    )
 }
 
 // The file whose record stands at `at` and ends at `to`; nothing where no record does.
 fn file_in<'a>(spool: &'a [u8], at: usize, to: usize) -> &'a [u8] {
-    if to > spool.len() {
-        return &spool[..0];
-    }
-    if at > to {
-        return &spool[..0];
-    }
-    if to - at < MARK_LENGTH {
-        return &spool[..0];
-    }
-    &spool[at + MARK_LENGTH..to]
+    spool
+        .get(at..to)
+        .and_then(|record| record.get(MARK_LENGTH..))
+        .unwrap_or(&[])
 }
 
 // A refusal on standard output, as document 01 has it; on standard error the number of the file, where the fault stands in it, and what it means.
@@ -65,14 +48,11 @@ fn print_refusal(
     output: &impl Print,
     errors: &impl Print,
     file: &[u8],
-    number: u64,
+    number: usize,
     r: Refusal,
 ) -> io::Result<()> {
-    report::print_refused(output, r.number, r.place)?;
-    report::end_line(output)?;
-    errors.write_all(b"file ")?;
-    errors.print(number)?;
-    errors.write_all(b", ")?;
+    println!(output; "refused {} {}", r.number, r.place)?;
+    print!(errors; "file {number}, ")?;
     report::explain(errors, file, r)
 }
 
@@ -85,11 +65,9 @@ pub fn print_file(
     then: Progress,
     f: Result<Account, Refusal>,
 ) -> io::Result<()> {
-    let number = then.seen as u64;
+    let number = then.seen;
     let to = then.at;
-    print_count(output, b"file ", number)?;
-    print_count(output, b" at ", at as u64)?;
-    output.write_all(b": ")?;
+    print!(output; "file {number} at {at}: ")?;
     match f {
         Ok(a) => print_account(output, a),
         Err(r) => print_refusal(output, errors, file_in(spool, at, to), number, r),
@@ -98,20 +76,18 @@ pub fn print_file(
 
 // The totals over the accepted files.
 fn print_totals(output: &impl Print, t: Totals) -> io::Result<()> {
-    print_count(output, b"total: files ", t.files)?;
-    print_count(output, b", points ", t.points)?;
-    print_count(output, b", missing ", t.missing)?;
-    print_signed(output, b", sum ", t.sum)?;
-    report::end_line(output)?;
-    output.write_all(b"spool: ")
+    println!(output;
+        "total: files {}, points {}, missing {}, sum {}",
+        t.files, t.points, t.missing, t.sum
+    )
 }
 
-// What a refusal of the spool means, on standard error.
-fn explain_spool(errors: &impl Print, number: u64) -> io::Result<()> {
+// What a refusal of the spool means.
+fn meaning(number: u64) -> &'static str {
     match number {
-        34 => errors.write_all(b"spool: no mark stands where a file should begin\n"),
-        35 => errors.write_all(b"spool: it ends within a file or what stands before one\n"),
-        _ => errors.write_all(b"spool: there are more than 1,000 files\n"),
+        34 => "no mark stands where a file should begin",
+        35 => "it ends within a file or what stands before one",
+        _ => "there are more than 1,000 files",
     }
 }
 
@@ -123,14 +99,12 @@ pub fn print_stopped(
     why: Fault,
 ) -> io::Result<()> {
     print_totals(output, t)?;
-    report::print_refused(output, why.number, why.place)?;
-    report::end_line(output)?;
-    explain_spool(errors, why.number)
+    println!(output; "spool: refused {} {}", why.number, why.place)?;
+    println!(errors; "spool: {}", meaning(why.number))
 }
 
 // The last lines, where it is whole.
 pub fn print_whole(output: &impl Print, t: Totals) -> io::Result<()> {
     print_totals(output, t)?;
-    output.write_all(b"whole")?;
-    report::end_line(output)
+    println!(output; "spool: whole")
 }

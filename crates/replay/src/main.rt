@@ -5,7 +5,7 @@
 
 use replay_file_writes::file_write_case;
 use replay_input::{next_asked, next_number};
-use replay_reads::{body_case, file_case, old_body_case, old_file_case};
+use replay_reads::{body_case, file_case};
 use replay_writes::write_case;
 use std::io;
 use std::io::{Print, Read};
@@ -19,15 +19,15 @@ fn next_case<R: Read, P: Print>(input: &mut R, output: &P) -> io::Result<bool> {
     }
     let a = next_asked(input);
     match kind {
-        1 => body_case(input, output, a)?,
+        1 => body_case(input, output, a, false)?,
         2 => write_case(input, output, Style::Difdup, a)?,
         4 => write_case(input, output, Style::Affn, a)?,
         5 => write_case(input, output, Style::Pac, a)?,
         6 => write_case(input, output, Style::Sqz, a)?,
         7 => file_write_case(input, output, a)?,
-        8 => old_body_case(input, output, a)?,
-        9 => old_file_case(input, output, a)?,
-        _ => file_case(input, output, a)?,
+        8 => body_case(input, output, a, true)?,
+        9 => file_case(input, output, a, true)?,
+        _ => file_case(input, output, a, false)?,
     }
     Ok(true)
 }

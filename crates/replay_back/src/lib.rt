@@ -1,8 +1,10 @@
-// Whether a table that `replay` wrote reads back (second/README.md, "The stored cases").
+// Whether what `replay` wrote reads back (second/README.md, "The stored cases").
 #![tactic(auto)]
 
 use replay_input::Asked;
 use replay_show::FILL;
+use std::io;
+use std::io::Print;
 
 // Room for the ordinates of a table that is written.
 pub const WRITTEN: usize = 20000;
@@ -12,15 +14,10 @@ pub const TEXT: usize = 65536;
 
 // Are the first n ordinates those read back?
 pub fn same(ys: &[i32], back: &[i32], n: usize) -> bool {
-    for i in 0..n {
-        if i >= ys.len() || i >= back.len() {
-            return false;
-        }
-        if ys[i] != back[i] {
-            return false;
-        }
+    match (ys.get(..n), back.get(..n)) {
+        (Some(written), Some(read)) => written == read,
+        _ => false,
     }
-    true
 }
 
 // Does reading the text in the frame it was written in give back the ordinates?
@@ -30,4 +27,12 @@ pub fn reads_back(a: Asked, ys: &[i32], text: &[u8]) -> bool {
         Ok(n) => n == a.points && same(ys, &back, n),
         Err(_) => false,
     }
+}
+
+// What was written: `ok` and its length, whether it reads back, and from the next line on itself.
+pub fn show_text(output: &impl Print, written: &[u8], same: bool) -> io::Result<()> {
+    let word = if same { "same" } else { "differs" };
+    println!(output; "ok {} {word}", written.len())?;
+    output.write_all(written)?;
+    println!(output; "")
 }

@@ -2,10 +2,11 @@
 #![tactic(auto)]
 
 use file_write_spec::{FileLength, Scales};
-use replay_back::{TEXT, WRITTEN};
-use replay_file_back::show_file_text;
-use replay_input::{Asked, next_number, next_scales, take_bytes, take_ordinates};
-use replay_show::show_touched_text;
+use replay_back::{TEXT, WRITTEN, show_text};
+use replay_file_back::file_reads_back;
+use replay_input::{Asked, next_number, next_scales, take_ordinates};
+use replay_show::show_touched;
+use standard_input::read_full;
 use std::io;
 use std::io::{Print, Read};
 use terms::Fault;
@@ -15,14 +16,10 @@ const TITLE: usize = 256;
 
 // Writes the file, or refusal 0 if this program has too little room.
 fn write_file(title: &[u8], a: Asked, c: Scales, ys: &[i32], text: &mut [u8]) -> Result<FileLength, Fault> {
-    let count = a.count;
-    let room = a.room;
-    if count <= ys.len() {
-        if room <= text.len() {
-            return file_write::write_file(title, a.points, c, &ys[0..count], &mut text[0..room]);
-        }
+    match (ys.get(..a.count), text.get_mut(..a.room)) {
+        (Some(y), Some(t)) => file_write::write_file(title, a.points, c, y, t),
+        _ => Err(Fault { number: 0, place: 0 }),
     }
-    Err(Fault { number: 0, place: 0 })
 }
 
 // The answer to a file to write.
@@ -35,16 +32,13 @@ fn show_file_written(
 ) -> io::Result<()> {
     match answer {
         Ok(f) => {
-            let n = f.length;
-            output.write_all(b"ok ")?;
-            output.print(n)?;
-            show_file_text(output, a, f, ys, text)?;
-            show_touched_text(output, text, n)
+            let written = &text[..f.length.min(text.len())];
+            show_text(output, written, file_reads_back(a, f.exact, ys, written))?;
+            show_touched(output, text, f.length, &b'~')
         }
         Err(f) => {
-            report::print_refused(output, f.number, f.place)?;
-            report::end_line(output)?;
-            show_touched_text(output, text, 0)
+            println!(output; "refused {} {}", f.number, f.place)?;
+            show_touched(output, text, 0, &b'~')
         }
     }
 }
@@ -67,11 +61,11 @@ fn titled_case<R: Read, P: Print>(
 // A file to write: its title follows first.
 pub fn file_write_case<R: Read, P: Print>(input: &mut R, output: &P, a: Asked) -> io::Result<()> {
     let mut title = [0u8; TITLE];
-    let n = next_number(input);
-    if n > TITLE as u64 {
-        return Ok(());
+    match title.get_mut(..next_number(input) as usize) {
+        Some(t) => {
+            read_full(input, t);
+            titled_case(input, output, t, a)
+        }
+        None => Ok(()),
     }
-    let length = n as usize;
-    take_bytes(input, &mut title, length);
-    titled_case(input, output, &title[0..length], a)
 }
