@@ -16,7 +16,6 @@ use Rattle.decimal_spec.specs.declared.Count.{Count}
 use Rattle.terms.specs.declared.Fault.{Fault}
 use Rattle.terms.specs.declared.Refusal.{Refusal}
 use Rattle.compound_spec.specs.declared.Blocks.{Blocks}
-use Rattle.label_spec.specs.Parts.{span_of}
 
 -- the public contract: the file, the slice before and after, and the answer
 pub record FindsBlocks (file out out' : List ℕ) (r : Result Blocks Refusal) : Type 0 where

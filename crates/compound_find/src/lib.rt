@@ -5,15 +5,14 @@ ghost use Rattle.std.specs.Prelude.{◌≡◌, ◌<◌, length};
 ghost use Rattle.label.specs.Answers.{found_in};
 ghost use Rattle.file_marks.specs.Spans.{Within};
 ghost use Rattle.compound_find.specs.Answers.{counted_by, judged_by, Stores, FindsBlocks};
-ghost use Rattle.terms.specs.Refusals.{fault_at};
 
 use compound_blocks::store_blocks;
 use compound_spec::{Blocks, Own, Surveyed};
 use compound_survey::survey;
 use decimal_spec::Count;
 use file_marks::mark_in;
-use label_spec::Span;
 use file_texts::count_in;
+use label_spec::Span;
 use terms::{Fault, Reason, Refusal};
 use text::refusal_in;
 
@@ -67,11 +66,13 @@ pub fn find_blocks(file: &[u8], blocks: &mut [u64]) -> Result<Blocks, Refusal>
 {
     match survey(file) {
         Err(f) => Err(refusal_in(file, f.number, f.place)),
-        Ok(Surveyed {
-            outermost,
-            own,
-            count,
-        }) => {
+        Ok(
+            Surveyed {
+                outermost,
+                own,
+                count,
+            },
+        ) => {
             let title = outermost.title;
             let eq = outermost.eq;
             match judge_whole(file, outermost.end, own, count) {

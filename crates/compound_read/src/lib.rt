@@ -5,16 +5,21 @@ ghost use Rattle.compound_read.specs.Answers.{ReadsBlock};
 
 pub use compound_record::find_in_block;
 use file::read_part;
-use text::refusal_in;
-use terms::{Reason, Refusal};
 use file_spec::FileTable;
+use terms::{Reason, Refusal};
+use text::refusal_in;
 
 // The most bytes of a file.
 const LONGEST_FILE: usize = 1048576;
 
 // Reads a data block where it stands in a file: its records are those from the place `start`, after its TITLE's `=`, up to `end`, its END's `##`. Any bytes, any places, any slice. Accepted and
 // refused as a file is, with place, line and column in the whole file; or these are no places of a block. Unless it is accepted, every entry is what it was.
-pub fn read_block(file: &[u8], start: usize, end: usize, out: &mut [i32]) -> Option<Result<FileTable, Refusal>>
+pub fn read_block(
+    file: &[u8],
+    start: usize,
+    end: usize,
+    out: &mut [i32],
+) -> Option<Result<FileTable, Refusal>>
     ensures { ReadsBlock file.now start end out.old out.new result }
 {
     if file.len() > LONGEST_FILE {

@@ -16,7 +16,6 @@ use Rattle.label_page.specs.Post.{FindsFrom}
 use Rattle.compound_spec.specs.Answers.{record_in_block}
 use Rattle.std.specs.Prelude.{Option, Some, None, Result, Ok, Err}
 use Rattle.label_spec.specs.declared.Span.{Span}
-use Rattle.label_spec.specs.Parts.{span_of}
 
 abbrev pub FindsIn : List ℕ → ℕ → ℕ → List ℕ → Result (Option Span) Refusal → Type 0
 FindsIn s m end w r = (r ≡ record_in_block s m end w) × FindIn (length s) r

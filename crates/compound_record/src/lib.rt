@@ -8,15 +8,20 @@ ghost use Rattle.compound_spec.specs.Answers.{record_in_block};
 
 use label_lines::is_hashed;
 use label_page::find_from_mark;
-use text::refusal_in;
 use label_spec::Span;
 use terms::{Reason, Refusal};
+use text::refusal_in;
 
 // The most bytes of a file.
 const LONGEST_FILE: usize = 1048576;
 
 // Where the text of the record with a name stands in a data block, TITLE's own among its records: `from` is the place of its TITLE's `##`, `end` that of its END's.
-pub fn find_in_block(file: &[u8], from: usize, end: usize, name: &[u8]) -> Result<Option<Span>, Refusal>
+pub fn find_in_block(
+    file: &[u8],
+    from: usize,
+    end: usize,
+    name: &[u8],
+) -> Result<Option<Span>, Refusal>
     ensures { (result ≡ record_in_block file.now from end (norm name.now)) × FindIn (length file.now) result }
 {
     if file.len() > LONGEST_FILE {

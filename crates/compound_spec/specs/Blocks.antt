@@ -11,7 +11,6 @@ use Rattle.compound_spec.specs.declared.Block.{Block}
 use Rattle.label_spec.specs.declared.Span.{Span}
 use Rattle.label_spec.specs.declared.Edges.{Edges}
 use Rattle.terms.specs.declared.Fault.{Fault}
-use Rattle.compound_spec.specs.declared.Surveyed.{Surveyed}
 use Rattle.label_spec.specs.Parts.{span_of}
 
 -- The names that T-07 speaks of, as they compare, and its word.

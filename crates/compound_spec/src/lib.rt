@@ -34,4 +34,3 @@ pub enum Blocks {
     One,
     Compound(usize),
 }
-

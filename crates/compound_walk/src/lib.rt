@@ -3,7 +3,6 @@
 
 ghost use Rattle.std.specs.Prelude.{◌≡◌, ◌+◌, ◌<◌, length};
 ghost use Rattle.terms.specs.Logic.{both};
-ghost use Rattle.terms.specs.Refusals.{fault_at};
 ghost use Rattle.compound_walk.specs.Turns.{counted, Closes};
 
 use compound_names::own_clash;

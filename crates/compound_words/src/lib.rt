@@ -66,7 +66,14 @@ fn either(a: bool, b: bool) -> bool
 }
 
 // The text of BLOCKS, if this label is it.
-fn blocks_of(s: &[u8], n: usize, e: usize, from: usize, to: usize, old: Option<Span>) -> Option<Span>
+fn blocks_of(
+    s: &[u8],
+    n: usize,
+    e: usize,
+    from: usize,
+    to: usize,
+    old: Option<Span>,
+) -> Option<Span>
     requires { (n ≤ e) × (e ≤ length s.now) }
     ensures { result ≡ pick (sames (name_in s.now n e) BLOCKS) (Some (span_of from to)) old }
 {

@@ -2,10 +2,10 @@
 // A file without a body to be found is written as it is, and that is said on standard error. A read that fails or ends early ends the input: what came before it is the file.
 #![tactic(auto)]
 
+use compound_spec::Blocks;
 use standard_input::read_full;
 use std::io;
 use std::io::Print;
-use compound_spec::Blocks;
 
 // The most bytes that are read, as jdx has it.
 const LONGEST_INPUT: usize = 49152;

@@ -11,10 +11,10 @@ ghost use Rattle.file.specs.Answers.{staged_by, left_by, StageSays, FileSays};
 ghost use Rattle.file_body.specs.Checks.{table_at, Laid, LaidIn};
 
 use file_check::{check_file, check_part};
-use file_tabled::TablePlace;
-use text::refusal_in;
-use terms::{Fault, Refusal};
 use file_spec::FileTable;
+use file_tabled::TablePlace;
+use terms::{Fault, Refusal};
+use text::refusal_in;
 
 // Stores the ordinates of a table that was checked and found right.
 pub fn store_file(file: &[u8], out: &mut [i32], k: TablePlace)

@@ -21,7 +21,13 @@ use file_tabled::TablePlace;
 use terms::{Fault, Reason};
 
 // F and L (28), then the table.
-fn check_abscissas(file: &[u8], room: usize, x: Needed, n: Numbers, start: usize) -> Result<TablePlace, Fault>
+fn check_abscissas(
+    file: &[u8],
+    room: usize,
+    x: Needed,
+    n: Numbers,
+    start: usize,
+) -> Result<TablePlace, Fault>
     requires { AllWithin (length file.now) x × AllSmall n × (start ≤ x.xydata.to - x.xydata.from) × (length file.now ≤ longest_file) }
     ensures { StageChecks file.now room (body_from x start) (by_abscissas file.now room x n start (ratio 3 n.firstx n.xfactor).rounded) result }
 {

@@ -7,9 +7,9 @@ ghost use Rattle.label.specs.Answers.{found_in};
 ghost use Rattle.file_gather.specs.Order.{name_at, needed_of};
 ghost use Rattle.file_gather.specs.Bounds.{GatheredIn};
 
-use label_spec::Span;
 use file_spec::Needed;
 use label::find_record;
+use label_spec::Span;
 
 // The text of one of the seven records that a table needs, counted in the order that 25 lists.
 fn record_at(file: &[u8], start: usize, stop: usize, k: usize) -> Option<Span>

@@ -102,7 +102,12 @@ fn factor_of(d: GivenDecimal) -> Option<Decimal>
 }
 
 // FIRSTX, LASTX and FIRSTY, after the factors.
-fn figures_from_firstx(c: Scales, points: u64, xfactor: Decimal, yfactor: Decimal) -> Result<Numbers, usize>
+fn figures_from_firstx(
+    c: Scales,
+    points: u64,
+    xfactor: Decimal,
+    yfactor: Decimal,
+) -> Result<Numbers, usize>
     ensures { result ≡ from_firstx c points xfactor yfactor }
 {
     let one = c.firstx;

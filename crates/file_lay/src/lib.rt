@@ -2,7 +2,6 @@
 #![tactic(auto)]
 
 ghost use Rattle.std.specs.Prelude.{◌≡◌, ◌≤◌, length};
-ghost use Rattle.terms.specs.Refusals.{fault_at};
 ghost use Rattle.table_spec.specs.Writing.{fitted};
 ghost use Rattle.file_write_spec.specs.Records.{entries_text};
 ghost use Rattle.file_lines.specs.Lines.{AllWritable, heading_of};

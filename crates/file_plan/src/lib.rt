@@ -80,7 +80,12 @@ fn plan_numbers(n: Numbers, ordinates: &[i32]) -> Result<Plan, Reason>
 }
 
 // The tests of a file, in the order of the refusals: the title (37), the decimals (26), then what their numbers say.
-pub fn plan_file(title: &[u8], points: usize, scales: Scales, ordinates: &[i32]) -> Result<Plan, Reason>
+pub fn plan_file(
+    title: &[u8],
+    points: usize,
+    scales: Scales,
+    ordinates: &[i32],
+) -> Result<Plan, Reason>
     ensures { Plans (write_file title.now points scales ordinates.now) (file_exact scales points ordinates.now)
         title.now ordinates.now result }
 {

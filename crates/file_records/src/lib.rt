@@ -29,7 +29,12 @@ pub fn figures(file: &[u8], x: Needed) -> Result<Numbers, usize>
 }
 
 // FIRSTX and LASTX, after the factors, and then the rest.
-fn figures_from_firstx(file: &[u8], x: Needed, xfactor: Decimal, yfactor: Decimal) -> Result<Numbers, usize>
+fn figures_from_firstx(
+    file: &[u8],
+    x: Needed,
+    xfactor: Decimal,
+    yfactor: Decimal,
+) -> Result<Numbers, usize>
     requires { FactorsRead (length file.now) x xfactor yfactor }
     ensures { (result ≡ from_firstx file.now x xfactor yfactor) × FiguresIn result }
 {

@@ -50,4 +50,3 @@ pub struct FileTable {
     pub last: i64,
     pub exact: Exactness,
 }
-

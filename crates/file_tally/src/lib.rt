@@ -3,9 +3,9 @@
 
 ghost use Rattle.file_tally.specs.Says.{ReportSays};
 
+use night_spec::Account;
 use ordinate_account::account;
 use terms::Refusal;
-use night_spec::Account;
 
 // The report of a file: any bytes, any slice. The slice is left as reading the file leaves it.
 pub fn report_file(file: &[u8], out: &mut [i32]) -> Result<Account, Refusal>

@@ -8,11 +8,11 @@ ghost use Rattle.file_marks.specs.Spans.{Within};
 ghost use Rattle.file_texts.specs.Counts.{CountSmall};
 ghost use Rattle.figure.specs.Bounds.{GivenIn, FactorIn};
 
-use label_spec::Span;
 use decimal_spec::Count;
 use figure::exceed;
 use file_spec::Decimal;
 use label_space::past_space;
+use label_spec::Span;
 
 // The decimal that the text of a record is, with blanks, line ends and comments around it.
 pub fn decimal_in(file: &[u8], x: Span) -> Option<Decimal>

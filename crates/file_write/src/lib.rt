@@ -29,7 +29,12 @@ pub fn write_file(
 }
 
 // The length of the file that `write_file` would write, however little room there is, and what of it is exact; or its refusal, which is never 15 (02, T-10). Nothing is written.
-pub fn file_length(title: &[u8], points: usize, scales: Scales, ordinates: &[i32]) -> Result<FileLength, Fault>
+pub fn file_length(
+    title: &[u8],
+    points: usize,
+    scales: Scales,
+    ordinates: &[i32],
+) -> Result<FileLength, Fault>
     ensures { FileMeasured title.now points scales ordinates.now result }
 {
     let p = plan_file(title, points, scales, ordinates)?;

@@ -26,4 +26,3 @@ pub struct FileLength {
     pub length: usize,
     pub exact: Exactness,
 }
-

@@ -6,10 +6,9 @@ use Prim.Native.Nat.{ℕ}
 use lib.IntN.{ℤ}
 use lib.ListN.{length}
 use Rattle.terms.specs.Logic.{zero_one, err_same}
-use Rattle.terms.specs.Refusals.{refusal_in}
 use Rattle.terms.specs.declared.Refusal.{Refusal}
 use Rattle.file_spec.specs.declared.FileTable.{FileTable}
-use Rattle.profile_spec.specs.Profile.{source, ProfileAnswer, refuse_profile, accept_profile, read_profile, told_profile}
+use Rattle.profile_spec.specs.Profile.{ProfileAnswer, refuse_profile, accept_profile, read_profile, told_profile}
 use Rattle.profile.specs.Answers.{ProfileSays}
 use Rattle.host_numbers.specs.Numbers.{refused_of, flag, bits}
 use Rattle.host_profile.specs.Answers.{profile_answer, ProfileTold}

@@ -4,11 +4,11 @@
 ghost use Rattle.host_numbers.specs.Numbers.{Told};
 ghost use Rattle.host_read.specs.Answers.{file_numbers, record_numbers, blocks_numbers, block_numbers};
 
+use compound_spec::Blocks;
+use file_spec::FileTable;
 use host_numbers::{bits_of, flag_of};
 use label_spec::Span;
 use terms::Refusal;
-use compound_spec::Blocks;
-use file_spec::FileTable;
 
 // What is answered for a record or a block that is absent, -1 for C (LASTARUNC_ABSENT in the header): no refusal has this number.
 const ABSENT: u64 = 18446744073709551615;

@@ -4,8 +4,8 @@
 
 ghost use Rattle.host_numbers.specs.Numbers.{Told};
 ghost use Rattle.host_table.specs.Answers.{table_numbers, TableTold};
-use terms::Refusal;
 
+use terms::Refusal;
 
 // A table read: refused, place, line, column, points.
 pub fn tell_table(read: Result<usize, Refusal>, answer: &mut [u64; 5]) -> u64

@@ -60,7 +60,12 @@ fn main(rt: HostRuntime) -> io::Result<()> {
     let mut file = [0u8; LONGEST_INPUT + 1];
     let n = read_full(&mut rt.stdin(), &mut file);
     if n > LONGEST_INPUT {
-        refuse(&output, &errors, &file, text::refusal_in(&file, Reason::LongFile.number(), 0))
+        refuse(
+            &output,
+            &errors,
+            &file,
+            text::refusal_in(&file, Reason::LongFile.number(), 0),
+        )
     } else {
         answer(&output, &errors, &file[..n])
     }

@@ -14,8 +14,8 @@ use label_lines::{label_here, next_mark};
 use label_names::{differ, first_of, is_word};
 use label_spec::{Label, Places, Span};
 use label_walk::labels;
-use text::refusal_in;
 use terms::Refusal;
+use text::refusal_in;
 
 // The place of the `=` of the label whose `##` stands here, if it has this name. The first byte of the name is given.
 fn eq_here(part: &[u8], at: usize, first: u8, name: &[u8]) -> Option<usize>

@@ -3,7 +3,6 @@
 
 ghost use Rattle.std.specs.Prelude.{◌≡◌, ◌<◌, ◌≤◌, length};
 ghost use Rattle.label_spec.specs.Names.{name_in};
-ghost use Rattle.terms.specs.Refusals.{fault_at};
 ghost use Rattle.label_names.specs.Post.{first_of};
 ghost use Rattle.label_judged.specs.Post.{Alike, Told};
 

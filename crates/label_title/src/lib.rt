@@ -3,7 +3,6 @@
 
 ghost use Rattle.std.specs.Prelude.{◌≡◌, true};
 ghost use Rattle.label_spec.specs.Labels.{hashed};
-ghost use Rattle.terms.specs.Refusals.{fault_at};
 ghost use Rattle.label_spec.specs.File.{opened_at, opened};
 ghost use Rattle.label_title.specs.Answers.{OpenIn};
 

@@ -3,7 +3,6 @@
 
 ghost use Rattle.std.specs.Prelude.{◌≡◌, false, [], ◌≤◌, length};
 ghost use Rattle.label_spec.specs.Labels.{from};
-ghost use Rattle.terms.specs.Refusals.{fault_at};
 ghost use Rattle.label_spec.specs.File.{judged, labelled};
 ghost use Rattle.label_judged.specs.Answers.{WalkedIn};
 ghost use Rattle.label_walk.specs.Answers.{LabelledIn};
@@ -11,9 +10,9 @@ ghost use Rattle.label_walk.specs.Answers.{LabelledIn};
 use label_judged::{Judged, is_same, next_judged};
 use label_lines::next_mark;
 use label_names::first_of;
+use label_spec::{Edges, Places};
 use label_title::open_title;
 use terms::{Fault, Reason};
-use label_spec::{Edges, Places};
 
 // The most bytes of a file.
 const LONGEST_FILE: usize = 1048576;

@@ -5,10 +5,10 @@
 ghost use Rattle.night_report.specs.Says.{NightSays};
 
 use file_tally::report_file;
+use label_spec::Span;
 use night_spec::{Night, Totals};
 use night_totals::with_report;
 use spool::next_record;
-use label_spec::Span;
 
 // Walks a spool to its end: any bytes, any slice. The totals over its accepted files, and how it ends.
 pub fn whole_night(spool: &[u8], out: &mut [i32]) -> Night

@@ -41,8 +41,14 @@ pub struct Progress {
 // What a step of the walk answers: the report of a file, and how far the walk has come then; or how the spool ends, with the totals; or that no walk comes as far as that.
 #[derive(Clone, Copy, Debug, PartialEq, Eq)]
 pub enum Reported {
-    File { report: Result<Account, Refusal>, then: Progress },
+    File {
+        report: Result<Account, Refusal>,
+        then: Progress,
+    },
     Over(Totals),
-    Refused { why: Fault, totals: Totals },
+    Refused {
+        why: Fault,
+        totals: Totals,
+    },
     Strange,
 }

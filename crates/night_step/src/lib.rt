@@ -1,17 +1,14 @@
 // The night's report step by step (02, T-11), with the totals so far: each step reads one file of the spool, which is lent and never written to; the lent ordinates are working room.
 #![tactic(auto)]
 
-ghost use Rattle.std.specs.Prelude.{◌≡◌};
 ghost use Rattle.night_spec.specs.Night.{with_report};
 ghost use Rattle.night_step.specs.Says.{NextSays};
-ghost use Rattle.night_totals.specs.Bounds.{TotalsIn};
-ghost use Rattle.ordinate_account.specs.Bounds.{ReportIn};
 
 use file_tally::report_file;
+use label_spec::Span;
 use night_spec::{Progress, Reported};
 use night_totals::{walk_legal, with_report};
 use spool::next_record;
-use label_spec::Span;
 
 // One step of the walk: any bytes, any slice, any progress. From `start` on, each step is handed what the one before it answered, and each file is read once.
 pub fn report_next(spool: &[u8], p: Progress, out: &mut [i32]) -> Reported

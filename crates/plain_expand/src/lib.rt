@@ -56,7 +56,12 @@ pub fn next_value(s: &[u8], from: usize, q: u64, form: Form) -> Result<Next, Fau
 }
 
 // The rest of a row, laid from the index k on as far as there is room: 11 at the value that brings more points than so many.
-pub fn expand(s: &[u8], points: usize, out: &mut [i32], start: Grows) -> Result<(Grows, usize), Fault>
+pub fn expand(
+    s: &[u8],
+    points: usize,
+    out: &mut [i32],
+    start: Grows,
+) -> Result<(Grows, usize), Fault>
     requires { (points ≤ 65536) × Stands points s.now start }
     ensures { Expands points s.now start out.old out.new result }
 {

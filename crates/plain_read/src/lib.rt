@@ -74,7 +74,13 @@ fn lay_rows(body: &[u8], fr: Frame, out: &mut [i32])
 }
 
 // Reads a table in the plain way: any F, L and N, any body, any slice. The same answer, and the same entries of the slice, as `table_read::read_table` gives: `engines_agree`.
-pub fn read_plain(first: i64, last: i64, points: usize, body: &[u8], out: &mut [i32]) -> Result<usize, Refusal>
+pub fn read_plain(
+    first: i64,
+    last: i64,
+    points: usize,
+    body: &[u8],
+    out: &mut [i32],
+) -> Result<usize, Refusal>
     ensures { TableSays first last points body.now out.old out.new result }
 {
     if body.len() > Frame::LONGEST_BODY {

@@ -107,7 +107,14 @@ fn new_row(s: &[u8], fr: Frame, out: &mut [i32], r: Row, f: Front) -> Result<Row
 
 // A line whose head stands at a place with the entry e: 4; then it is expanded to its row, and the row is checked: 6, 7, 10, 11 and its own faults. By itself a line begins as after a DUP that is not
 // DIF: neither a difference nor a DUP can stand first.
-pub fn plain_line(s: &[u8], fr: Frame, out: &mut [i32], r: Row, at: usize, e: u64) -> Result<Row, Fault>
+pub fn plain_line(
+    s: &[u8],
+    fr: Frame,
+    out: &mut [i32],
+    r: Row,
+    at: usize,
+    e: u64,
+) -> Result<Row, Fault>
     requires { Sound fr × Rests fr.points s.now r × LineOpens s.now at e }
     ensures { LineSays (frame_rules fr) s.now r at out.old out.new result }
 {
@@ -115,7 +122,13 @@ pub fn plain_line(s: &[u8], fr: Frame, out: &mut [i32], r: Row, at: usize, e: u6
     let k = r.k;
     match head(s, at, e) {
         None => Err(Fault::new(Reason::NoHead, at)),
-        Some(HeadRead { abscissa: h, unit, at: j }) => {
+        Some(
+            HeadRead {
+                abscissa: h,
+                unit,
+                at: j,
+            },
+        ) => {
             let passes = fr.passes(h, unit, index_of(dif, k));
             match next_value(s, j, 0, Form::Dup(false)) {
                 Ok(Next::End(_)) => Err(refused(passes, at, Fault::new(Reason::BareHead, at))),

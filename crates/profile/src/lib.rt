@@ -6,11 +6,11 @@ ghost use Rattle.std.specs.Prelude.{◌≡◌, length};
 ghost use Rattle.profile.specs.Answers.{ProfileSays};
 
 use file::store_file;
-use profile_check::check_profile;
-use profile_told::{refuse, store_numbers};
-use profile_spec::PageRefusal;
-use profile_judged::PageFault;
 use file_spec::FileTable;
+use profile_check::check_profile;
+use profile_judged::PageFault;
+use profile_spec::PageRefusal;
+use profile_told::{refuse, store_numbers};
 
 // What was checked is stored if it has no fault. The numbers that show the fifteen texts are first left in `places`.
 fn settle(
@@ -36,7 +36,12 @@ fn settle(
 
 // Reads a file of the profile with the site's page: any bytes, any slices. Accepted: as a file, and `shown` has three numbers a record in 001's order, whether it is on the page, and from where up
 // to where its text stands, as many as there is room for. Refused: number, and place, line and column on the page or in the file; every ordinate and every number is what it was.
-pub fn read_profile(file: &[u8], page: &[u8], out: &mut [i32], shown: &mut [u64]) -> Result<FileTable, PageRefusal>
+pub fn read_profile(
+    file: &[u8],
+    page: &[u8],
+    out: &mut [i32],
+    shown: &mut [u64],
+) -> Result<FileTable, PageRefusal>
     ensures { ProfileSays file.now page.now out.old out.new shown.old shown.new result }
 {
     let mut places = [0u64; 45];

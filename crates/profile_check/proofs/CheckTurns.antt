@@ -17,7 +17,7 @@ use Rattle.file_check.proofs.StageLaws.{labels_refused, labels_placed}
 use Rattle.profile_spec.specs.Wanted.{wanted}
 use Rattle.profile_spec.specs.Profile.{profiled, all_numbers, refuse_profile, by_profiled, by_profile, by_file, read_profile}
 use Rattle.profile_judged.specs.Judged.{checked_by, ChecksRecords}
-use Rattle.profile_check.specs.Post.{Right, Checks}
+use Rattle.profile_check.specs.Post.{Checks}
 use Rattle.std.specs.Prelude.{Result, Ok, Err, ⊤}
 use Rattle.profile_spec.specs.declared.Unfit.{Unfit}
 use Rattle.profile_judged.specs.declared.PageFault.{PageFault}

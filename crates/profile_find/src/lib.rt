@@ -8,8 +8,8 @@ ghost use Rattle.profile_find.specs.Post.{Locates};
 
 use label::find_record;
 use label_page::find_on_page;
-use profile_spec::Shown;
 use label_spec::Span;
+use profile_spec::Shown;
 
 // A text that was found.
 fn found(page: bool, from: usize, to: usize) -> Option<Shown>

@@ -59,7 +59,13 @@ fn put(places: &mut [u64], i: usize, x: Shown)
 }
 
 // What the fifteen records say, in one pass: each is looked for once, and the numbers that show it are stored. One that is absent from both (30) comes before every unlisted word (31).
-pub fn survey(file: &[u8], start: usize, stop: usize, page: &[u8], places: &mut [u64]) -> Result<(), Unfit>
+pub fn survey(
+    file: &[u8],
+    start: usize,
+    stop: usize,
+    page: &[u8],
+    places: &mut [u64],
+) -> Result<(), Unfit>
     requires { (start ≤ length file.now) × (length places.old ≡ 45) }
     ensures { Surveys file.now start stop page.now places.new result }
 {

@@ -5,12 +5,18 @@ ghost use Rattle.std.specs.Prelude.{◌≡◌};
 ghost use Rattle.std.proofs.lemmas.List.Edits.{sets};
 ghost use Rattle.profile_spec.specs.Profile.{refuse_profile, told_profile};
 
-use text::refusal_in;
-use profile_spec::PageRefusal;
 use file_spec::FileTable;
+use profile_spec::PageRefusal;
+use text::refusal_in;
 
 // The refusal of a number at a place of the page or of the file, with line and column there.
-pub fn refuse(file: &[u8], page: &[u8], on_page: bool, number: u64, place: usize) -> Result<FileTable, PageRefusal>
+pub fn refuse(
+    file: &[u8],
+    page: &[u8],
+    on_page: bool,
+    number: u64,
+    place: usize,
+) -> Result<FileTable, PageRefusal>
     ensures { result ≡ told_profile file.now page.now (refuse_profile on_page number place) }
 {
     if on_page {

@@ -15,10 +15,19 @@ use terms::Fault;
 const TITLE: usize = 256;
 
 // Writes the file, or refusal 0 if this program has too little room.
-fn write_file(title: &[u8], a: Asked, c: Scales, ys: &[i32], text: &mut [u8]) -> Result<FileLength, Fault> {
+fn write_file(
+    title: &[u8],
+    a: Asked,
+    c: Scales,
+    ys: &[i32],
+    text: &mut [u8],
+) -> Result<FileLength, Fault> {
     match (ys.get(..a.count), text.get_mut(..a.room)) {
         (Some(y), Some(t)) => file_write::write_file(title, a.points, c, y, t),
-        _ => Err(Fault { number: 0, place: 0 }),
+        _ => Err(Fault {
+            number: 0,
+            place: 0,
+        }),
     }
 }
 

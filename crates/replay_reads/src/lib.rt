@@ -1,13 +1,13 @@
 // The cases of `replay` that are read: tables and files, and old ones, which are converted first (second/README.md, "The stored cases").
 #![tactic(auto)]
 
+use file_spec::FileTable;
 use replay_input::{Asked, take_bytes};
 use replay_show::{FILL, READ, show_file, show_read};
 use std::io;
 use std::io::{Print, Read};
-use text::refusal_in;
 use terms::Refusal;
-use file_spec::FileTable;
+use text::refusal_in;
 
 // Room for the bytes of a body or a file.
 const BYTES: usize = 4096;

@@ -40,7 +40,11 @@ fn show_refusal(output: &impl Print, r: Refusal) -> io::Result<()> {
 }
 
 // The answer to a body: `ok`, the points and the ordinates, or the refusal.
-pub fn show_read(output: &impl Print, answer: Result<usize, Refusal>, out: &[i32; READ]) -> io::Result<()> {
+pub fn show_read(
+    output: &impl Print,
+    answer: Result<usize, Refusal>,
+    out: &[i32; READ],
+) -> io::Result<()> {
     match answer {
         Ok(n) => {
             print!(output; "ok {n}")?;
@@ -62,7 +66,11 @@ fn show_table(output: &impl Print, table: FileTable, out: &[i32; READ]) -> io::R
 }
 
 // The answer to a file: its table, or the refusal.
-pub fn show_file(output: &impl Print, answer: Result<FileTable, Refusal>, out: &[i32; READ]) -> io::Result<()> {
+pub fn show_file(
+    output: &impl Print,
+    answer: Result<FileTable, Refusal>,
+    out: &[i32; READ],
+) -> io::Result<()> {
     match answer {
         Ok(table) => show_table(output, table, out),
         Err(r) => {

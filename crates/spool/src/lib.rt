@@ -4,8 +4,8 @@
 ghost use Rattle.std.specs.Prelude.{◌≡◌};
 ghost use Rattle.night_spec.specs.Spool.{record_at};
 
-use spool_record::record_at;
 use label_spec::Span;
+use spool_record::record_at;
 use terms::Fault;
 
 // The walker: the spool, and how far it has come (01, "Code places and their forms"). Its functions are thin: each takes it apart and leaves the work to one on slice and number.

@@ -2,10 +2,10 @@
 #![tactic(auto)]
 
 ghost use Rattle.std.specs.Prelude.{◌≡◌, ◌+◌, ◌<◌, ◌≤◌, length};
-ghost use Rattle.night_spec.specs.Spool.{record_at, length_at, refused_at};
+ghost use Rattle.night_spec.specs.Spool.{record_at, length_at};
 
-use terms::{Fault, Reason};
 use label_spec::Span;
+use terms::{Fault, Reason};
 
 // The two bytes that a record begins with.
 const FIRST_MARK: u8 = b'J';

@@ -11,7 +11,10 @@ ghost use Rattle.table_lines.specs.Ends.{Blanked, Commented, Ended, LineOpens, S
 ghost use Rattle.table_lines.specs.Heads.{Pointed, Headed};
 ghost use Rattle.table_lines.specs.Parts.{head_with};
 
-use alphabet::{CR, DOLLAR, END, LF, MINUS, PLUS, POINT, Run, digits, entry_at, entry_there, is_blank, is_digit, standing};
+use alphabet::{
+    CR, DOLLAR, END, LF, MINUS, PLUS, POINT, Run, digits, entry_at, entry_there, is_blank,
+    is_digit, standing,
+};
 
 // The next line that is not passed over: the place of its first token and the entry there; the end of the body; or a byte that cannot stand there.
 #[derive(Clone, Copy)]
@@ -138,9 +141,17 @@ fn abscissa(minus: bool, size: u64, unit: u64, at: usize) -> Option<HeadRead>
     ensures { result ≡ Some (head_with (headed_at minus size) unit at) }
 {
     if minus {
-        return Some(HeadRead { abscissa: 10000000000 - size, unit, at });
+        return Some(HeadRead {
+            abscissa: 10000000000 - size,
+            unit,
+            at,
+        });
     }
-    Some(HeadRead { abscissa: 10000000000 + size, unit, at })
+    Some(HeadRead {
+        abscissa: 10000000000 + size,
+        unit,
+        at,
+    })
 }
 
 // The byte of a point.

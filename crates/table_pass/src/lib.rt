@@ -46,7 +46,13 @@ fn read_line(s: &[u8], fr: Frame, out: &mut [i32], r: Row, at: usize, e: u64) ->
     let q = r.q;
     match head(s, at, e) {
         None => Err(Fault::new(Reason::NoHead, at)),
-        Some(HeadRead { abscissa: h, unit, at: j }) => {
+        Some(
+            HeadRead {
+                abscissa: h,
+                unit,
+                at: j,
+            },
+        ) => {
             if !fr.passes(h, unit, index_of(dif, k)) {
                 return Err(Fault::new(Reason::WrongHead, at));
             }

@@ -61,7 +61,13 @@ fn store_body(body: &[u8], fr: Frame, out: &mut [i32])
 }
 
 // What a body says in a frame, with room for so many ordinates: its first ordinate, or a refusal (01, "Refusal numbers" 1 to 13; 02, T-06, 16). Nothing lent is written to.
-pub fn check_table(first: i64, last: i64, points: usize, body: &[u8], room: usize) -> Result<i32, Fault>
+pub fn check_table(
+    first: i64,
+    last: i64,
+    points: usize,
+    body: &[u8],
+    room: usize,
+) -> Result<i32, Fault>
     ensures { result ≡ told_first (read_table first last points body.now room) }
 {
     if body.len() > Frame::LONGEST_BODY {
@@ -92,7 +98,13 @@ pub fn store_table(first: i64, last: i64, points: usize, body: &[u8], out: &mut 
 }
 
 // Reads a table: any F, L and N, any body, any slice. Accepted: the first N entries are the ordinates, -2,147,483,648 for a missing one, and those past N are unaltered. Refused: all are unaltered.
-pub fn read_table(first: i64, last: i64, points: usize, body: &[u8], out: &mut [i32]) -> Result<usize, Refusal>
+pub fn read_table(
+    first: i64,
+    last: i64,
+    points: usize,
+    body: &[u8],
+    out: &mut [i32],
+) -> Result<usize, Refusal>
     ensures { TableSays first last points body.now out.old out.new result }
 {
     match check_table(first, last, points, body, out.len()) {

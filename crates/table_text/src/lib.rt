@@ -1,8 +1,5 @@
 // What the writers of the four forms share (01, "The written text"; 02, T-02): digits and line ends in the lent bytes, and the answer of a writer.
 #![tactic(auto)]
 
-ghost use Rattle.std.specs.Prelude.{◌≡◌};
-ghost use Rattle.table_text.specs.Answers;
 
 pub mod digits;
-

@@ -105,7 +105,15 @@ fn own_value(
 }
 
 // A difference that begins with the entry e.
-fn difference(s: &[u8], points: usize, out: &mut [i32], c: Cur, e: u64, v: u64, j: usize) -> Result<Step, Reason>
+fn difference(
+    s: &[u8],
+    points: usize,
+    out: &mut [i32],
+    c: Cur,
+    e: u64,
+    v: u64,
+    j: usize,
+) -> Result<Step, Reason>
     requires { Sits points s.now c × (v < 10000000000) × (32 ≤ e) × (e < 64) × Token s.now c.at (by (leb 48 e) v) j }
     ensures { Stepped points s.now c out.old out.new result }
 {
@@ -133,7 +141,14 @@ fn difference(s: &[u8], points: usize, out: &mut [i32], c: Cur, e: u64, v: u64, 
 }
 
 // A DUP of a value of its own, or of a missing one: n further copies of the ordinate.
-fn same_again(s: &[u8], points: usize, out: &mut [i32], c: Cur, n: usize, j: usize) -> Result<Step, Reason>
+fn same_again(
+    s: &[u8],
+    points: usize,
+    out: &mut [i32],
+    c: Cur,
+    n: usize,
+    j: usize,
+) -> Result<Step, Reason>
     requires { Again points s.now c n j × (2 ≤ c.form) × (c.form < 32) }
     ensures { Stepped points s.now c out.old out.new result }
 {
@@ -155,7 +170,14 @@ fn same_again(s: &[u8], points: usize, out: &mut [i32], c: Cur, n: usize, j: usi
 }
 
 // A DUP of a difference: n further steps.
-fn steps_again(s: &[u8], points: usize, out: &mut [i32], c: Cur, n: usize, j: usize) -> Result<Step, Reason>
+fn steps_again(
+    s: &[u8],
+    points: usize,
+    out: &mut [i32],
+    c: Cur,
+    n: usize,
+    j: usize,
+) -> Result<Step, Reason>
     requires { Again points s.now c n j × (32 ≤ c.form) }
     ensures { Stepped points s.now c out.old out.new result }
 {
@@ -185,7 +207,14 @@ fn steps_again(s: &[u8], points: usize, out: &mut [i32], c: Cur, n: usize, j: us
 }
 
 // A DUP with the count v (01, "c is at least 2").
-fn dup_value(s: &[u8], points: usize, out: &mut [i32], c: Cur, v: u64, j: usize) -> Result<Step, Reason>
+fn dup_value(
+    s: &[u8],
+    points: usize,
+    out: &mut [i32],
+    c: Cur,
+    v: u64,
+    j: usize,
+) -> Result<Step, Reason>
     requires { Sits points s.now c × (points ≤ 65536) × (v < 100000) × Token s.now c.at (times v) j }
     ensures { Stepped points s.now c out.old out.new result }
 {
@@ -204,7 +233,15 @@ fn dup_value(s: &[u8], points: usize, out: &mut [i32], c: Cur, v: u64, j: usize)
 }
 
 // The value at the place, which begins with the entry e and has the number v.
-pub fn value(s: &[u8], points: usize, out: &mut [i32], c: Cur, e: u64, v: u64, j: usize) -> Result<Step, Reason>
+pub fn value(
+    s: &[u8],
+    points: usize,
+    out: &mut [i32],
+    c: Cur,
+    e: u64,
+    v: u64,
+    j: usize,
+) -> Result<Step, Reason>
     requires { Valued points s.now c e v j }
     ensures { Stepped points s.now c out.old out.new result }
 {

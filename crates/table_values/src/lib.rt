@@ -102,7 +102,14 @@ fn row_after(c: Cur, at: usize) -> Row
 }
 
 // The values of a line, from a place on, with k points given; the first must equal `want`, if that is not 0.
-pub fn values(s: &[u8], points: usize, out: &mut [i32], at: usize, k: usize, want: u64) -> Result<Row, Fault>
+pub fn values(
+    s: &[u8],
+    points: usize,
+    out: &mut [i32],
+    at: usize,
+    k: usize,
+    want: u64,
+) -> Result<Row, Fault>
     requires { FirstValue points s.now at k }
     ensures { Lined points s.now at k want out.old out.new result }
 {

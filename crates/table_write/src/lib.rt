@@ -10,8 +10,8 @@ ghost use Rattle.table_write.specs.Room.{Measured};
 use frame::Frame;
 use table_given::check;
 use table_spec::Style;
-use text_forms::{fits, lay, length_of};
 use terms::{Fault, Reason};
+use text_forms::{fits, lay, length_of};
 
 // Writing in a legal frame, with an ordinate for each point: refusal 15, or the text.
 fn write_framed(style: Style, fr: Frame, ordinates: &[i32], text: &mut [u8]) -> Result<usize, Fault>

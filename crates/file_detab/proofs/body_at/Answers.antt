@@ -1,7 +1,7 @@
 -- `file_detab::body_at` meets its contract: the body after XYDATA's list.
 -- where the list is read
 use mathlib.Core.List.{List}
-use mathlib.Core.Path.{sym, ◌∙◌}
+use mathlib.Core.Path.{sym}
 use Prim.Native.Nat.{ℕ}
 use native.Mathlib.Omega.{arith}
 use Rattle.file_detab.proofs.Bodies.{unlisted, body_listed}

@@ -1,5 +1,5 @@
 -- `file_gather::gather` meets its contract: the seven records in the order that 25 lists, or that one is lacking.
-use mathlib.Core.Path.{sym, ◌∙◌}
+use mathlib.Core.Path.{sym}
 use Prim.Native.Nat.{◌-◌}
 use Rattle.file_gather.proofs.GatherLaws.{gathers_none, gathers_lacking, gathers_on, gathers_all, all_inside}
 use Rattle.file_gather.proofs.gather.Goals as goal

@@ -1,5 +1,4 @@
 -- `file_texts::count_alone` meets its contract: the number, if nothing but blanks, line ends and comments stands around it.
-use mathlib.Core.Path.{sym, ◌∙◌}
 use Rattle.file_texts.proofs.NumberLaws.{count_no, count_late, count_is}
 use Rattle.file_texts.proofs.count_alone.Goals as goal
 

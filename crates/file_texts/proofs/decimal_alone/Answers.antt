@@ -1,5 +1,4 @@
 -- `file_texts::decimal_alone` meets its contract: the number, if nothing but blanks, line ends and comments stands around it.
-use mathlib.Core.Path.{sym, ◌∙◌}
 use Rattle.file_texts.proofs.NumberLaws.{decimal_no, decimal_late, decimal_is}
 use Rattle.file_texts.proofs.decimal_alone.Goals as goal
 
