@@ -6,14 +6,13 @@ use borrow.Author.Tests.{ne_eqb}
 use Rattle.terms.specs.declared.Fault.{Fault}
 use Rattle.table_spec.specs.Writing.{Outcome, declined, wrote, laid}
 use Rattle.table_text.specs.Answers as writing
-use Rattle.host_text.specs.declared.Form.{Form}
 use Rattle.host_numbers.specs.Numbers.{refused_of, no_flags, Told}
 use Rattle.host_text.specs.Answers.{text_answer, OutcomeTold, LengthTold, no_form, FormOf, written_numbers}
-use Rattle.std.specs.Prelude.{Result, Ok, Err}
+use Rattle.std.specs.Prelude.{Result, Ok, Err, None}
 
 -- ---- what the functions tell
 
-pub no_such_form : (k : ℕ) → (k ≡ 0 → ⊥) → (k ≡ 1 → ⊥) → (k ≡ 2 → ⊥) → (k ≡ 3 → ⊥) → FormOf k Form.NoForm
+pub no_such_form : (k : ℕ) → (k ≡ 0 → ⊥) → (k ≡ 1 → ⊥) → (k ≡ 2 → ⊥) → (k ≡ 3 → ⊥) → FormOf k None
 no_such_form k a b c d = λ f l n ys space. rw (ne_eqb k 0 a, ne_eqb k 1 b, ne_eqb k 2 c, ne_eqb k 3 d) refl
 
 pub tells_length : {w : Result ℕ Fault} {m : ℕ} → w ≡ Ok m → Told (written_numbers w) (0 ∷ m ∷ no_flags) 0

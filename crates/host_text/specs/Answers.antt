@@ -1,12 +1,11 @@
 -- What a C host is told of a table's text, written or measured (02, T-10): the numbers of the answer's struct, in the header's order, and the first once more as the result. Assumes nothing.
-use Rattle.std.specs.Prelude.{◌≡◌, List, ◌∷◌, ℕ, ℤ, eqb, length, Result, Ok, Err}
+use Rattle.std.specs.Prelude.{◌≡◌, List, ◌∷◌, ℕ, ℤ, eqb, length, Result, Ok, Err, Option, Some, None}
 use Rattle.terms.specs.Logic.{pick}
 use Rattle.table_spec.specs.Writing.{Outcome, declined, wrote, write_table, laid}
 use Rattle.table_spec.specs.declared.Style.{Style}
 use Rattle.table_spec.specs.declared.Style.TheVariants.{Difdup, Affn, Pac, Sqz}
 use Rattle.table_write.specs.Room.{enough}
 use Rattle.host_numbers.specs.Numbers.{refused_of, no_flags}
-use Rattle.host_text.specs.declared.Form.{Form}
 use Rattle.terms.specs.declared.Fault.{Fault}
 
 -- a text written: refused, length, what is exact
@@ -55,9 +54,9 @@ TextLengthTold k f l n ys answer r = LengthTold no_flags (write_form k f l n ys 
 -- ---- what the functions here answer
 
 -- the form of a number, or that it is none's
-abbrev pub FormOf : ℕ → Form → Type 0
-FormOf k (Form.Of st) = (f l : ℤ) (n : ℕ) (ys : List ℤ) (space : ℕ) → write_form k f l n ys space ≡ write_table st f l n ys space
-FormOf k Form.NoForm = (f l : ℤ) (n : ℕ) (ys : List ℤ) (space : ℕ) → write_form k f l n ys space ≡ declined no_form
+abbrev pub FormOf : ℕ → Option Style → Type 0
+FormOf k (Some st) = (f l : ℤ) (n : ℕ) (ys : List ℤ) (space : ℕ) → write_form k f l n ys space ≡ write_table st f l n ys space
+FormOf k None = (f l : ℤ) (n : ℕ) (ys : List ℤ) (space : ℕ) → write_form k f l n ys space ≡ declined no_form
 
 -- the numbers of what a writer of tables answered
 abbrev pub written_numbers : Result ℕ Fault → List ℕ

@@ -13,23 +13,16 @@ use terms::Fault;
 // What is answered for a number that is no form's, -1 for C (LASTARUNC_NO_FORM in the header): no refusal has this number.
 const NO_FORM: u64 = 18446744073709551615;
 
-// The form of a number of the header, or that it is no form's.
-#[derive(Clone, Copy)]
-enum Form {
-    Of(Style),
-    NoForm,
-}
-
 // The form of this number (02, T-02). A function of its own: an impl of `TryFrom` for `Style` can stand only in `table_spec`, which knows no header.
-fn form_of(form: u64) -> Form
+fn form_of(form: u64) -> Option<Style>
     ensures { FormOf form result }
 {
     match form {
-        0 => Form::Of(Style::Difdup),
-        1 => Form::Of(Style::Affn),
-        2 => Form::Of(Style::Pac),
-        3 => Form::Of(Style::Sqz),
-        _ => Form::NoForm,
+        0 => Some(Style::Difdup),
+        1 => Some(Style::Affn),
+        2 => Some(Style::Pac),
+        3 => Some(Style::Sqz),
+        _ => None,
     }
 }
 
@@ -100,8 +93,8 @@ pub fn lastarunc_write_form(
     ensures { FormTold form first last points ordinates.now text.old text.new answer.new result }
 {
     match form_of(form) {
-        Form::NoForm => tell_no_form(answer),
-        Form::Of(style) => write_style(style, first, last, points, ordinates, text, answer),
+        None => tell_no_form(answer),
+        Some(style) => write_style(style, first, last, points, ordinates, text, answer),
     }
 }
 
@@ -117,8 +110,8 @@ pub fn lastarunc_text_length(
     ensures { TextLengthTold form first last points ordinates.now answer.new result }
 {
     match form_of(form) {
-        Form::NoForm => tell_no_form(answer),
-        Form::Of(style) => {
+        None => tell_no_form(answer),
+        Some(style) => {
             let written = table_write::text_length(style, first, last, points, ordinates);
             tell_text(written, answer)
         }
