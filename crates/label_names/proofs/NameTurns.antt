@@ -1,37 +1,21 @@
 -- The turns of a comparison of names: no place of the code is named here.
 use mathlib.Core.Path.{◌≡◌, refl, sym, ap, ◌∙◌}
-use mathlib.Core.Bool.{Bool, true, false, not, cond}
+use mathlib.Core.Bool.{Bool, true, false, not, cond, ◌&&◌}
 use mathlib.Core.List.{List, [], ◌∷◌, map}
-use Prim.Native.Nat.{ℕ, suc, ◌+◌, ◌-◌, ◌<◌, ◌≤◌}
+use Prim.Native.Nat.{ℕ, suc, ◌+◌, ◌-◌, ◌<◌}
 use native.Mathlib.Numerals.{add-one}
 use native.Mathlib.Omega.{arith}
 use lib.Dec.{leb}
-use lib.ListN.{length, get_or, take}
-use Rattle.std.specs.List.{filter, prefix_len}
-use Rattle.text.proofs.Passing.{part, passed}
+use lib.ListN.{length, get_or}
+use Rattle.std.specs.List.{filter, list_all}
+use Rattle.text.proofs.Passing.{part}
 use lib.Seq.{drop-cons}
 use borrow.Author.Tests.{eq-eqb, ne_eqb, leb-true, leb-false}
 use Rattle.terms.specs.Logic.{pick, no_way, by_case}
 use Rattle.terms.specs.Places.{inside}
 use Rattle.label_spec.specs.Names.{name_in, norm, ignored, blank, upper, sames}
-use Rattle.label_spec.specs.NameLaws.{name_end, name_skip, name_keep, whole, left_done, differ}
-use Rattle.label_names.specs.Post.{Kept, empty, first_of, unlike}
-
-module _ (s : List ℕ) (i e r : ℕ) (k : Kept s i e r) where
-  kept_end : e ≤ r → name_in s i e ≡ []
-  kept_end h = k.same ∙ name_end s r e h
-
-  kept_cons : r < e → e ≤ length s → name_in s i e ≡ upper (get_or s r 0) ∷ name_in s (r + 1) e
-  kept_cons h l = k.same ∙ name_keep s r e h l (k.stops h)
-
--- No byte of a name up to e counts from i up to k.
-abbrev pub Idle : List ℕ → ℕ → ℕ → ℕ → Type 0
-Idle s i e k = (i ≤ k) × (k ≤ e) × (name_in s i e ≡ name_in s k e)
-
-pub idle_passed : (s : List ℕ) (i e : ℕ) → i ≤ e → e ≤ length s → (n : ℕ) → n ≡ length (take (prefix_len ignored (part s i e)) (part s i e)) → Kept s i e (i + n)
-idle_passed s i e h l n z =
-    let p = passed s i e h l (Idle s i e) ignored (omega arith, h, refl) (λ k f g t x. (omega arith, omega arith, x.2 ∙ name_skip s k e g l t)) n z in
-    record { low = p.low; high = p.high; same = p.kept.2; stops = p.stops }
+use Rattle.label_spec.specs.NameLaws.{name_end, whole, left_done, differ}
+use Rattle.label_names.specs.Post.{empty, first_of, unlike}
 
 -- Does a byte count in a name? So many do, and so long the name is.
 abbrev pub counts : ℕ → Bool
@@ -59,14 +43,15 @@ pub name_counts : (s : List ℕ) (i e : ℕ) → map upper (filter counts (part 
 unfolding name_in
 name_counts s i e = norm_map (part s i e)
 
--- Is a name empty?
-module _ (s : List ℕ) (i e r : ℕ) (k : Kept s i e r) where
-  pub empty_is : e ≤ length s → leb e r ≡ empty (name_in s i e)
-  empty_is l = cases (leb e r) refl
-    where
-      cases : (z : Bool) → leb e r ≡ z → z ≡ empty (name_in s i e)
-      cases true h = rw (kept_end s i e r k (leb-true e r h)) (unfold empty in refl)
-      cases false h = rw (kept_cons s i e r k (leb-false e r h) l) (unfold empty in refl)
+-- A name is empty where every byte is left out.
+norm_empty : (l : List ℕ) → list_all ignored l ≡ empty (norm l)
+unfolding norm empty
+norm_empty [] = refl
+norm_empty (b ∷ l) = by_case (λ t. (t && list_all ignored l) ≡ empty (pick t (norm l) (upper b ∷ norm l))) (ignored b) (λ _. norm_empty l) (λ _. refl)
+
+pub empty_all : (s : List ℕ) (i e : ℕ) → list_all ignored (part s i e) ≡ empty (name_in s i e)
+unfolding name_in
+empty_all s i e = norm_empty (part s i e)
 
 -- A name's first byte, where it says something, is the first of the name as it is compared.
 module _ (s : List ℕ) (i : ℕ) (n : first_of s i ≡ 0 → ⊥) where

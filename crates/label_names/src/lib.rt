@@ -3,7 +3,7 @@
 
 ghost use Rattle.std.specs.Prelude.{◌≡◌, ◌≤◌, length};
 ghost use Rattle.label_spec.specs.Names.{ignored, upper, norm, name_in, sames, TITLE, END};
-ghost use Rattle.label_names.specs.Post.{Kept, empty, first_of, unlike};
+ghost use Rattle.label_names.specs.Post.{empty, first_of, unlike};
 
 use text::byte_at;
 
@@ -40,14 +40,6 @@ pub fn differ(x: u8, y: u8) -> bool
     x != 0 && y != 0 && x != y
 }
 
-// The place of the first byte from i on that counts in a name, or e, the name's end.
-fn next_kept(s: &[u8], i: usize, e: usize) -> usize
-    requires { (i ≤ e) × (e ≤ length s.now) }
-    ensures { Kept s.now i e result }
-{
-    i + s[i..e].iter().take_while(|b| is_ignored(**b)).count()
-}
-
 // Are two names equal as they are compared? They stand in one text or in two.
 pub fn same_name(s: &[u8], a: usize, ae: usize, t: &[u8], b: usize, be: usize) -> bool
     requires { (a ≤ ae) × (ae ≤ length s.now) × (b ≤ be) × (be ≤ length t.now) }
@@ -77,7 +69,7 @@ pub fn is_empty(s: &[u8], i: usize, e: usize) -> bool
     requires { (i ≤ e) × (e ≤ length s.now) }
     ensures { result ≡ empty (name_in s.now i e) }
 {
-    next_kept(s, i, e) >= e
+    s[i..e].iter().all(|b| is_ignored(*b))
 }
 
 // Is the name this word?

@@ -32,7 +32,7 @@ pub struct HeadRead {
     pub at: usize,
 }
 
-// The first place from here on where no blank stands.
+// The first place from here on where no blank stands. A loop by hand: no other form is plainer, and it is hot: where no blank stands, as most often, it asks for one byte.
 pub fn blanks(s: &[u8], from: usize) -> usize
     requires { from ≤ length s.now }
     ensures { Blanked s.now from result }

@@ -2,7 +2,6 @@
 use mathlib.Core.Path.{◌≡◌, refl, sym, ap, ◌∙◌}
 use mathlib.Core.Bool.{Bool, true, false}
 use mathlib.Core.List.{List, ◌∷◌}
-use mathlib.Core.Logic.{◌⊎◌, inl, inr}
 use Prim.Native.Nat.{ℕ, zero, suc, ◌+◌, ◌-◌, ◌*◌, ◌≤◌, ◌<◌}
 use native.Mathlib.Omega.{arith}
 use native.Mathlib.Nat.{mul-suc, add-zero, mul-one, mul-le-mul}
@@ -28,9 +27,6 @@ out_low u h = rw h refl
 pub ranged : (u : ℕ) → in_range u ≡ true → (0 < u) × (u < 4294967296)
 ranged u e = by_case (λ t. leb 1 u ≡ t → pick t (ltb u 4294967296) false ≡ true → (0 < u) × (u < 4294967296)) (leb 1 u)
     (λ _ l h. (leb-true 1 u l, ltb-true u 4294967296 h)) (λ _ l h. no_way h) refl e
-
-pub shift_zero : (m : Bool) (v q : ℕ) → in_range (moved m v q) ≡ false → 0 ≡ shifted_to m v q
-shift_zero m v q e = rw e refl
 
 pub shift_is : (m : Bool) (v q : ℕ) → in_range (moved m v q) ≡ true → moved m v q ≡ shifted_to m v q
 shift_is m v q e = rw e refl
@@ -117,23 +113,6 @@ pub reaches : (m : Bool) (d n q : ℕ) → in_range (moved m (d * n) q) ≡ true
 reaches true d n q e = let z = ranged (q - d * n) e in omega (arith, z.0)
 reaches false d n q e = (ranged (q + d * n) e).1
 
--- an ordinate less or more a difference, as the code tests it
-shift_down : {m : Bool} (v q : ℕ) → m ≡ true → q ≤ v → 0 ≡ shifted_to m v q
-shift_down {m} v q e l = rw e (shift_zero true v q (out_low (q - v) (omega arith)))
-
-shift_less : {m : Bool} (v q : ℕ) → m ≡ true → q < 4294967296 → v < q → q - v ≡ shifted_to m v q
-shift_less {m} v q e h l = rw e (shift_is true v q (in_range_lem (q - v) (omega arith) (omega arith)))
-
-shift_over : {m : Bool} (v q : ℕ) → m ≡ false → 4294967296 ≤ q + v → 0 ≡ shifted_to m v q
-shift_over {m} v q e l = rw e (shift_zero false v q (out_high (q + v) l))
-
-shift_more : {m : Bool} (v q : ℕ) → m ≡ false → q + v < 4294967296 → q + v ≡ shifted_to m v q
-shift_more {m} v q e l = rw e (sum_in (q + v) l)
-  where
-    sum_in : (u : ℕ) → u < 4294967296 → u ≡ pick (in_range u) u 0
-    sum_in zero l = refl
-    sum_in (suc u) l = rw (in_range_lem (suc u) (omega arith) l) refl
-
 -- an ordinate of its own is within reach of zero
 pub own_reach : (m : Bool) (v : ℕ) → v ≤ 2147483647 → Reaches m v 1 2147483648
 own_reach true v l = let y : v * 1 ≡ v = mul-one v in omega arith
@@ -146,26 +125,3 @@ own_small false v l = omega arith
 -- the size of the last of many steps holds in 64 bits
 pub far_small : (d n : ℕ) → d < 10000000000 → n < 100000 → d * n < 1000000000000000
 far_small d n h l = let z = mul-le-mul {n₁ = d} {m₁ = n} {n₂ = 9999999999} {m₂ = 99999} (omega arith) (omega arith) in omega arith
-
--- the raised ordinate and a difference, by the difference's sign
-abbrev pub Raised : Bool → ℕ → ℕ → ℕ → Type 0
-Raised m v q u = ((m ≡ true) × (u ≡ 1000000000000000 + q - v)) ⊎ ((m ≡ false) × (u ≡ 1000000000000000 + q + v))
-
-module _ {m : Bool} (v q u : ℕ) (h : q < 4294967296) (b : v < 1000000000000000) where
-  pub raised_under : Raised m v q u → u < 1000000000000000 → 0 ≡ shifted_to m v q
-  raised_under (inl x) l = let e = x.1 in shift_down v q x.0 (omega arith)
-  raised_under (inr x) l = let e = x.1 in absurd (omega arith)
-
-  pub raised_over : Raised m v q u → 4294967296 ≤ u - 1000000000000000 → 0 ≡ shifted_to m v q
-  raised_over (inl x) l = let e = x.1 in absurd (omega arith)
-  raised_over (inr x) l = let e = x.1 in shift_over v q x.0 (omega arith)
-
-  less : u ≡ 1000000000000000 + q - v → m ≡ true → 1000000000000000 ≤ u → u - 1000000000000000 ≡ shifted_to m v q
-  less e t l =
-      let z : u - 1000000000000000 ≡ q - v = omega arith in
-      by_case (λ x. ltb v q ≡ x → u - 1000000000000000 ≡ shifted_to m v q) (ltb v q) (λ _ x. z ∙ shift_less v q t h (ltb-true v q x))
-      (λ _ x. let y = ltb-false v q x in let w : u - 1000000000000000 ≡ 0 = omega arith in w ∙ shift_down v q t y) refl
-
-  pub raised_in : Raised m v q u → 1000000000000000 ≤ u → u - 1000000000000000 < 4294967296 → u - 1000000000000000 ≡ shifted_to m v q
-  raised_in (inl x) l k = less x.1 x.0 l
-  raised_in (inr x) l k = let e = x.1 in let z : u - 1000000000000000 ≡ q + v = omega arith in z ∙ shift_more v q x.0 (omega arith)

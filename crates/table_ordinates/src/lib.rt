@@ -38,14 +38,11 @@ pub fn shifted(q: u64, minus: bool, v: u64) -> u64
     let up = RAISED + q + v;
     let down = RAISED + q - v;
     let u = if minus { down } else { up };
-    if u < RAISED {
-        return 0;
+    if (RAISED..RAISED + PAST_ORDINATES).contains(&u) {
+        u - RAISED
+    } else {
+        0
     }
-    let w = u - RAISED;
-    if w >= PAST_ORDINATES {
-        return 0;
-    }
-    w
 }
 
 // Stores an ordinate, if there is room for it.

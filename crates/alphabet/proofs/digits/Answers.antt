@@ -23,25 +23,29 @@ returns-then-not-is_digit c =
 
 pub overflow_mul-w : goal.overflow_mul-w
 overflow_mul-w c =
-    let known : Taken c.args.s.now c.args.from c.args.v c.args.most c.loop-i.w c.loop-i.i c.standing_in-b.result = let i = c.loop-i.invariant in let k = c.loop-i-test.true in let x = i.low in let h = c.run_end-end.ensures.few in
+    let known : Taken c.args.s.now c.args.from c.args.v c.args.most c.loop-i.w c.loop-i.i c.standing_in-b.result =
+    let i = c.loop-i.invariant in let k = c.loop-i-test.true in let x = i.low in let h = c.run_end-end.ensures.few in
     taken i c.standing_in-b.ensures (sym c.is_digit.ensures ∙ c.if-not-is_digit.false) (omega arith) c.requires.1 in
     let k = known.fits in omega arith
 
 pub overflow_sub-w : goal.overflow_sub-w
 overflow_sub-w c =
-    let known : Taken c.args.s.now c.args.from c.args.v c.args.most c.loop-i.w c.loop-i.i c.standing_in-b.result = let i = c.loop-i.invariant in let k = c.loop-i-test.true in let x = i.low in let h = c.run_end-end.ensures.few in
+    let known : Taken c.args.s.now c.args.from c.args.v c.args.most c.loop-i.w c.loop-i.i c.standing_in-b.result =
+    let i = c.loop-i.invariant in let k = c.loop-i-test.true in let x = i.low in let h = c.run_end-end.ensures.few in
     taken i c.standing_in-b.ensures (sym c.is_digit.ensures ∙ c.if-not-is_digit.false) (omega arith) c.requires.1 in
     known.digit
 
 pub overflow_add-w : goal.overflow_add-w
 overflow_add-w c =
-    let known : Taken c.args.s.now c.args.from c.args.v c.args.most c.loop-i.w c.loop-i.i c.standing_in-b.result = let i = c.loop-i.invariant in let k = c.loop-i-test.true in let x = i.low in let h = c.run_end-end.ensures.few in
+    let known : Taken c.args.s.now c.args.from c.args.v c.args.most c.loop-i.w c.loop-i.i c.standing_in-b.result =
+    let i = c.loop-i.invariant in let k = c.loop-i-test.true in let x = i.low in let h = c.run_end-end.ensures.few in
     taken i c.standing_in-b.ensures (sym c.is_digit.ensures ∙ c.if-not-is_digit.false) (omega arith) c.requires.1 in
     let k = known.fits in let d = known.small in omega arith
 
 pub loop-i-preserved : goal.loop-i-preserved
 loop-i-preserved c =
-    let known : Taken c.args.s.now c.args.from c.args.v c.args.most c.loop-i.w c.loop-i.i c.standing_in-b.result = let i = c.loop-i.invariant in let k = c.loop-i-test.true in let x = i.low in let h = c.run_end-end.ensures.few in
+    let known : Taken c.args.s.now c.args.from c.args.v c.args.most c.loop-i.w c.loop-i.i c.standing_in-b.result =
+    let i = c.loop-i.invariant in let k = c.loop-i-test.true in let x = i.low in let h = c.run_end-end.ensures.few in
     taken i c.standing_in-b.ensures (sym c.is_digit.ensures ∙ c.if-not-is_digit.false) (omega arith) c.requires.1 in
     known.on
 
