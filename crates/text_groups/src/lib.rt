@@ -38,17 +38,12 @@ fn copies_of(ys: &[i32], start: usize, t: Token, p: u64) -> usize
     ys.len() - start
 }
 
-// The bytes of the DUP for m more of a token.
+// The bytes of the DUP for m more of a token: the place after it where nothing is lent.
 fn dup_bytes(m: usize) -> usize
     requires { m ≤ 65536 }
     ensures { (result ≡ length (dup_text m)) × (result ≤ 10) }
 {
-    if m == 0 {
-        return 0;
-    }
-    let copies = (m + 1) as u64;
-    let n = further_digits(copies);
-    n + 1
+    put_dup(&mut [], 0, m)
 }
 
 // The group that starts with the ordinate at i, after p.
@@ -88,7 +83,7 @@ fn dup_byte(d: u64) -> u8
 // The DUP for m more of a token. The place after it.
 fn put_dup(out: &mut [u8], at: usize, m: usize) -> usize
     requires { (m ≤ 65536) × (at < 2 ^ 61) }
-    ensures { Put out.old at out.new result (dup_text m) }
+    ensures { Put out.old at out.new result (dup_text m) × (result ≤ at + 10) }
 {
     if m == 0 {
         return at;

@@ -10,4 +10,4 @@ pub returns-then-out-at : goal.returns-then-out-at
 returns-then-out-at c = let g = c.args.g in sym (sets_past _ _ (number g.base g.size ++ dup_text g.more) c.if-out-at.true)
 
 pub returns : goal.returns
-returns c = (put_then c.put_number-a.ensures.0 c.put_dup.ensures).stored
+returns c = (put_then c.put_number-a.ensures.0 c.put_dup.ensures.0).stored
