@@ -6,7 +6,7 @@ ghost use Rattle.host_read.specs.Answers.{file_numbers, record_numbers, blocks_n
 
 use compound_spec::{BlockRead, BlocksFound};
 use file_spec::FileRead;
-use host_numbers::{bits_of, flag_of};
+use host_numbers::{bits_of, flags_of};
 use label_spec::Record;
 
 // What is answered for a record or a block that is absent, -1 for C (LASTARUNC_ABSENT in the header): no refusal has this number.
@@ -21,10 +21,7 @@ pub fn tell_file(read: FileRead, answer: &mut [u64; 10]) -> u64
             let n = t.points;
             let f = bits_of(t.first);
             let l = bits_of(t.last);
-            let exact = t.exact;
-            let ef = flag_of(exact.first);
-            let el = flag_of(exact.last);
-            let ey = flag_of(exact.firsty);
+            let [ef, el, ey] = flags_of(t.exact);
             *answer = [0, 0, 0, 0, n as u64, f, l, ef, el, ey];
             0
         }

@@ -13,7 +13,7 @@ returns-in-Accepted c =
     let k = c.struct_told-1.given in let j = c.struct_told-in-Accepted-1.given in
     tells_accepted c.in-Accepted.is
     (rw (to_z-of_z (sfits_of {w = w64} k.1.0.1)) at c.bits_of-f.ensures) (rw (to_z-of_z (sfits_of {w = w64} j.1.1.0.1)) at c.bits_of-l.ensures)
-    c.flag_of-ef.ensures c.flag_of-el.ensures c.flag_of-ey.ensures
+    c.flags_of.ensures
 
 pub returns-in-Refused : goal.returns-in-Refused
 returns-in-Refused c = tells _ (ap file_numbers c.in-Refused.is)
