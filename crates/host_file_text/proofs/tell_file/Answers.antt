@@ -4,7 +4,7 @@ use Rattle.host_file_text.proofs.tell_file.Goals as goal
 
 pub returns-in-Length : goal.returns-in-Length
 returns-in-Length c =
-    tells_file c.in-Length.is c.flag_of-ef.ensures c.flag_of-el.ensures c.flag_of-ey.ensures
+    tells_file c.in-Length.is c.flags_of.ensures
 
 pub returns-in-Refused : goal.returns-in-Refused
 returns-in-Refused c = tells_file_refusal c.in-Refused.is
