@@ -2,21 +2,22 @@
 use mathlib.Core.Path.{◌≡◌, refl, ap, ◌∙◌}
 use mathlib.Core.List.{List, [], ◌∷◌}
 use Prim.Native.Nat.{ℕ}
+use lib.ListN.{get_or}
 use Rattle.terms.specs.declared.Fault.{Fault}
 use Rattle.table_spec.specs.Writing.{Outcome, declined, wrote}
 use Rattle.file_spec.specs.declared.Exactness.{Exactness}
 use Rattle.file_write_spec.specs.declared.FileLength.{FileLength}
 use Rattle.file_lay.specs.Answers as file-writing
-use Rattle.host_numbers.specs.Numbers.{refused_of, flag, flags, no_flags, Told}
+use Rattle.host_numbers.specs.Numbers.{refused_of, flags, no_flags, Told}
 use Rattle.host_text.specs.Answers.{text_answer, OutcomeTold, LengthTold}
 use Rattle.host_file_text.specs.Answers.{file_numbers}
 use Rattle.std.specs.Prelude.{Result, Ok, Err}
 
 -- ---- what the function tells
 
-pub tells_file : {w : Result FileLength Fault} {m : FileLength} {f l y : ℕ} → w ≡ Ok m → f ≡ flag m.exact.first → l ≡ flag m.exact.last → y ≡ flag m.exact.firsty
-    → Told (file_numbers w) (0 ∷ m.length ∷ f ∷ l ∷ y ∷ []) 0
-tells_file e a b c = rw (e, a, b, c) (record { numbers = refl; returned = refl })
+pub tells_file : {w : Result FileLength Fault} {m : FileLength} {ks : List ℕ} → w ≡ Ok m → ks ≡ flags m.exact
+    → Told (file_numbers w) (0 ∷ m.length ∷ get_or ks 0 0 ∷ get_or ks 1 0 ∷ get_or ks 2 0 ∷ []) 0
+tells_file e a = rw (e, a) (record { numbers = refl; returned = refl })
 
 pub tells_file_refusal : {w : Result FileLength Fault} {f : Fault} → w ≡ Err f → Told (file_numbers w) (f.number ∷ 0 ∷ no_flags) f.number
 tells_file_refusal e = rw e (record { numbers = refl; returned = refl })

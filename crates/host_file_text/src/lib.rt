@@ -7,7 +7,7 @@ ghost use Rattle.host_file_text.specs.Answers.{scales_of, file_numbers, FileText
 ghost use Rattle.host_numbers.specs.Numbers.{Told};
 
 use file_write_spec::{FileLength, GivenDecimal, Scales};
-use host_numbers::flag_of;
+use host_numbers::flags_of;
 use terms::Fault;
 
 // Tells what the writer of files answered: refused, length, and whether F, L and FIRSTY's quotient are exact.
@@ -16,10 +16,7 @@ fn tell_file(written: Result<FileLength, Fault>, answer: &mut [u64; 5]) -> u64
 {
     match written {
         Ok(n) => {
-            let exact = n.exact;
-            let ef = flag_of(exact.first);
-            let el = flag_of(exact.last);
-            let ey = flag_of(exact.firsty);
+            let [ef, el, ey] = flags_of(n.exact);
             *answer = [0, n.length as u64, ef, el, ey];
             0
         }

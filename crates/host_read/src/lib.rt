@@ -6,7 +6,7 @@ ghost use Rattle.host_read.specs.Answers.{file_numbers, record_numbers, blocks_n
 
 use compound_spec::Blocks;
 use file_spec::FileTable;
-use host_numbers::{bits_of, flag_of};
+use host_numbers::{bits_of, flags_of};
 use label_spec::Span;
 use terms::Refusal;
 
@@ -22,10 +22,7 @@ pub fn tell_file(read: Result<FileTable, Refusal>, answer: &mut [u64; 10]) -> u6
             let n = t.points;
             let f = bits_of(t.first);
             let l = bits_of(t.last);
-            let exact = t.exact;
-            let ef = flag_of(exact.first);
-            let el = flag_of(exact.last);
-            let ey = flag_of(exact.firsty);
+            let [ef, el, ey] = flags_of(t.exact);
             *answer = [0, 0, 0, 0, n as u64, f, l, ef, el, ey];
             0
         }

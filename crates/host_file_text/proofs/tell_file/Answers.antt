@@ -4,7 +4,7 @@ use Rattle.host_file_text.proofs.tell_file.Goals as goal
 
 pub returns-in-Ok : goal.returns-in-Ok
 returns-in-Ok c =
-    tells_file c.in-Ok.is c.flag_of-ef.ensures c.flag_of-el.ensures c.flag_of-ey.ensures
+    tells_file c.in-Ok.is c.flags_of.ensures
 
 pub returns-in-Err : goal.returns-in-Err
 returns-in-Err c = tells_file_refusal c.in-Err.is

@@ -13,7 +13,7 @@ returns-in-Ok c =
     let k = c.struct_told-1.given in let j = c.struct_told-in-Ok-1.given in
     tells_accepted c.in-Ok.is
     (rw (to_z-of_z (sfits_of {w = w64} k.1.0.1)) at c.bits_of-f.ensures) (rw (to_z-of_z (sfits_of {w = w64} j.1.1.0.1)) at c.bits_of-l.ensures)
-    c.flag_of-ef.ensures c.flag_of-el.ensures c.flag_of-ey.ensures
+    c.flags_of.ensures
 
 pub returns-in-Err : goal.returns-in-Err
 returns-in-Err c = tells _ (ap file_numbers c.in-Err.is)
