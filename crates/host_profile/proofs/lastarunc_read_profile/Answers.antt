@@ -9,7 +9,7 @@ pub returns-in-Accepted : goal.returns-in-Accepted
 returns-in-Accepted c =
     told_profile_lem (rw c.in-Accepted.is at c.read_profile.ensures)
     (rw (to_z-of_z (sfits_of {w = w64} c.struct_told-1.given.1.0.1)) at c.bits_of-f.ensures) (rw (to_z-of_z (sfits_of {w = w64} c.struct_told-in-Accepted-1.given.1.1.0.1)) at c.bits_of-l.ensures)
-    c.flag_of-ef.ensures c.flag_of-el.ensures c.flag_of-ey.ensures
+    c.flags_of.ensures
 
 pub returns-in-Refused : goal.returns-in-Refused
 returns-in-Refused c = told_fault (rw c.in-Refused.is at c.read_profile.ensures) c.flag_of-on_page.ensures
