@@ -4,7 +4,7 @@
 
 ghost use Rattle.host_profile.specs.Answers.{ProfileTold};
 
-use host_numbers::{bits_of, flag_of};
+use host_numbers::{bits_of, flag_of, flags_of};
 use profile_spec::PageRefusal;
 
 // Reads a profile (02, T-09), with the site's page beside the file: refused, place, line, column, points, first, last, whether F, L and FIRSTY's quotient are exact, and whether the refusal is on
@@ -23,10 +23,7 @@ pub fn lastarunc_read_profile(
             let n = t.points;
             let f = bits_of(t.first);
             let l = bits_of(t.last);
-            let exact = t.exact;
-            let ef = flag_of(exact.first);
-            let el = flag_of(exact.last);
-            let ey = flag_of(exact.firsty);
+            let [ef, el, ey] = flags_of(t.exact);
             *answer = [0, 0, 0, 0, n as u64, f, l, ef, el, ey, 0];
             0
         }
