@@ -7,7 +7,7 @@ ghost use Rattle.file_marks.specs.Spans.{Within};
 ghost use Rattle.compound_find.specs.Answers.{counted_by, judged_by, Stores, FindsBlocks};
 
 use compound_blocks::store_blocks;
-use compound_spec::{Blocks, Own, Surveyed};
+use compound_spec::{Blocks, Own};
 use compound_survey::survey;
 use decimal_spec::Count;
 use file_marks::mark_in;
@@ -66,19 +66,12 @@ pub fn find_blocks(file: &[u8], blocks: &mut [u64]) -> Result<Blocks, Refusal>
 {
     match survey(file) {
         Err(f) => Err(refusal_in(file, f.number, f.place)),
-        Ok(
-            Surveyed {
-                outermost,
-                own,
-                count,
-            },
-        ) => {
-            let title = outermost.title;
-            let eq = outermost.eq;
-            match judge_whole(file, outermost.end, own, count) {
+        Ok(told) => {
+            let block = told.outermost;
+            match judge_whole(file, block.end, told.own, told.count) {
                 Err(f) => Err(refusal_in(file, f.number, f.place)),
                 Ok(found) => {
-                    store_fitting(file, blocks, title, eq, count);
+                    store_fitting(file, blocks, block.title, block.eq, told.count);
                     Ok(found)
                 }
             }

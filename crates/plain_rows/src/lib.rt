@@ -11,7 +11,7 @@ ghost use Rattle.plain_rows.specs.Rows.{after_head, after_rest, start_of, Fronts
 use frame::Frame;
 use plain_expand::{Grows, Next, expand, next_value};
 use plain_values::{Form, Points, is_dif};
-use table_lines::{HeadRead, head};
+use table_lines::head;
 use table_ordinates::put;
 use table_pass::index_of;
 use table_values::Row;
@@ -122,15 +122,9 @@ pub fn plain_line(
     let k = r.k;
     match head(s, at, e) {
         None => Err(Fault::new(Reason::NoHead, at)),
-        Some(
-            HeadRead {
-                abscissa: h,
-                unit,
-                at: j,
-            },
-        ) => {
-            let passes = fr.passes(h, unit, index_of(dif, k));
-            match next_value(s, j, 0, Form::Dup(false)) {
+        Some(top) => {
+            let passes = fr.passes(top.abscissa, top.unit, index_of(dif, k));
+            match next_value(s, top.at, 0, Form::Dup(false)) {
                 Ok(Next::End(_)) => Err(refused(passes, at, Fault::new(Reason::BareHead, at))),
                 Err(fault) => Err(refused(passes, at, fault)),
                 Ok(Next::Gives(p, a, b)) => {

@@ -9,7 +9,7 @@ ghost use Rattle.table_spec.specs.Values.{index};
 ghost use Rattle.table_pass.specs.Rows.{frame_rules, Rests, LineSays, finished, PassSays};
 
 use frame::Frame;
-use table_lines::{HeadRead, Start, bare_line, head, row_start};
+use table_lines::{Start, bare_line, head, row_start};
 use table_values::{Row, values};
 use terms::{Fault, Reason};
 
@@ -46,22 +46,16 @@ fn read_line(s: &[u8], fr: Frame, out: &mut [i32], r: Row, at: usize, e: u64) ->
     let q = r.q;
     match head(s, at, e) {
         None => Err(Fault::new(Reason::NoHead, at)),
-        Some(
-            HeadRead {
-                abscissa: h,
-                unit,
-                at: j,
-            },
-        ) => {
-            if !fr.passes(h, unit, index_of(dif, k)) {
+        Some(top) => {
+            if !fr.passes(top.abscissa, top.unit, index_of(dif, k)) {
                 return Err(Fault::new(Reason::WrongHead, at));
             }
-            if bare_line(s, j) {
+            if bare_line(s, top.at) {
                 return Err(Fault::new(Reason::BareHead, at));
             }
             let want = wanted(dif, q);
             let n = fr.points;
-            values(s, n, out, j, k, want)
+            values(s, n, out, top.at, k, want)
         }
     }
 }

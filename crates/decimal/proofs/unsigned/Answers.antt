@@ -6,8 +6,8 @@ use Rattle.decimal.proofs.unsigned.Goals as goal
 pub exponent-requires : goal.exponent-requires
 exponent-requires c = let x = c.in_ok-digits.ensures in x.good.2
 
-pub overflow_sub-raised : goal.overflow_sub-raised
-overflow_sub-raised c =
+pub overflow_sub-result : goal.overflow_sub-result
+overflow_sub-result c =
     let x = c.in_ok-digits.ensures in
     let y = c.in_ok-raised.ensures in
     omega (arith, x.good.1, y.good.0)

@@ -7,13 +7,13 @@ use Rattle.file_gather.proofs.gather.Goals as goal
 pub loop-k-init : goal.loop-k-init
 loop-k-init c = gathers_none _ _ _
 
-pub returns-in_err-record_at : goal.returns-in_err-record_at
-returns-in_err-record_at c =
-    rw c.from_residual.ensures (gathers_lacking _ _ _ c.loop-k.invariant c.loop-k-test.true (sym c.in_err-record_at.ensures.0), tt)
+pub returns-in_err-texts : goal.returns-in_err-texts
+returns-in_err-texts c =
+    rw c.from_residual.ensures (gathers_lacking _ _ _ c.loop-k.invariant c.loop-k-test.true (sym c.in_err-texts.ensures.0), tt)
 
 pub loop-k-preserved : goal.loop-k-preserved
 loop-k-preserved c =
-    gathers_on _ _ _ c.loop-k.invariant c.loop-k-test.true (sym c.in_ok-record_at.ensures.0) c.in_ok-record_at.ensures.1
+    gathers_on _ _ _ c.loop-k.invariant c.loop-k-test.true (sym c.in_ok-texts.ensures.0) c.in_ok-texts.ensures.1
 
 pub returns : goal.returns
 returns c =

@@ -16,25 +16,25 @@ use Rattle.plain_rows.proofs.plain_line.Goals as goal
 
 pub passes-passes-requires : goal.passes-passes-requires
 passes-passes-requires c =
-    let abscissa : ℕ = c.in-Some.h in
-    let unit : ℕ = c.in-Some.unit in
-    let topped : Topped c.args.s.now c.args.at abscissa unit c.in-Some.j = rw c.in-Some.is at c.head.ensures in
+    let abscissa : ℕ = c.in-Some.top.abscissa in
+    let unit : ℕ = c.in-Some.top.unit in
+    let topped : Topped c.args.s.now c.args.at abscissa unit c.in-Some.top.at = rw c.in-Some.is at c.head.ensures in
     let row : Row = c.args.r in
     let t = topped in let r = row in let p = c.requires in
     (p.0, t.small, t.coarsest, rw c.index_of.ensures (index_small r.dif r.k p.0.few p.1.few))
 
 pub next_value-requires : goal.next_value-requires
 next_value-requires c =
-    let abscissa : ℕ = c.in-Some.h in
-    let unit : ℕ = c.in-Some.unit in
-    let topped : Topped c.args.s.now c.args.at abscissa unit c.in-Some.j = rw c.in-Some.is at c.head.ensures in
+    let abscissa : ℕ = c.in-Some.top.abscissa in
+    let unit : ℕ = c.in-Some.top.unit in
+    let topped : Topped c.args.s.now c.args.at abscissa unit c.in-Some.top.at = rw c.in-Some.is at c.head.ensures in
     let t = topped in let l = t.low in (omega arith, t.high, omega arith, λ x. no_way x)
 
 pub check_row-requires : goal.check_row-requires
 check_row-requires c =
-    let abscissa : ℕ = c.in-Some.h in
-    let unit : ℕ = c.in-Some.unit in
-    let topped : Topped c.args.s.now c.args.at abscissa unit c.in-Some.j = rw c.in-Some.is at c.head.ensures in
+    let abscissa : ℕ = c.in-Some.top.abscissa in
+    let unit : ℕ = c.in-Some.top.unit in
+    let topped : Topped c.args.s.now c.args.at abscissa unit c.in-Some.top.at = rw c.in-Some.is at c.head.ensures in
     let frame : Frame = c.args.fr in
     let row : Row = c.args.r in
     let passing : let f = frame in let r = row in c.passes-passes.result ≡ passes f.first f.last f.points abscissa unit (index r.dif r.k) = rw c.index_of.ensures at c.passes-passes.ensures in
@@ -43,9 +43,9 @@ check_row-requires c =
 
 pub new_row-requires : goal.new_row-requires
 new_row-requires c =
-    let abscissa : ℕ = c.in-Some.h in
-    let unit : ℕ = c.in-Some.unit in
-    let topped : Topped c.args.s.now c.args.at abscissa unit c.in-Some.j = rw c.in-Some.is at c.head.ensures in
+    let abscissa : ℕ = c.in-Some.top.abscissa in
+    let unit : ℕ = c.in-Some.top.unit in
+    let topped : Topped c.args.s.now c.args.at abscissa unit c.in-Some.top.at = rw c.in-Some.is at c.head.ensures in
     let frame : Frame = c.args.fr in
     let row : Row = c.args.r in
     let passing : let f = frame in let r = row in c.passes-passes.result ≡ passes f.first f.last f.points abscissa unit (index r.dif r.k) = rw c.index_of.ensures at c.passes-passes.ensures in
@@ -56,15 +56,15 @@ pub returns-in-None : goal.returns-in-None
 returns-in-None c =
     let frame : Frame = c.args.fr in
     let row : Row = c.args.r in
-    rw c.new-in-None.ensures (line_four frame _ row _ (rw c.in-None.is at c.head.ensures) [] [])
+    rw c.new.ensures (line_four frame _ row _ (rw c.in-None.is at c.head.ensures) [] [])
 
 pub returns-in-End : goal.returns-in-End
 returns-in-End c =
     let frame : Frame = c.args.fr in
     let row : Row = c.args.r in
-    let abscissa : ℕ = c.in-Some.h in
-    let unit : ℕ = c.in-Some.unit in
-    let topped : Topped c.args.s.now c.args.at abscissa unit c.in-Some.j = rw c.in-Some.is at c.head.ensures in
+    let abscissa : ℕ = c.in-Some.top.abscissa in
+    let unit : ℕ = c.in-Some.top.unit in
+    let topped : Topped c.args.s.now c.args.at abscissa unit c.in-Some.top.at = rw c.in-Some.is at c.head.ensures in
     let passing : let f = frame in let r = row in c.passes-passes.result ≡ passes f.first f.last f.points abscissa unit (index r.dif r.k) = rw c.index_of.ensures at c.passes-passes.ensures in
     rw (c.refused.ensures, c.new-in-End.ensures) (bare_line frame _ row _ topped c.requires.1.few (rw c.in-End.is at c.next_value.ensures) _ passing _ _)
 
@@ -72,8 +72,8 @@ pub returns-in-Err : goal.returns-in-Err
 returns-in-Err c =
     let frame : Frame = c.args.fr in
     let row : Row = c.args.r in
-    let abscissa : ℕ = c.in-Some.h in
-    let unit : ℕ = c.in-Some.unit in
-    let topped : Topped c.args.s.now c.args.at abscissa unit c.in-Some.j = rw c.in-Some.is at c.head.ensures in
+    let abscissa : ℕ = c.in-Some.top.abscissa in
+    let unit : ℕ = c.in-Some.top.unit in
+    let topped : Topped c.args.s.now c.args.at abscissa unit c.in-Some.top.at = rw c.in-Some.is at c.head.ensures in
     let passing : let f = frame in let r = row in c.passes-passes.result ≡ passes f.first f.last f.points abscissa unit (index r.dif r.k) = rw c.index_of.ensures at c.passes-passes.ensures in
     rw c.refused-in-Err.ensures (bad_line frame _ row _ topped c.requires.1.few (rw c.in-Err.is at c.next_value.ensures) _ passing _ _)

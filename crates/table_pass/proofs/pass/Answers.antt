@@ -25,19 +25,19 @@ read_line-requires c =
     let x = rw c.in-Head.is at c.row_start.ensures in
     (p, c.loop-j.invariant.rests, x.1)
 
-pub returns-in_err-read_line : goal.returns-in_err-read_line
-returns-in_err-read_line c =
+pub returns-in_err-r-in-Head : goal.returns-in_err-r-in-Head
+returns-in_err-r-in-Head c =
     let x = rw c.in-Head.is at c.row_start.ensures in
     let p = err_from_is_err_and c.from_residual.result c.from_residual.ensures.1 in rw (p.1, p.2)
-    (reached_refused c.loop-j.invariant _ _ x.2 c.in_err-read_line.ensures)
+    (reached_refused c.loop-j.invariant _ _ x.2 c.in_err-r-in-Head.ensures)
 
 pub loop-j-smaller : goal.loop-j-smaller
 loop-j-smaller c =
     let x = rw c.in-Head.is at c.row_start.ensures in
-    let y = c.in_ok-read_line.ensures in
+    let y = c.in_ok-r-in-Head.ensures in
     let h = y.1.high in omega (arith, x.0, y.0)
 
 pub loop-j-preserved : goal.loop-j-preserved
 loop-j-preserved c =
     let x = rw c.in-Head.is at c.row_start.ensures in
-    reached_next c.loop-j.invariant _ x.2 (c.in_ok-read_line.ensures)
+    reached_next c.loop-j.invariant _ x.2 (c.in_ok-r-in-Head.ensures)
