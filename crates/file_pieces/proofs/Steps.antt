@@ -1,7 +1,7 @@
 -- Bytes in a row, and decimals. No place of the code is named here. Assumes nothing.
-use mathlib.Core.Path.{◌≡◌, refl, sym, ap, ◌∙◌}
+use mathlib.Core.Path.{◌≡◌, sym, ap, ◌∙◌}
 use mathlib.Core.Bool.{true, false}
-use mathlib.Core.List.{List, [], ◌∷◌}
+use mathlib.Core.List.{List, ◌∷◌}
 use Prim.Native.Nat.{ℕ, suc, ◌+◌, ◌-◌, ◌≤◌, ◌<◌}
 use native.Mathlib.Omega.{arith}
 use native.Mathlib.Numerals.{add-one}
@@ -23,10 +23,6 @@ bytes_again out l s at i h e =
 
 pub bytes_end : (out l s : List ℕ) (at i : ℕ) → length s ≤ i → sets out (at + i) (drop i s) ≡ l → out ≡ l
 bytes_end out l s at i h e = ap (λ (x : List ℕ). sets out (at + i) x) (sym (drop_of_length-le s h)) ∙ e
-
-pub put_three_bytes : {o o1 o2 o3 : List ℕ} (at a b c : ℕ) → o1 ≡ set o at a → o2 ≡ set o1 (at + 1) b → o3 ≡ set o2 (at + 2) c → Put o at o3 (at + 3) (a ∷ b ∷ c ∷ [])
-put_three_bytes {o} {o1} {o2} {o3} at a b c x y z =
-    let e : at + 2 ≡ suc (suc at) = omega arith in record { next = refl; stored = rw (z, y, x, add-one at, e) refl }
 
 -- ---- decimals
 

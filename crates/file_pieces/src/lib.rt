@@ -32,10 +32,7 @@ fn put_two(out: &mut [u8], at: usize, sign: u8, x: u64) -> usize
 {
     let tens = (DIGIT + x / 10) as u8;
     let ones = (DIGIT + x % 10) as u8;
-    put(out, at, sign);
-    put(out, at + 1, tens);
-    put(out, at + 2, ones);
-    at + 3
+    put_bytes(out, at, &[sign, tens, ones])
 }
 
 // `E`, the sign of a power of ten, which is counted from -200 on, and two digits. The place after them.
