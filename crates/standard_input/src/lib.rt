@@ -5,7 +5,8 @@ ghost use Rattle.std.specs.Prelude.{◌≤◌, length};
 
 use std::io::Read;
 
-// Reads until the slice is full, the input ends or a read fails, and says how many bytes stand at the start of the slice. A read that a signal interrupts counts as one that failed. A loop by hand: the library's `read_exact` does not say how many bytes came before the end.
+// Reads until the slice is full, the input ends or a read fails, and says how many bytes stand at the start of the slice.
+// A read that a signal interrupts counts as one that failed. A loop by hand: the library's `read_exact` does not say how many bytes came before the end.
 pub fn read_full<R: Read>(input: &mut R, buf: &mut [u8]) -> usize
     ensures { result ≤ length buf.new }
 {

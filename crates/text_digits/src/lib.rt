@@ -89,7 +89,8 @@ pub fn digits_in(d: &[u64; 32], v: u64) -> usize
     (sum / 4294967296) as usize
 }
 
-// The n further digits of v but the first of an odd number of them, two at a time from the right; what is left of v. A loop by hand: a `for` backwards over the pairs took 4 in a hundred more instructions to write AFFN.
+// The n further digits of v but the first of an odd number of them, two at a time from the right; what is left of v.
+// A loop by hand: a `for` backwards over the pairs took 4 in a hundred more instructions to write AFFN.
 fn store_pairs(t: &[u8; 200], out: &mut [u8], at: usize, v: u64, n: usize) -> u32
     requires { (t.now ≡ pairs) × (n ≡ further 9 v) × (v < 4294967296) × (at + n ≤ length out.old) }
     ensures { Digits v n at out.old out.new result (n % 2) × (result < 100) }

@@ -1,4 +1,5 @@
-// How a line begins (01, "The written text"): a head, or a check line's head and value; and how far the writing has come after a group. Inner functions: the frame is a sound one, and places are far from the largest number.
+// How a line begins (01, "The written text"): a head, or a check line's head and value; and how far the writing has come after a group.
+// Inner functions: the frame is a sound one, and places are far from the largest number.
 #![tactic(auto)]
 
 ghost use Rattle.std.specs.Prelude.{◌≡◌, ◌+◌, ◌^◌, ◌≤◌, ◌<◌, length};

@@ -33,4 +33,5 @@ returns-then-size-rest c =
 pub returns : goal.returns
 returns c =
     rw c.length_at-size.ensures.0
-    (sym (record_file _ _ _ c.if-len-at.false c.if-left-eq0.false c.if-rest-lt5.false c.if-s-at-ne-FIRST_MARK.false c.if-s-at-ne-SECOND_MARK.false (rw c.length_at-size.ensures.0 at c.if-size-rest.false)))
+    (sym (record_file _ _ _ c.if-len-at.false c.if-left-eq0.false c.if-rest-lt5.false c.if-s-at-ne-FIRST_MARK.false c.if-s-at-ne-SECOND_MARK.false
+    (rw c.length_at-size.ensures.0 at c.if-size-rest.false)))
