@@ -1,5 +1,4 @@
 -- `host_text::lastarunc_text_length` meets its contract: what `text_length` says of each number's form is told, and -1 for a number that is no form's.
-use Rattle.std.specs.Prelude.{Some, None}
 use mathlib.Core.Path.{sym, ap, ◌∙◌}
 use mir.Facts.{to_z-of_z}
 use Rattle.table_text.specs.Answers.{told}

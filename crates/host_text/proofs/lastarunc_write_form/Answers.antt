@@ -1,5 +1,4 @@
 -- `host_text::lastarunc_write_form` meets its contract: each number's form, and -1 for a number that is no form's.
-use Rattle.std.specs.Prelude.{Some, None}
 use mir.Facts.{to_z-of_z}
 use Rattle.host_text.proofs.Tellings.{no_form_told, outcome_as}
 use Rattle.host_text.proofs.lastarunc_write_form.Goals as goal
