@@ -15,7 +15,7 @@ use Rattle.compound_names.specs.OwnNames.{own_clash, Skips, Scanned, scan_begin,
 use Rattle.compound_walk.specs.Walks as walks
 use Rattle.compound_walk.specs.Walks.{fault, closes, gained, Walks, Sofar}
 use Rattle.terms.specs.declared.Fault.{Fault}
-use Rattle.compound_walk.specs.declared.Closing.{Closing}
+use Rattle.compound_walk.specs.declared.Closed.{Closed}
 use Rattle.label_spec.specs.Parts.{span_of}
 
 -- The level that the code's places, names and words stand for.
@@ -43,7 +43,7 @@ pub record Ends (s : List ℕ) (m e left x q : ℕ) (o : Own) (n : ℕ) : Type 0
   pub few : n + e ≤ x
 
 -- What the walk over a block ensures.
-abbrev pub Closes : List ℕ → ℕ → ℕ → ℕ → Result Closing Fault → Type 0
+abbrev pub Closes : List ℕ → ℕ → ℕ → ℕ → Result Closed Fault → Type 0
 Closes s m e left (Ok y) = Ends s m e left y.end y.last y.own y.count
 Closes s m e left (Err r) = Walks s m e left (fault r.number r.place)
 

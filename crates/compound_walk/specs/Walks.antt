@@ -16,7 +16,6 @@ use Rattle.label_spec.specs.File.{twice}
 use Rattle.label_spec.specs.Records.{mark_of}
 use Rattle.compound_spec.specs.declared.Block.{Block}
 use Rattle.compound_spec.specs.Blocks.{Level, fresh, noted, deepest, Survey, refused, push, block_of, closed, tested, turn, nested, within_title}
-use Rattle.compound_walk.specs.declared.Closing.{Closing}
 use Rattle.label_spec.specs.Parts.{edges_with}
 
 -- What the walk over a block answers: the first fault; or the block as it is at its END, END's `##` and `=`, and the data blocks within it.

@@ -15,7 +15,7 @@ use terms::{Fault, Reason};
 
 // Where the walk over a block ends, at its END: the places of its `##` and `=`, what the block's own labels said, and how many data blocks stand in it.
 #[derive(Clone, Copy)]
-pub struct Closing {
+pub struct Closed {
     pub end: usize,
     pub last: usize,
     pub own: Own,
@@ -43,7 +43,7 @@ pub fn count_more(link: bool, before: usize, within: usize) -> usize
 
 // The walk over the labels of a block from after its TITLE's `=`, up to its END or to the first of 20, 22, 23, 24, 33.
 // "Each inner block may hold blocks of its own": the walk calls itself at an inner TITLE, and the depth left falls at each call.
-pub fn walk_block(s: &[u8], title: usize, eq: usize, left: usize) -> Result<Closing, Fault>
+pub fn walk_block(s: &[u8], title: usize, eq: usize, left: usize) -> Result<Closed, Fault>
     requires { (eq < length s.now) × (left < 8) }
     ensures { Closes s.now title eq left result }
 {
@@ -70,7 +70,7 @@ pub fn walk_block(s: &[u8], title: usize, eq: usize, left: usize) -> Result<Clos
             } => {
                 let next = e + 1;
                 if is_end(s, name, e) {
-                    return Ok(Closing {
+                    return Ok(Closed {
                         end: mark,
                         last: e,
                         own,

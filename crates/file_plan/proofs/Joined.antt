@@ -25,7 +25,7 @@ use Rattle.file_write_law.specs.Lengths.{ScalesFit, scales_fit}
 use Rattle.file_given.specs.Taking.{given_of, from_firstx, figures_for}
 use Rattle.file_pieces.specs.Decimals.{power_text, text_of, Writable}
 use Rattle.file_plan.specs.Stages.{laid_out, body_of, Scaled, in_frame, from_numbers}
-use Rattle.std.specs.Prelude.{Some, None, Ok, Err}
+use Rattle.std.specs.Prelude.{Some, None, Result, Ok, Err}
 
 -- ---- one decimal
 
@@ -105,7 +105,7 @@ module _ (c : Scales) (n : ℕ) where
   pub figures_all : {m : Numbers} → Ok m ≡ figures_for c n → (scales_legal c ≡ true) × (m ≡ numbers c n)
   figures_all {m} e = go (scales_legal c) (e ∙ figures_are)
     where
-      go : (t : Bool) → Ok m ≡ pick t (Ok (numbers c n)) (Err 0) → (t ≡ true) × (m ≡ numbers c n)
+      go : (t : Bool) → ◌≡◌ {A = Result Numbers ℕ} (Ok m) (pick t (Ok (numbers c n)) (Err 0)) → (t ≡ true) × (m ≡ numbers c n)
       go true h = (refl, cc)
       go false h = zero_one cc
 

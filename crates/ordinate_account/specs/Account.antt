@@ -1,5 +1,5 @@
 -- What the report says of ordinates that come to this (02, T-11). Assumes nothing.
-use Rattle.std.specs.Prelude.{ℕ, ◌-◌, ◌*◌, eqb, Option, Some, None}
+use Rattle.std.specs.Prelude.{ℕ, ◌-◌, ◌*◌, eqb, Option, Some, None, ℤ}
 use Rattle.std.proofs.Math.IntN.{sub_ℕ}
 use Rattle.terms.specs.Logic.{pick}
 use Rattle.night_spec.specs.declared.Account.{Account}

@@ -19,7 +19,6 @@ use Rattle.table_write_law.proofs.ReadBack.{always_written, wrote_most, wrote_ce
 use Rattle.table_text.specs.Answers.{told, refused, Answered}
 use Rattle.table_write.specs.Room.{enough, Measured}
 use Rattle.table_room.specs.Room.{ceiling, ByRoom, refuses, writes}
-use Rattle.decimal_spec.specs.declared.Number.{Number}
 
 -- ---- by room, whatever is written
 

@@ -52,35 +52,35 @@ walk_block-requires t c =
     let x = rw c.in-At.is at c.next_label.ensures in
     (omega (arith, c.requires, c.decreases, c.if-left-eq0.false), (omega (arith, x.good), omega (arith, c.requires.1)))
 
-pub returns-in_err-inner : goal.returns-in_err-inner
-returns-in_err-inner t c =
+pub returns-in_err-inner-in-At : goal.returns-in_err-inner-in-At
+returns-in_err-inner-in-At t c =
     let p = err_from_is_err_and c.from_residual.result c.from_residual.ensures.1 in rw (p.1, p.2)
     (block_fault _ _ _ _ _ _ _ c.loop-mark.invariant _ _ _ (rw c.in-At.is at c.next_label.ensures) (sym c.is_end.ensures ∙
-    c.if-is_end.false) (sym c.is_title.ensures ∙ c.if-is_title.true) (not-false _ c.if-not-own.false) _ (omega (arith, c.if-left-eq0.false)) _ c.in_err-inner.ensures)
+    c.if-is_end.false) (sym c.is_title.ensures ∙ c.if-is_title.true) (not-false _ c.if-not-own.false) _ (omega (arith, c.if-left-eq0.false)) _ c.in_err-inner-in-At.ensures)
 
 pub count_more-count-requires : goal.count_more-count-requires
 count_more-count-requires t c =
-    let w = c.in_ok-inner.ensures in
+    let w = c.in_ok-inner-in-At.ensures in
     let x = rw c.in-At.is at c.next_label.ensures in
     let k = c.well_formed in
     omega (arith, k, w.few, w.mid, w.high, x.good, c.loop-mark.invariant.few)
 
 pub overflow_add-at : goal.overflow_add-at
 overflow_add-at t c =
-    let w = c.in_ok-inner.ensures in
+    let w = c.in_ok-inner-in-At.ensures in
     let k = c.well_formed in
     omega (arith, k, w.high)
 
 pub loop-mark-smaller-then-is_title : goal.loop-mark-smaller-then-is_title
 loop-mark-smaller-then-is_title t c =
-    let w = c.in_ok-inner.ensures in
+    let w = c.in_ok-inner-in-At.ensures in
     let x = rw c.in-At.is at c.next_label.ensures in
     omega (arith, w.low, w.mid, w.high, x.good)
 
 pub loop-mark-preserved-then-is_title : goal.loop-mark-preserved-then-is_title
 loop-mark-preserved-then-is_title t c =
     block_inner _ _ _ _ _ _ _ c.loop-mark.invariant _ _ _ (rw c.in-At.is at c.next_label.ensures) (sym c.is_end.ensures ∙
-    c.if-is_end.false) (sym c.is_title.ensures ∙ c.if-is_title.true) (not-false _ c.if-not-own.false) _ (omega (arith, c.if-left-eq0.false)) _ _ _ _ _ c.count_more-count.ensures (c.in_ok-inner.ensures)
+    c.if-is_end.false) (sym c.is_title.ensures ∙ c.if-is_title.true) (not-false _ c.if-not-own.false) _ (omega (arith, c.if-left-eq0.false)) _ _ _ _ _ c.count_more-count.ensures (c.in_ok-inner-in-At.ensures)
 
 pub own_clash-requires : goal.own_clash-requires
 own_clash-requires t c =

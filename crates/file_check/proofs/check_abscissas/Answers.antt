@@ -24,7 +24,7 @@ pub whole_of-first-requires : goal.whole_of-first-requires
 whole_of-first-requires c = rw c.in-Some.is at c.ratio_of-f.ensures.1
 
 pub whole_of-last-requires : goal.whole_of-last-requires
-whole_of-last-requires c = rw c.in-Some-2.is at c.ratio_of-l.ensures.1
+whole_of-last-requires c = rw c.in-Some-rounded.is at c.ratio_of-l.ensures.1
 
 pub check_body-requires : goal.check_body-requires
 check_body-requires c =
@@ -40,15 +40,15 @@ returns-in_default c =
     let beyond = rounded_is c.ratio_of-f.ensures.0 c.in_default.is in
     stage_refused (ap Err c.new.ensures) (rw c.mark_in.ensures (first_beyond file room a.x a.n a.start quotient beyond))
 
-pub returns-in_default-2 : goal.returns-in_default-2
-returns-in_default-2 c =
+pub returns-in_default-rounded : goal.returns-in_default-rounded
+returns-in_default-rounded c =
     let file : List ℕ = c.args.file.now in
     let room : ℕ = c.args.room in
     let quotient : Option Whole = (ratio 3 c.args.n.firstx c.args.n.xfactor).rounded in
     let a = c.args in
     let is = rounded_is c.ratio_of-f.ensures.0 c.in-Some.is in
-    let beyond = rounded_is c.ratio_of-l.ensures.0 c.in_default-2.is in
-    stage_refused (ap Err c.new-in_default-2.ensures) (rw c.mark_in-in_default-2.ensures (last_beyond file room a.x a.n a.start quotient _ _ is beyond))
+    let beyond = rounded_is c.ratio_of-l.ensures.0 c.in_default-rounded.is in
+    stage_refused (ap Err c.new-in_default-rounded.ensures) (rw c.mark_in-in_default-rounded.ensures (last_beyond file room a.x a.n a.start quotient _ _ is beyond))
 
 pub returns : goal.returns
 returns c =
@@ -57,7 +57,7 @@ returns c =
     let quotient : Option Whole = (ratio 3 c.args.n.firstx c.args.n.xfactor).rounded in
     let a = c.args in
     let is_first = rounded_is c.ratio_of-f.ensures.0 c.in-Some.is in
-    let is_last = rounded_is c.ratio_of-l.ensures.0 c.in-Some-2.is in
+    let is_last = rounded_is c.ratio_of-l.ensures.0 c.in-Some-rounded.is in
     stage_same refl (both_whole file room a.x a.n a.start quotient _ _ _ _ is_first is_last)
     (rw (to_z-of_z (sfits_of {w = w64} c.whole_of-first.type_inv), to_z-of_z (sfits_of {w = w64} c.whole_of-last.type_inv), c.whole_of-first.ensures, c.whole_of-last.ensures)
     at c.check_body.ensures)
