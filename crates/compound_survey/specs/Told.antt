@@ -17,6 +17,7 @@ use Rattle.compound_walk.specs.Turns.{level_of, counted, Closes}
 use Rattle.label_spec.specs.Parts.{edges_with}
 use Rattle.compound_walk.specs.Parts.{closing_with}
 use Rattle.compound_spec.specs.Parts.{surveyed_with}
+use Rattle.compound_spec.specs.declared.Surveyed.{Surveyed}
 
 -- The outermost block's own words.
 abbrev pub own_of : Level → Own

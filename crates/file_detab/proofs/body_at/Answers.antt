@@ -7,8 +7,8 @@ use native.Mathlib.Omega.{arith}
 use Rattle.file_detab.proofs.Bodies.{unlisted, body_listed}
 use Rattle.file_detab.proofs.body_at.Goals as goal
 
-pub overflow_add-from : goal.overflow_add-from
-overflow_add-from c =
+pub overflow_add-result : goal.overflow_add-result
+overflow_add-result c =
     let w = c.requires.xydata in
     let h = c.in_ok-start.ensures.1 in
     omega (arith, h, w.low, w.high)

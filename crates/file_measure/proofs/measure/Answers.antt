@@ -11,8 +11,8 @@ use Rattle.file_lay.proofs.LaySteps.{body_bound, table_measured, length_whole}
 use Rattle.file_measure.proofs.measure.Goals as goal
 use Rattle.std.specs.Prelude.{Ok}
 
-pub overflow_add-head : goal.overflow_add-head
-overflow_add-head c =
+pub overflow_add-result : goal.overflow_add-result
+overflow_add-result c =
     let table_at : c.text_length.result ≡ Ok (length (body_of c.args.first c.args.last c.args.n.npoints c.args.ordinates.now)) = let a = c.args in
     table_measured a.first a.last a.n.npoints a.ordinates.now c.requires.2
     (rw (to_z-of_z c.ranges.first, to_z-of_z c.ranges.last) at c.text_length.ensures) in
@@ -21,8 +21,8 @@ overflow_add-head c =
     let most = body_bound a.first a.last a.n.npoints a.ordinates.now c.requires.2 in
     omega (arith, c.heading_length-head.ensures.1, length_at)
 
-pub overflow_add-head-2 : goal.overflow_add-head-2
-overflow_add-head-2 c =
+pub overflow_add-result-2 : goal.overflow_add-result-2
+overflow_add-result-2 c =
     let table_at : c.text_length.result ≡ Ok (length (body_of c.args.first c.args.last c.args.n.npoints c.args.ordinates.now)) = let a = c.args in
     table_measured a.first a.last a.n.npoints a.ordinates.now c.requires.2
     (rw (to_z-of_z c.ranges.first, to_z-of_z c.ranges.last) at c.text_length.ensures) in

@@ -13,8 +13,8 @@ returns-then-past_space-part c =
 pub returns-in_err-count : goal.returns-in_err-count
 returns-in_err-count c = rw c.from_residual.ensures (count_no _ _ c.past_space-at.ensures.is c.in_err-count.ensures.says, tt)
 
-pub returns-else-past_space-part : goal.returns-else-past_space-part
-returns-else-past_space-part c =
+pub returns : goal.returns
+returns c =
     let said = c.in_ok-count.ensures.says in
     let good = c.in_ok-count.ensures.good in
     (count_is _ _ c.past_space-at.ensures.is _ _ said _ c.past_space.ensures.is c.if-past_space-part.false, good.0)

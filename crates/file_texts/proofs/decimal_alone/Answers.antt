@@ -13,8 +13,8 @@ returns-then-past_space-part c =
 pub returns-in_err-number : goal.returns-in_err-number
 returns-in_err-number c = rw c.from_residual.ensures (decimal_no _ _ c.past_space-at.ensures.is c.in_err-number.ensures.says, tt)
 
-pub returns-else-past_space-part : goal.returns-else-past_space-part
-returns-else-past_space-part c =
+pub returns : goal.returns
+returns c =
     let said = c.in_ok-number.ensures.says in
     let good = c.in_ok-number.ensures.good in
     (decimal_is _ _ c.past_space-at.ensures.is _ _ _ _ said _ c.past_space.ensures.is c.if-past_space-part.false, record { mantissa = good.0; power = good.1 })

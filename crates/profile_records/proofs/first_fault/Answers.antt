@@ -1,4 +1,5 @@
 -- `profile_records::first_fault` meets its contract: a fault of the records before stands, else what the next one says counts.
+use mathlib.Core.Path.{refl}
 use Rattle.std.proofs.lemmas.Result.{err_from_is_err_and}
 use Rattle.profile_records.specs.Post.{after}
 use Rattle.profile_records.proofs.first_fault.Goals as goal

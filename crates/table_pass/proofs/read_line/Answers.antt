@@ -30,7 +30,7 @@ returns-then-not-passes c =
     let unit : ℕ = c.in-Some.top.unit in
     let topped : Topped c.args.s.now c.args.at abscissa unit c.in-Some.top.at = rw c.in-Some.is at c.head.ensures in
     let fails = sym (rw c.index_of.ensures at c.passes.ensures) ∙ c.if-not-passes.true in
-    rw c.new.ensures (line_six frame _ row _ topped fails [] [])
+    rw c.new-then-not-passes.ensures (line_six frame _ row _ topped fails [] [])
 
 pub bare_line-requires : goal.bare_line-requires
 bare_line-requires c =
