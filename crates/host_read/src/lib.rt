@@ -57,19 +57,28 @@ pub fn tell_block(read: Option<Result<FileTable, Refusal>>, answer: &mut [u64; 1
     }
 }
 
+// Where the text of a record stands, or that there is none, after the four numbers of a refusal.
+fn tell_place(place: Option<Span>, answer: &mut [u64; 6]) -> u64
+    ensures { Told (record_numbers (Ok place)) answer.new result }
+{
+    match place {
+        Some(x) => {
+            *answer = [0, 0, 0, 0, x.from as u64, x.to as u64];
+            0
+        }
+        None => {
+            *answer = [ABSENT, 0, 0, 0, 0, 0];
+            ABSENT
+        }
+    }
+}
+
 // A record looked for: refused, place, line, column, from, to.
 pub fn tell_record(found: Result<Option<Span>, Refusal>, answer: &mut [u64; 6]) -> u64
     ensures { Told (record_numbers found) answer.new result }
 {
     match found {
-        Ok(Some(Span { from: a, to: b })) => {
-            *answer = [0, 0, 0, 0, a as u64, b as u64];
-            0
-        }
-        Ok(None) => {
-            *answer = [ABSENT, 0, 0, 0, 0, 0];
-            ABSENT
-        }
+        Ok(place) => tell_place(place, answer),
         Err(r) => {
             *answer = [
                 r.number,
@@ -82,6 +91,17 @@ pub fn tell_record(found: Result<Option<Span>, Refusal>, answer: &mut [u64; 6]) 
             r.number
         }
     }
+}
+
+// Whether a file is compound, and how many data blocks it has, after the four numbers of a refusal.
+fn tell_count(blocks: Blocks, answer: &mut [u64; 6]) -> u64
+    ensures { Told (blocks_numbers (Ok blocks)) answer.new result }
+{
+    *answer = match blocks {
+        Blocks::One => [0, 0, 0, 0, 0, 1],
+        Blocks::Compound(n) => [0, 0, 0, 0, 1, n as u64],
+    };
+    0
 }
 
 // The data blocks of a file: refused, place, line, column, compound, blocks.
@@ -100,13 +120,6 @@ pub fn tell_blocks(found: Result<Blocks, Refusal>, answer: &mut [u64; 6]) -> u64
             ];
             r.number
         }
-        Ok(Blocks::One) => {
-            *answer = [0, 0, 0, 0, 0, 1];
-            0
-        }
-        Ok(Blocks::Compound(n)) => {
-            *answer = [0, 0, 0, 0, 1, n as u64];
-            0
-        }
+        Ok(blocks) => tell_count(blocks, answer),
     }
 }

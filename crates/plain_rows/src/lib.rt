@@ -30,13 +30,13 @@ pub struct Front {
 // ---- 1. its row is checked
 
 // The fault of a row, if its head passes: else 6, at the head.
-fn refused(passes: bool, at: usize, fault: Fault) -> Fault
-    ensures { Err result ≡ after_head passes at fault.number fault.place }
+fn refused(passes: bool, at: usize, fault: Fault) -> Result<Row, Fault>
+    ensures { result ≡ after_head passes at fault.number fault.place }
 {
     if passes {
-        return fault;
+        return Err(fault);
     }
-    Fault::new(Reason::WrongHead, at)
+    Err(Fault::new(Reason::WrongHead, at))
 }
 
 // What a line did, by the check of its head and the rest of its row.
@@ -44,7 +44,7 @@ fn checked(passes: bool, at: usize, rest: Result<(Grows, usize), Fault>) -> Resu
     ensures { result ≡ after_rest passes at rest }
 {
     match rest {
-        Err(fault) => Err(refused(passes, at, fault)),
+        Err(fault) => refused(passes, at, fault),
         Ok((g, next)) => {
             if !passes {
                 return Err(Fault::new(Reason::WrongHead, at));
@@ -84,7 +84,7 @@ fn check_row(s: &[u8], fr: Frame, out: &mut [i32], r: Row, f: Front) -> Result<R
     let start = row_from(f, r.k);
     let rest = expand(s, fr.points, out, start);
     if f.p.last != r.q {
-        return Err(refused(f.passes, f.at, Fault::new(Reason::CheckFailed, f.a)));
+        return refused(f.passes, f.at, Fault::new(Reason::CheckFailed, f.a));
     }
     checked(f.passes, f.at, rest)
 }
@@ -96,7 +96,7 @@ fn new_row(s: &[u8], fr: Frame, out: &mut [i32], r: Row, f: Front) -> Result<Row
 {
     let k = r.k;
     if k >= fr.points {
-        return Err(refused(f.passes, f.at, Fault::new(Reason::TooMany, f.a)));
+        return refused(f.passes, f.at, Fault::new(Reason::TooMany, f.a));
     }
     put(out, k, f.p.last);
     let next = k + 1;
@@ -125,8 +125,8 @@ pub fn plain_line(
         Some(top) => {
             let passes = fr.passes(top.abscissa, top.unit, index_of(dif, k));
             match next_value(s, top.at, 0, Form::Dup(false)) {
-                Ok(Next::End(_)) => Err(refused(passes, at, Fault::new(Reason::BareHead, at))),
-                Err(fault) => Err(refused(passes, at, fault)),
+                Ok(Next::End(_)) => refused(passes, at, Fault::new(Reason::BareHead, at)),
+                Err(fault) => refused(passes, at, fault),
                 Ok(Next::Gives(p, a, b)) => {
                     let f = Front {
                         at,

@@ -15,8 +15,7 @@ judged_in s x ws =
 -- what some records say before others
 unfoldable pub after : Result ⊤ Unfit → Result ⊤ Unfit → Result ⊤ Unfit
 after (Ok tt) r = r
-after (Err Unfit.Lacking) r = Err Unfit.Lacking
-after (Err (Unfit.Unlisted q a)) r = Err (Unfit.Unlisted q a)
+after (Err w) r = Err w
 
 -- what the fifteen records say, and the numbers that show them where nothing is wrong
 pub record Surveys (s : List ℕ) (start stop : ℕ) (p : List ℕ) (places : List ℕ) (r : Result ⊤ Unfit) : Type 0 where

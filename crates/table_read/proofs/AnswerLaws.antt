@@ -12,7 +12,7 @@ use borrow.Author.Tests.{le-leb, lt-leb, lt-ltb, le-ltb, leb-true, leb-false, lt
 use Rattle.terms.specs.Refusals.{fault_at, refusal_in}
 use Rattle.terms.specs.declared.Fault.{Fault}
 use Rattle.terms.specs.declared.Refusal.{Refusal}
-use Rattle.terms.specs.Logic.{pick, both, by_case, zero_one}
+use Rattle.terms.specs.Logic.{pick, both, by_case, zero_one, err_same}
 use Rattle.table_spec.specs.Frame.{Rules, frame_legal, longest_body, entry_for}
 use Rattle.table_spec.specs.Reading.{Answer, refuse, accept, read_lines, LongLine, all_short, long_at, long_line, sooner, read, read_table, stored}
 use Rattle.frame.specs.declared.Frame.{Frame}
@@ -25,7 +25,7 @@ use Rattle.std.specs.Prelude.{Result, Ok, Err, ⊤}
 -- ---- what a pass answered
 
 pub pass_refused : (x : Answer) {c a : ℕ} → Err (fault_at c a) ≡ passed_of x → x ≡ refuse c a
-pass_refused (refuse c a) e = cc
+pass_refused (refuse d b) e = let z = err_same e in rw (ap (λ f. f.number) z, ap (λ f. f.place) z) refl
 pass_refused (accept ys) e = zero_one cc
 
 pub pass_all : (x : Answer) → Ok tt ≡ passed_of x → (ys : List ℕ) × (x ≡ accept ys)

@@ -20,6 +20,6 @@ returns-in-Err-judge_whole c =
     found_fault _ _ _ _ _ (rw c.in-Ok.is at c.survey.ensures) _ (rw c.in-Err-judge_whole.is at c.judge_whole.ensures)
     _ c.refusal_in-in-Err-judge_whole.ensures
 
-pub returns-in-Ok : goal.returns-in-Ok
-returns-in-Ok c =
+pub returns-in-Ok-judge_whole : goal.returns-in-Ok-judge_whole
+returns-in-Ok-judge_whole c =
     found_whole _ _ _ _ _ (rw c.in-Ok.is at c.survey.ensures) _ (rw c.in-Ok-judge_whole.is at c.judge_whole.ensures) _ c.store_fitting.ensures

@@ -19,9 +19,9 @@ pub returns : goal.returns
 returns c =
     let a = c.args in
     let one = sym c.count_in.ensures.0 ∙ c.in-Some.is in
-    let two = sym c.decimal_in.ensures.0 ∙ c.in-Some.is in
+    let two = sym c.decimal_in.ensures.0 ∙ c.in-Some-decimal_in.is in
     let many = rw c.in-Some.is at c.count_in.ensures.1 in
-    let small = rw c.in-Some.is at c.decimal_in.ensures.1 in
+    let small = rw c.in-Some-decimal_in.is at c.decimal_in.ensures.1 in
     let p = c.requires in
     let all = all_right a.file.now a.x a.xfactor a.yfactor a.firstx a.lastx one two in
     (all, record { xfactor = p.0.xfactor; yfactor = p.0.yfactor; firstx = p.1; lastx = p.2; npoints = many; firsty = small })

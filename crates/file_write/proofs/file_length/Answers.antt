@@ -16,7 +16,7 @@ pub measure-requires : goal.measure-requires
 measure-requires c =
     let plan_at : let a = c.args in Planning (write_file a.title.now a.points a.scales a.ordinates.now) (file_exact a.scales a.points a.ordinates.now) a.title.now a.ordinates.now c.in_ok-p.p = c.in_ok-p.ensures in
     let p = c.in_ok-p.p in let g = plan_at in
-    (g.titled, g.writable, rw (to_z-of_z {z = p.first} (sfits_of {w = w64} c.struct_told-1.given.1.0.1), to_z-of_z {z = p.last} (sfits_of {w = w64} c.struct_told-2.given.1.1.0.1)) g.framed)
+    (g.titled, g.writable, rw (to_z-of_z {z = p.first} (sfits_of {w = w64} c.struct_told-1.given.1.0.1), to_z-of_z {z = p.last} (sfits_of {w = w64} c.struct_told-2-1.given.1.1.0.1)) g.framed)
 
 pub returns-in_err-p : goal.returns-in_err-p
 returns-in_err-p c =
@@ -29,4 +29,4 @@ returns c =
     let plan_at : let a = c.args in Planning (write_file a.title.now a.points a.scales a.ordinates.now) (file_exact a.scales a.points a.ordinates.now) a.title.now a.ordinates.now c.in_ok-p.p = c.in_ok-p.ensures in
     let a = c.args in let p = c.in_ok-p.p in
     measured_laid a.title.now a.points a.scales a.ordinates.now plan_at
-    (rw (to_z-of_z {z = p.first} (sfits_of {w = w64} c.struct_told-1.given.1.0.1), to_z-of_z {z = p.last} (sfits_of {w = w64} c.struct_told-2.given.1.1.0.1)) at c.measure.ensures)
+    (rw (to_z-of_z {z = p.first} (sfits_of {w = w64} c.struct_told-1.given.1.0.1), to_z-of_z {z = p.last} (sfits_of {w = w64} c.struct_told-2-1.given.1.1.0.1)) at c.measure.ensures)

@@ -39,7 +39,7 @@ check_row-requires c =
     let row : Row = c.args.r in
     let passing : let f = frame in let r = row in c.passes-passes.result ≡ passes f.first f.last f.points abscissa unit (index r.dif r.k) = rw c.index_of.ensures at c.passes-passes.ensures in
     let p = c.requires in
-    (p.0, p.1, record { abscissa = _; unit = _; values = _; head = topped; passing = passing; first = rw c.in-Gives.is at c.next_value.ensures }, c.if-dif.true)
+    (p.0, p.1, record { abscissa = _; unit = _; values = _; head = topped; passing = passing; first = rw (c.in-Ok-Gives.is, c.in-Ok-Gives.field-0-is) at c.next_value.ensures }, c.if-dif.true)
 
 pub new_row-requires : goal.new_row-requires
 new_row-requires c =
@@ -50,7 +50,7 @@ new_row-requires c =
     let row : Row = c.args.r in
     let passing : let f = frame in let r = row in c.passes-passes.result ≡ passes f.first f.last f.points abscissa unit (index r.dif r.k) = rw c.index_of.ensures at c.passes-passes.ensures in
     let p = c.requires in
-    (p.0, p.1, record { abscissa = _; unit = _; values = _; head = topped; passing = passing; first = rw c.in-Gives.is at c.next_value.ensures }, c.if-dif.false)
+    (p.0, p.1, record { abscissa = _; unit = _; values = _; head = topped; passing = passing; first = rw (c.in-Ok-Gives.is, c.in-Ok-Gives.field-0-is) at c.next_value.ensures }, c.if-dif.false)
 
 pub returns-in-None : goal.returns-in-None
 returns-in-None c =
@@ -58,15 +58,15 @@ returns-in-None c =
     let row : Row = c.args.r in
     rw c.new.ensures (line_four frame _ row _ (rw c.in-None.is at c.head.ensures) [] [])
 
-pub returns-in-End : goal.returns-in-End
-returns-in-End c =
+pub returns-in-Ok-End : goal.returns-in-Ok-End
+returns-in-Ok-End c =
     let frame : Frame = c.args.fr in
     let row : Row = c.args.r in
     let abscissa : ℕ = c.in-Some.top.abscissa in
     let unit : ℕ = c.in-Some.top.unit in
     let topped : Topped c.args.s.now c.args.at abscissa unit c.in-Some.top.at = rw c.in-Some.is at c.head.ensures in
     let passing : let f = frame in let r = row in c.passes-passes.result ≡ passes f.first f.last f.points abscissa unit (index r.dif r.k) = rw c.index_of.ensures at c.passes-passes.ensures in
-    rw (c.refused.ensures, c.new-in-End.ensures) (bare_line frame _ row _ topped c.requires.1.few (rw c.in-End.is at c.next_value.ensures) _ passing _ _)
+    rw (c.refused.ensures, c.new-in-Ok-End.ensures) (bare_line frame _ row _ topped c.requires.1.few (rw (c.in-Ok-End.is, c.in-Ok-End.field-0-is) at c.next_value.ensures) _ passing _ _)
 
 pub returns-in-Err : goal.returns-in-Err
 returns-in-Err c =
