@@ -2,8 +2,8 @@
 use Rattle.night_report.proofs.WalkLaws.{Walked}
 use Rattle.night_report.proofs.whole_night.Given as goal
 
-abbrev pub invariant-loop-why : goal.invariant-loop-why
-invariant-loop-why l = Walked l.spool l.initial.out l.at l.left l.totals l.out
+abbrev pub invariant-loop-from : goal.invariant-loop-from
+invariant-loop-from l = Walked l.spool l.initial.out l.at l.left l.totals l.out
 
-abbrev pub decreases-loop-why : goal.decreases-loop-why
-decreases-loop-why l = l.left
+abbrev pub decreases-loop-from : goal.decreases-loop-from
+decreases-loop-from l = l.left
