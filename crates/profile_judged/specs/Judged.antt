@@ -8,11 +8,15 @@ use Rattle.profile_spec.specs.declared.Unfit.{Unfit}
 use Rattle.profile_judged.specs.declared.PageFault.{PageFault}
 use Rattle.profile_judged.specs.Parts.{page_fault}
 
+-- the fault of records that are unfit: 30 stands at END's `##`, 31 at its word
+abbrev pub unfit_fault : ℕ → Unfit → PageFault
+unfit_fault end Unfit.Lacking = page_fault false (fault_at 30 end)
+unfit_fault end (Unfit.Unlisted q a) = page_fault q (fault_at 31 a)
+
 -- what the fifteen records say of a file whose table was checked
 abbrev pub checked_by : ℕ → TablePlace → Result ⊤ Unfit → Result TablePlace PageFault
 checked_by end k (Ok tt) = Ok k
-checked_by end k (Err Unfit.Lacking) = Err (page_fault false (fault_at 30 end))
-checked_by end k (Err (Unfit.Unlisted q a)) = Err (page_fault q (fault_at 31 a))
+checked_by end k (Err w) = Err (unfit_fault end w)
 
 pub record ChecksRecords (s : List ℕ) (start end : ℕ) (p : List ℕ) (k : TablePlace) (places : List ℕ) (r : Result TablePlace PageFault) : Type 0 where
   pub is : r ≡ checked_by end k (profiled s start end p)

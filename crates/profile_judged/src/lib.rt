@@ -2,9 +2,7 @@
 #![tactic(auto)]
 
 ghost use Rattle.std.specs.Prelude.{◌≡◌, ◌≤◌, length};
-ghost use Rattle.terms.specs.Refusals.{fault_at, reason_number};
-ghost use Rattle.profile_judged.specs.Judged.{ChecksRecords};
-ghost use Rattle.profile_judged.specs.Parts.{page_fault};
+ghost use Rattle.profile_judged.specs.Judged.{unfit_fault, ChecksRecords};
 
 use file_tabled::TablePlace;
 use profile_records::survey;
@@ -18,12 +16,20 @@ pub struct PageFault {
     pub fault: Fault,
 }
 
-// A fault.
-fn refused(page: bool, why: Reason, place: usize) -> Result<TablePlace, PageFault>
-    ensures { result ≡ Err (page_fault page (fault_at (reason_number why) place)) }
+// The fault of records that are unfit: 30 stands at END's `##`, 31 at its word.
+fn fault_of(unfit: Unfit, end: usize) -> PageFault
+    ensures { result ≡ unfit_fault end unfit }
 {
-    let fault = Fault::new(why, place);
-    Err(PageFault { page, fault })
+    match unfit {
+        Unfit::Lacking => PageFault {
+            page: false,
+            fault: Fault::new(Reason::NoProfileRecord, end),
+        },
+        Unfit::Unlisted { page, place } => PageFault {
+            page,
+            fault: Fault::new(Reason::UnlistedWord, place),
+        },
+    }
 }
 
 // The fifteen records of a file whose table was checked: 30, at END's `##`, then 31. Its own records stand from the place `start` up to `end`.
@@ -40,7 +46,6 @@ pub fn check_records(
 {
     match survey(file, start, end, page, places) {
         Ok(()) => Ok(k),
-        Err(Unfit::Lacking) => refused(false, Reason::NoProfileRecord, end),
-        Err(Unfit::Unlisted { page: q, place }) => refused(q, Reason::UnlistedWord, place),
+        Err(unfit) => Err(fault_of(unfit, end)),
     }
 }

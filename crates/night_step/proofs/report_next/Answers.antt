@@ -25,8 +25,8 @@ pub with_report-requires : goal.with_report-requires
 with_report-requires c =
     let h = legal_in _ (sym c.walk_legal.ensures ∙ c.if-not-walk_legal.false) in (wider h.0 h.1, told_in c.report_file-report.ensures)
 
-pub overflow_add-seen : goal.overflow_add-seen
-overflow_add-seen c = let h = legal_in _ (sym c.walk_legal.ensures ∙ c.if-not-walk_legal.false) in omega (arith, h.0)
+pub overflow_add-then : goal.overflow_add-then
+overflow_add-then c = let h = legal_in _ (sym c.walk_legal.ensures ∙ c.if-not-walk_legal.false) in omega (arith, h.0)
 
 pub returns-in-Ok-None : goal.returns-in-Ok-None
 returns-in-Ok-None c = next_over (sym c.walk_legal.ensures ∙ c.if-not-walk_legal.false) (sym (c.in-Ok-None.is ∙ ap Ok c.in-Ok-None.field-0-is) ∙ c.next_record.ensures)
@@ -36,7 +36,7 @@ returns-in-Err c = next_stopped (sym c.walk_legal.ensures ∙ c.if-not-walk_lega
 
 pub returns-in-Ok-Some : goal.returns-in-Ok-Some
 returns-in-Ok-Some c =
-    rw add-one _ (next_file (sym c.walk_legal.ensures ∙ c.if-not-walk_legal.false) (sym (c.in-Ok-Some.is ∙ ap Ok c.in-Ok-Some.field-0-is) ∙ c.next_record.ensures) c.report_file-report.ensures
+    rw (add-one _) (next_file (sym c.walk_legal.ensures ∙ c.if-not-walk_legal.false) (sym (c.in-Ok-Some.is ∙ ap Ok c.in-Ok-Some.field-0-is) ∙ c.next_record.ensures) c.report_file-report.ensures
     c.with_report.ensures)
 
 pub slice_bounds-report_file-count : goal.slice_bounds-report_file-count
