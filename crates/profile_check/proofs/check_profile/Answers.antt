@@ -27,6 +27,6 @@ pub returns-in-Err-check_part : goal.returns-in-Err-check_part
 returns-in-Err-check_part c =
     check_fault _ _ _ _ _ _ _ (sym c.labels.ensures.0 ∙ c.in-Ok.is) _ _ (rw c.in-Err-check_part.is at c.check_part.ensures)
 
-pub returns-in-Ok : goal.returns-in-Ok
-returns-in-Ok c =
-    check_records _ _ _ _ _ _ _ (sym c.labels.ensures.0 ∙ c.in-Ok.is) _ _ (rw c.in-Ok.is at c.check_part.ensures) _ c.check_records.ensures
+pub returns-in-Ok-check_part : goal.returns-in-Ok-check_part
+returns-in-Ok-check_part c =
+    check_records _ _ _ _ _ _ _ (sym c.labels.ensures.0 ∙ c.in-Ok.is) _ _ (rw c.in-Ok-check_part.is at c.check_part.ensures) _ c.check_records.ensures
