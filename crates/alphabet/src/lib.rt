@@ -12,7 +12,7 @@ pub use byte_entry::{
     BLANK, CR, DIF, DIF_MINUS, DOLLAR, KIND, LF, MINUS, MISSING, PAST_DIGITS, PLUS, POINT, entry_of,
 };
 
-// What stands at the end of the text: no byte has this entry.
+// What stands at the end of the text: no byte has this entry. Entries are numbers and no enum: `alphabet_spec` Entries, which may not change, defines `entry_at` by them.
 pub const END: u64 = 256;
 
 // A run of digits: its number, the place after it, and the byte that stands there, END at the end of the text.

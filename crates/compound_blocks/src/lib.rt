@@ -66,7 +66,7 @@ fn put_block(blocks: &mut [u64], i: usize, from: usize, to: usize, start: usize,
     blocks[i..i + 4].copy_from_slice(&[from as u64, to as u64, start as u64, end as u64]);
 }
 
-// Stores the first n data blocks of a file, whose outermost TITLE's `##` and `=` stand at these places.
+// Stores the first n data blocks of a file, whose outermost TITLE's `##` and `=` stand at these places. What is left is counted down by hand: only a turn that meets a data block counts.
 pub fn store_blocks(file: &[u8], blocks: &mut [u64], title: usize, eq: usize, n: usize)
     requires { (eq < length file.now) × (n * 4 ≤ length blocks.old) }
     ensures { blocks.new ≡ sets blocks.old 0 (entries file.now (flat file.now (from file.now (eq + 1) false) n (plain title eq))) }

@@ -22,12 +22,12 @@ fn judge_count(file: &[u8], x: Span, count: usize) -> Result<Blocks, Fault>
     ensures { result ≡ counted_by file.now x count }
 {
     match count_in(file, x) {
-        None => Err(Fault::new(Reason::WrongBlocks, mark_in(file, x))),
+        None => Err(Fault::of(Reason::WrongBlocks, mark_in(file, x))),
         Some(Count { value, end: _ }) => {
             if value == count as u64 {
                 return Ok(Blocks::Compound(count));
             }
-            Err(Fault::new(Reason::WrongBlocks, mark_in(file, x)))
+            Err(Fault::of(Reason::WrongBlocks, mark_in(file, x)))
         }
     }
 }
@@ -41,7 +41,7 @@ fn judge_whole(file: &[u8], end: usize, own: Own, count: usize) -> Result<Blocks
         return Ok(Blocks::One);
     }
     match own.blocks {
-        None => Err(Fault::new(Reason::NoRecord, end)),
+        None => Err(Fault::of(Reason::NoRecord, end)),
         Some(x) => judge_count(file, x, count),
     }
 }

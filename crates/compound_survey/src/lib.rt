@@ -16,7 +16,7 @@ pub fn survey(file: &[u8]) -> Result<Surveyed, Fault>
     ensures { Surveys file.now result }
 {
     if file.len() > LONGEST_FILE {
-        return Err(Fault::new(Reason::LongFile, 0));
+        return Err(Fault::of(Reason::LongFile, 0));
     }
     let title = open_title(file)?;
     let closing = walk_block(file, title.mark, title.eq, 7)?;

@@ -58,10 +58,10 @@ pub fn walk_block(s: &[u8], title: usize, eq: usize, left: usize) -> Result<Clos
     loop {
         match next_label(s, at) {
             Label::None => {
-                return Err(Fault::new(Reason::NoEnd, s.len()));
+                return Err(Fault::of(Reason::NoEnd, s.len()));
             }
             Label::Bad { mark } => {
-                return Err(Fault::new(Reason::BadLabel, mark));
+                return Err(Fault::of(Reason::BadLabel, mark));
             }
             Label::At {
                 mark,
@@ -79,22 +79,22 @@ pub fn walk_block(s: &[u8], title: usize, eq: usize, left: usize) -> Result<Clos
                 }
                 if is_title(s, name, e) {
                     if !own.link {
-                        return Err(Fault::new(Reason::StrayTitle, mark));
+                        return Err(Fault::of(Reason::StrayTitle, mark));
                     }
                     if left == 0 {
-                        return Err(Fault::new(Reason::StrayTitle, mark));
+                        return Err(Fault::of(Reason::StrayTitle, mark));
                     }
                     let inner = walk_block(s, mark, e, left - 1)?;
                     count = count_more(inner.own.link, count, inner.count);
                     at = inner.last + 1;
                 } else {
                     if own_clash(s, first, mark, name, e) {
-                        return Err(Fault::new(Reason::LabelTwice, mark));
+                        return Err(Fault::of(Reason::LabelTwice, mark));
                     }
                     let to = next_mark(s, next);
                     own = note(s, name, e, next, to, own);
                     if is_both(own.link, own.table) {
-                        return Err(Fault::new(Reason::TableInLink, mark));
+                        return Err(Fault::of(Reason::TableInLink, mark));
                     }
                     at = next;
                 }

@@ -47,7 +47,7 @@ pub fn check_body(
             let rounded = q.rounded;
             if !agree(y, rounded) {
                 let t = x.firsty;
-                return Err(Fault::new(Reason::WrongFirst, mark_in(file, t)));
+                return Err(Fault::of(Reason::WrongFirst, mark_in(file, t)));
             }
             let exact = exact_with(first_exact, last_exact, q.exact, y);
             Ok(TablePlace {

@@ -36,11 +36,11 @@ fn check_abscissas(
     let xfactor = n.xfactor;
     let f = ratio_of(3, firstx, xfactor);
     let Some(p) = f.rounded else {
-        return Err(Fault::new(Reason::FarAbscissa, mark_in(file, x.firstx)));
+        return Err(Fault::of(Reason::FarAbscissa, mark_in(file, x.firstx)));
     };
     let l = ratio_of(3, lastx, xfactor);
     let Some(q) = l.rounded else {
-        return Err(Fault::new(Reason::FarAbscissa, mark_in(file, x.lastx)));
+        return Err(Fault::of(Reason::FarAbscissa, mark_in(file, x.lastx)));
     };
     let first = whole_of(p.minus, p.size);
     let last = whole_of(q.minus, q.size);
@@ -53,11 +53,11 @@ fn check_records(file: &[u8], room: usize, x: Needed) -> Result<TablePlace, Faul
     ensures { StageChecks file.now room (body_at x (listed_in (text_in file.now x.xydata))) (by_figures file.now room x (figures_of file.now x)) result }
 {
     match figures(file, x) {
-        Err(a) => Err(Fault::new(Reason::BadNumber, a)),
+        Err(a) => Err(Fault::of(Reason::BadNumber, a)),
         Ok(n) => {
             let s = x.xydata;
             match list_in(file, s) {
-                None => Err(Fault::new(Reason::OtherForm, mark_in(file, s))),
+                None => Err(Fault::of(Reason::OtherForm, mark_in(file, s))),
                 Some(start) => check_abscissas(file, room, x, n, start),
             }
         }
@@ -71,7 +71,7 @@ pub fn check_part(file: &[u8], room: usize, start: usize, end: usize) -> Result<
         (by_records file.now room end (gathered_from file.now start end)) result }
 {
     match gather(file, start, end) {
-        None => Err(Fault::new(Reason::NoRecord, end)),
+        None => Err(Fault::of(Reason::NoRecord, end)),
         Some(x) => check_records(file, room, x),
     }
 }

@@ -42,12 +42,12 @@ pub fn lay(
     let head = heading_length(title, n);
     let len = text.len();
     if len < head + END_LINE {
-        return Err(Fault::new(Reason::NoFit, 0));
+        return Err(Fault::of(Reason::NoFit, 0));
     }
     let stop = len - END_LINE;
     let points = n.npoints as usize;
     match write_table(first, last, points, ordinates, &mut text[head..stop]) {
-        Err(_) => Err(Fault::new(Reason::NoFit, 0)),
+        Err(_) => Err(Fault::of(Reason::NoFit, 0)),
         Ok(k) => {
             put_heading(text, title, n);
             let at = head + k;

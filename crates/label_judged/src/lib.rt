@@ -31,14 +31,14 @@ pub fn next_judged(s: &[u8], at: usize) -> Judged
     ensures { Told s.now at result }
 {
     match next_label(s, at) {
-        Label::None => Judged::Done(Err(Fault::new(Reason::NoEnd, s.len()))),
-        Label::Bad { mark } => Judged::Done(Err(Fault::new(Reason::BadLabel, mark))),
+        Label::None => Judged::Done(Err(Fault::of(Reason::NoEnd, s.len()))),
+        Label::Bad { mark } => Judged::Done(Err(Fault::of(Reason::BadLabel, mark))),
         Label::At { mark, start, eq } => {
             if is_end(s, start, eq) {
                 return Judged::Done(Ok(Edges { mark, eq }));
             }
             if is_title(s, start, eq) {
-                return Judged::Done(Err(Fault::new(Reason::StrayTitle, mark)));
+                return Judged::Done(Err(Fault::of(Reason::StrayTitle, mark)));
             }
             if is_empty(s, start, eq) {
                 return Judged::Empty { eq };

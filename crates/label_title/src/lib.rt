@@ -18,13 +18,13 @@ fn title_here(s: &[u8], at: usize) -> Result<Edges, Fault>
     ensures { (result ≡ opened_at s.now at) × OpenIn s.now result }
 {
     match label_here(s, at) {
-        Label::None => Err(Fault::new(Reason::NoTitle, at)),
-        Label::Bad { mark: _ } => Err(Fault::new(Reason::NoTitle, at)),
+        Label::None => Err(Fault::of(Reason::NoTitle, at)),
+        Label::Bad { mark: _ } => Err(Fault::of(Reason::NoTitle, at)),
         Label::At { mark, start, eq } => {
             if is_title(s, start, eq) {
                 Ok(Edges { mark, eq })
             } else {
-                Err(Fault::new(Reason::NoTitle, at))
+                Err(Fault::of(Reason::NoTitle, at))
             }
         }
     }
@@ -36,10 +36,10 @@ pub fn open_title(file: &[u8]) -> Result<Edges, Fault>
 {
     let place = past_space(file, 0);
     if place >= file.len() {
-        return Err(Fault::new(Reason::NoTitle, place));
+        return Err(Fault::of(Reason::NoTitle, place));
     }
     if !is_hashed(file, place) {
-        return Err(Fault::new(Reason::NoTitle, place));
+        return Err(Fault::of(Reason::NoTitle, place));
     }
     title_here(file, place)
 }

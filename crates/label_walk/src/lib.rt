@@ -56,7 +56,7 @@ pub fn walk(part: &[u8], start: usize) -> Result<Edges, Fault>
             }
         }
     }
-    Err(Fault::new(Reason::LabelTwice, second))
+    Err(Fault::of(Reason::LabelTwice, second))
 }
 
 // What the labels of a file say: 19, 21, then 20, 22, 23, 24 in one walk; or the places of TITLE and END.
@@ -64,7 +64,7 @@ pub fn labels(file: &[u8]) -> Result<Places, Fault>
     ensures { (result ≡ labelled file.now) × LabelledIn file.now result }
 {
     if file.len() > LONGEST_FILE {
-        return Err(Fault::new(Reason::LongFile, 0));
+        return Err(Fault::of(Reason::LongFile, 0));
     }
     let title = open_title(file)?;
     let end = walk(file, title.eq + 1)?;

@@ -38,7 +38,7 @@ pub fn next_value(s: &[u8], from: usize, q: u64, form: Form) -> Result<Next, Fau
     if e >= POINT {
         return match line_end(s, at, e) {
             Some(j) => Ok(Next::End(j)),
-            None => Err(Fault::new(Reason::StrayByte, at)),
+            None => Err(Fault::of(Reason::StrayByte, at)),
         };
     }
     if e == MISSING {
@@ -47,9 +47,9 @@ pub fn next_value(s: &[u8], from: usize, q: u64, form: Form) -> Result<Next, Fau
         return Ok(Next::Gives(p, at, next));
     }
     match number(s, at, e) {
-        None => Err(Fault::new(Reason::Misspelled, at)),
+        None => Err(Fault::of(Reason::Misspelled, at)),
         Some((v, j)) => match stands_for(q, form, e, v) {
-            Err(why) => Err(Fault::new(why, at)),
+            Err(why) => Err(Fault::of(why, at)),
             Ok(p) => Ok(Next::Gives(p, at, j)),
         },
     }
@@ -78,7 +78,7 @@ pub fn expand(
                 let form = p.form;
                 let end = k + n;
                 if end > points {
-                    return Err(Fault::new(Reason::TooMany, a));
+                    return Err(Fault::of(Reason::TooMany, a));
                 }
                 repeat(out, k, p.q, p.minus, p.d, n);
                 r = Grows {

@@ -36,7 +36,7 @@ fn rows(s: &[u8], fr: Frame, out: &mut [i32]) -> Result<(), Fault>
                 return finish(fr.points, s.len(), r.k, r.dif);
             }
             Start::Bad(j) => {
-                return Err(Fault::new(Reason::StrayByte, j));
+                return Err(Fault::of(Reason::StrayByte, j));
             }
             Start::Head(j, e) => {
                 r = plain_line(s, fr, out, r, j, e)?;

@@ -36,7 +36,7 @@ fn refused(passes: bool, at: usize, fault: Fault) -> Result<Row, Fault>
     if passes {
         return Err(fault);
     }
-    Err(Fault::new(Reason::WrongHead, at))
+    Err(Fault::of(Reason::WrongHead, at))
 }
 
 // What a line did, by the check of its head and the rest of its row.
@@ -47,7 +47,7 @@ fn checked(passes: bool, at: usize, rest: Result<(Grows, usize), Fault>) -> Resu
         Err(fault) => refused(passes, at, fault),
         Ok((g, next)) => {
             if !passes {
-                return Err(Fault::new(Reason::WrongHead, at));
+                return Err(Fault::of(Reason::WrongHead, at));
             }
             let form = g.form;
             Ok(Row {
@@ -84,7 +84,7 @@ fn check_row(s: &[u8], fr: Frame, out: &mut [i32], r: Row, f: Front) -> Result<R
     let start = row_from(f, r.k);
     let rest = expand(s, fr.points, out, start);
     if f.p.last != r.q {
-        return refused(f.passes, f.at, Fault::new(Reason::CheckFailed, f.a));
+        return refused(f.passes, f.at, Fault::of(Reason::CheckFailed, f.a));
     }
     checked(f.passes, f.at, rest)
 }
@@ -96,7 +96,7 @@ fn new_row(s: &[u8], fr: Frame, out: &mut [i32], r: Row, f: Front) -> Result<Row
 {
     let k = r.k;
     if k >= fr.points {
-        return refused(f.passes, f.at, Fault::new(Reason::TooMany, f.a));
+        return refused(f.passes, f.at, Fault::of(Reason::TooMany, f.a));
     }
     put(out, k, f.p.last);
     let next = k + 1;
@@ -121,11 +121,11 @@ pub fn plain_line(
     let dif = r.dif;
     let k = r.k;
     match head(s, at, e) {
-        None => Err(Fault::new(Reason::NoHead, at)),
+        None => Err(Fault::of(Reason::NoHead, at)),
         Some(top) => {
             let passes = fr.passes(top.abscissa, top.unit, index_of(dif, k));
             match next_value(s, top.at, 0, Form::Dup(false)) {
-                Ok(Next::End(_)) => refused(passes, at, Fault::new(Reason::BareHead, at)),
+                Ok(Next::End(_)) => refused(passes, at, Fault::of(Reason::BareHead, at)),
                 Err(fault) => refused(passes, at, fault),
                 Ok(Next::Gives(p, a, b)) => {
                     let f = Front {

@@ -23,11 +23,11 @@ fn fault_of(unfit: Unfit, end: usize) -> PageFault
     match unfit {
         Unfit::Lacking => PageFault {
             page: false,
-            fault: Fault::new(Reason::NoProfileRecord, end),
+            fault: Fault::of(Reason::NoProfileRecord, end),
         },
         Unfit::Unlisted { page, place } => PageFault {
             page,
-            fault: Fault::new(Reason::UnlistedWord, place),
+            fault: Fault::of(Reason::UnlistedWord, place),
         },
     }
 }

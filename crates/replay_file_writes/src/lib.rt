@@ -24,10 +24,7 @@ fn write_file(
 ) -> Result<FileLength, Fault> {
     match (ys.get(..a.count), text.get_mut(..a.room)) {
         (Some(y), Some(t)) => file_write::write_file(title, a.points, c, y, t),
-        _ => Err(Fault {
-            number: 0,
-            place: 0,
-        }),
+        _ => Err(Fault::new(0, 0)),
     }
 }
 

@@ -34,10 +34,7 @@ fn show_written(
 fn write_form(style: Style, a: Asked, ys: &[i32], text: &mut [u8]) -> Result<usize, Fault> {
     match (ys.get(..a.count), text.get_mut(..a.room)) {
         (Some(y), Some(t)) => table_write::write_form(style, a.first, a.last, a.points, y, t),
-        _ => Err(Fault {
-            number: 0,
-            place: 0,
-        }),
+        _ => Err(Fault::new(0, 0)),
     }
 }
 

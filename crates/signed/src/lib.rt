@@ -1,4 +1,5 @@
 // Ordinates between the lent slice and the code (01, "The frame of a table"): an entry y of the slice is the ordinate y + 2^31, and -2,147,483,648, the mark of a missing one, is 0.
+// 0 and no Option for a missing one: `table_spec` Frame, which may not change, defines `ordinate_of` and `entry_for` so.
 #![tactic(auto)]
 
 ghost use Rattle.std.specs.Prelude.{◌≡◌, map, ◌<◌, length, get_or};

@@ -32,18 +32,18 @@ pub fn record_at(s: &[u8], at: usize, left: usize) -> Result<Option<Span>, Fault
         return Ok(None);
     }
     if left == 0 {
-        return Err(Fault::new(Reason::ManyFiles, at));
+        return Err(Fault::of(Reason::ManyFiles, at));
     }
     let rest = len - at;
     if rest < 5 {
-        return Err(Fault::new(Reason::CutOff, at));
+        return Err(Fault::of(Reason::CutOff, at));
     }
     if s[at] != FIRST_MARK || s[at + 1] != SECOND_MARK {
-        return Err(Fault::new(Reason::NoMark, at));
+        return Err(Fault::of(Reason::NoMark, at));
     }
     let size = length_at(s, at);
     if size > rest - 5 {
-        return Err(Fault::new(Reason::CutOff, at));
+        return Err(Fault::of(Reason::CutOff, at));
     }
     let from = at + 5;
     let to = from + size;

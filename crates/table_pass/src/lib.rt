@@ -45,13 +45,13 @@ fn read_line(s: &[u8], fr: Frame, out: &mut [i32], r: Row, at: usize, e: u64) ->
     let k = r.k;
     let q = r.q;
     match head(s, at, e) {
-        None => Err(Fault::new(Reason::NoHead, at)),
+        None => Err(Fault::of(Reason::NoHead, at)),
         Some(top) => {
             if !fr.passes(top.abscissa, top.unit, index_of(dif, k)) {
-                return Err(Fault::new(Reason::WrongHead, at));
+                return Err(Fault::of(Reason::WrongHead, at));
             }
             if bare_line(s, top.at) {
-                return Err(Fault::new(Reason::BareHead, at));
+                return Err(Fault::of(Reason::BareHead, at));
             }
             let want = wanted(dif, q);
             let n = fr.points;
@@ -65,10 +65,10 @@ pub fn finish(points: usize, len: usize, k: usize, dif: bool) -> Result<(), Faul
     ensures { result ≡ finished points len k dif }
 {
     if k < points {
-        return Err(Fault::new(Reason::TooFew, len));
+        return Err(Fault::of(Reason::TooFew, len));
     }
     if dif {
-        return Err(Fault::new(Reason::NoCheckLine, len));
+        return Err(Fault::of(Reason::NoCheckLine, len));
     }
     Ok(())
 }
@@ -91,7 +91,7 @@ pub fn pass(s: &[u8], fr: Frame, out: &mut [i32]) -> Result<(), Fault>
                 return finish(fr.points, s.len(), r.k, r.dif);
             }
             Start::Bad(j) => {
-                return Err(Fault::new(Reason::StrayByte, j));
+                return Err(Fault::of(Reason::StrayByte, j));
             }
             Start::Head(j, e) => {
                 r = read_line(s, fr, out, r, j, e)?;

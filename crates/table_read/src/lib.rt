@@ -31,12 +31,12 @@ pub fn sooner(long: Option<usize>, found: Result<i32, Fault>) -> Result<i32, Fau
     match long {
         None => found,
         Some(a) => match found {
-            Ok(_) => Err(Fault::new(Reason::LongLine, a)),
+            Ok(_) => Err(Fault::of(Reason::LongLine, a)),
             Err(f) => {
                 if f.place < a {
                     return Err(f);
                 }
-                Err(Fault::new(Reason::LongLine, a))
+                Err(Fault::of(Reason::LongLine, a))
             }
         },
     }
@@ -71,13 +71,13 @@ pub fn check_table(
     ensures { result ≡ told_first (read_table first last points body.now room) }
 {
     if body.len() > Frame::LONGEST_BODY {
-        return Err(Fault::new(Reason::OutsideLimits, 0));
+        return Err(Fault::of(Reason::OutsideLimits, 0));
     }
     match Frame::new(first, last, points) {
-        None => Err(Fault::new(Reason::OutsideLimits, 0)),
+        None => Err(Fault::of(Reason::OutsideLimits, 0)),
         Some(fr) => {
             if room < points {
-                return Err(Fault::new(Reason::LittleRoom, 0));
+                return Err(Fault::of(Reason::LittleRoom, 0));
             }
             check_body(body, fr)
         }

@@ -132,7 +132,7 @@ pub fn values(
                 return Ok(row_after(b, j));
             }
             Err(why) => {
-                return Err(Fault::new(why, b.at));
+                return Err(Fault::of(why, b.at));
             }
         }
     }

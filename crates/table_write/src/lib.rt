@@ -24,7 +24,7 @@ fn write_framed(style: Style, fr: Frame, ordinates: &[i32], text: &mut [u8]) -> 
         let length = lay(style, ys, text, fr);
         return Ok(length);
     }
-    Err(Fault::new(Reason::NoFit, 0))
+    Err(Fault::of(Reason::NoFit, 0))
 }
 
 // Writes the table of a frame, its numbers as they come, and its ordinates in a form into the lent bytes; or refuses and leaves them as they were.

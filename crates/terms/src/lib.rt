@@ -104,14 +104,18 @@ impl Reason {
 }
 
 impl Fault {
+    // The fault of a number at a place.
+    pub fn new(number: u64, place: usize) -> Fault
+        ensures { result ≡ fault_at number place }
+    {
+        Fault { number, place }
+    }
+
     // The fault of a reason at a place.
-    pub fn new(why: Reason, place: usize) -> Fault
+    pub fn of(why: Reason, place: usize) -> Fault
         ensures { result ≡ fault_at (reason_number why) place }
     {
-        Fault {
-            number: why.number(),
-            place,
-        }
+        Fault::new(why.number(), place)
     }
 }
 
@@ -120,6 +124,6 @@ impl From<Reason> for Fault {
     ghost from_gives = { λ why fault. fault ≡ fault_at (reason_number why) 0 };
 
     fn from(why: Reason) -> Fault {
-        Fault::new(why, 0)
+        Fault::of(why, 0)
     }
 }

@@ -8,8 +8,8 @@ pub returns-then-value-count : goal.returns-then-value-count
 returns-then-value-count c = count_right _ _ _ _ c.count_in.ensures.0 _ _ c.in-Some.is c.if-value-count.true
 
 pub returns-in-None : goal.returns-in-None
-returns-in-None c = count_bad _ _ _ _ c.count_in.ensures.0 c.in-None.is _ c.mark_in.ensures _ (ap Err c.new.ensures)
+returns-in-None c = count_bad _ _ _ _ c.count_in.ensures.0 c.in-None.is _ c.mark_in.ensures _ (ap Err c.of.ensures)
 
 pub returns-else-value-count : goal.returns-else-value-count
 returns-else-value-count c =
-    count_wrong _ _ _ _ c.count_in.ensures.0 _ _ c.in-Some.is c.if-value-count.false _ c.mark_in-in-Some.ensures _ (ap Err c.new-in-Some.ensures)
+    count_wrong _ _ _ _ c.count_in.ensures.0 _ _ c.in-Some.is c.if-value-count.false _ c.mark_in-in-Some.ensures _ (ap Err c.of-in-Some.ensures)

@@ -5,7 +5,7 @@ use Rattle.compound_survey.specs.Told.{told_long, told_title, told_fault, told_e
 use Rattle.compound_survey.proofs.survey.Goals as goal
 
 pub returns-then-file-gt-LONGEST_FILE : goal.returns-then-file-gt-LONGEST_FILE
-returns-then-file-gt-LONGEST_FILE c = rw c.new.ensures (told_long _ c.if-file-gt-LONGEST_FILE.true)
+returns-then-file-gt-LONGEST_FILE c = rw c.of.ensures (told_long _ c.if-file-gt-LONGEST_FILE.true)
 
 pub walk_block-requires : goal.walk_block-requires
 walk_block-requires c = let o = c.in_ok-title.ensures.1 in (o.high, omega arith)

@@ -17,11 +17,11 @@ next_label-requires t c = c.loop-mark.invariant.high
 
 pub returns-in-None : goal.returns-in-None
 returns-in-None t c =
-    rw c.new.ensures (block_none _ _ _ _ _ _ _ c.loop-mark.invariant (rw c.in-None.is at c.next_label.ensures))
+    rw c.of.ensures (block_none _ _ _ _ _ _ _ c.loop-mark.invariant (rw c.in-None.is at c.next_label.ensures))
 
 pub returns-in-Bad : goal.returns-in-Bad
 returns-in-Bad t c =
-    rw c.new-in-Bad.ensures (block_bad _ _ _ _ _ _ _ c.loop-mark.invariant _ (rw c.in-Bad.is at c.next_label.ensures))
+    rw c.of-in-Bad.ensures (block_bad _ _ _ _ _ _ _ c.loop-mark.invariant _ (rw c.in-Bad.is at c.next_label.ensures))
 
 pub overflow_add-next : goal.overflow_add-next
 overflow_add-next t c = let x = rw c.in-At.is at c.next_label.ensures in omega (arith, x.good)
@@ -40,12 +40,12 @@ is_title-requires t c =
 
 pub returns-then-not-own : goal.returns-then-not-own
 returns-then-not-own t c =
-    rw c.new-then-not-own.ensures (block_closed _ _ _ _ _ _ _ c.loop-mark.invariant _ _ _ (rw c.in-At.is at c.next_label.ensures) (sym
+    rw c.of-then-not-own.ensures (block_closed _ _ _ _ _ _ _ c.loop-mark.invariant _ _ _ (rw c.in-At.is at c.next_label.ensures) (sym
     c.is_end.ensures ∙ c.if-is_end.false) (sym c.is_title.ensures ∙ c.if-is_title.true) (not-true _ c.if-not-own.true))
 
 pub returns-then-left-eq0 : goal.returns-then-left-eq0
 returns-then-left-eq0 t c =
-    rw c.new-then-left-eq0.ensures (block_deep _ _ _ _ _ _ _ c.loop-mark.invariant _ _ _ (rw c.in-At.is at c.next_label.ensures) (sym c.is_end.ensures ∙ c.if-is_end.false) (sym c.is_title.ensures ∙ c.if-is_title.true) c.if-left-eq0.true)
+    rw c.of-then-left-eq0.ensures (block_deep _ _ _ _ _ _ _ c.loop-mark.invariant _ _ _ (rw c.in-At.is at c.next_label.ensures) (sym c.is_end.ensures ∙ c.if-is_end.false) (sym c.is_title.ensures ∙ c.if-is_title.true) c.if-left-eq0.true)
 
 pub walk_block-requires : goal.walk_block-requires
 walk_block-requires t c =
@@ -89,7 +89,7 @@ own_clash-requires t c =
 
 pub returns-then-own_clash : goal.returns-then-own_clash
 returns-then-own_clash t c =
-    rw c.new-then-own_clash.ensures (block_twice _ _ _ _ _ _ _ c.loop-mark.invariant _ _ _ (rw c.in-At.is at c.next_label.ensures) (sym c.is_end.ensures ∙ c.if-is_end.false) (sym c.is_title.ensures ∙ c.if-is_title.false) (sym c.own_clash.ensures ∙ c.if-own_clash.true))
+    rw c.of-then-own_clash.ensures (block_twice _ _ _ _ _ _ _ c.loop-mark.invariant _ _ _ (rw c.in-At.is at c.next_label.ensures) (sym c.is_end.ensures ∙ c.if-is_end.false) (sym c.is_title.ensures ∙ c.if-is_title.false) (sym c.own_clash.ensures ∙ c.if-own_clash.true))
 
 pub next_mark-to-requires : goal.next_mark-to-requires
 next_mark-to-requires t c =
@@ -103,7 +103,7 @@ note-own-requires t c =
 
 pub returns-then-is_both : goal.returns-then-is_both
 returns-then-is_both t c =
-    rw c.new-then-is_both.ensures (block_table _ _ _ _ _ _ _ c.loop-mark.invariant _ _ _ (rw c.in-At.is at c.next_label.ensures) (sym c.is_end.ensures ∙ c.if-is_end.false) (sym c.is_title.ensures ∙ c.if-is_title.false) (sym c.own_clash.ensures ∙ c.if-own_clash.false) _
+    rw c.of-then-is_both.ensures (block_table _ _ _ _ _ _ _ c.loop-mark.invariant _ _ _ (rw c.in-At.is at c.next_label.ensures) (sym c.is_end.ensures ∙ c.if-is_end.false) (sym c.is_title.ensures ∙ c.if-is_title.false) (sym c.own_clash.ensures ∙ c.if-own_clash.false) _
     c.next_mark-to.ensures _ c.note-own.ensures (sym c.is_both.ensures ∙ c.if-is_both.true))
 
 pub loop-mark-smaller : goal.loop-mark-smaller

@@ -45,7 +45,7 @@ returns-then-not-agree c =
     rw (to_z-of_z c.ranges.first, to_z-of_z c.ranges.last, body_is a.file.now a.x.xydata a.start) at (sym c.in-Ok.is ∙ c.check_table.ensures) in
     let a = c.args in
     let unequal = sym compared ∙ c.if-not-agree.true in
-    stage_refused (ap Err c.new.ensures)
+    stage_refused (ap Err c.of.ensures)
     (rw c.mark_in.ensures
     (body_unequal file room a.x a.n a.first a.last place answer first_said unequal))
 

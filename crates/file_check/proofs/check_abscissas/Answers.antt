@@ -38,7 +38,7 @@ returns-in_default c =
     let quotient : Option Whole = (ratio 3 c.args.n.firstx c.args.n.xfactor).rounded in
     let a = c.args in
     let beyond = rounded_is c.ratio_of-f.ensures.0 c.in_default.is in
-    stage_refused (ap Err c.new.ensures) (rw c.mark_in.ensures (first_beyond file room a.x a.n a.start quotient beyond))
+    stage_refused (ap Err c.of.ensures) (rw c.mark_in.ensures (first_beyond file room a.x a.n a.start quotient beyond))
 
 pub returns-in_default-rounded : goal.returns-in_default-rounded
 returns-in_default-rounded c =
@@ -48,7 +48,7 @@ returns-in_default-rounded c =
     let a = c.args in
     let is = rounded_is c.ratio_of-f.ensures.0 c.in-Some.is in
     let beyond = rounded_is c.ratio_of-l.ensures.0 c.in_default-rounded.is in
-    stage_refused (ap Err c.new-in_default-rounded.ensures) (rw c.mark_in-in_default-rounded.ensures (last_beyond file room a.x a.n a.start quotient _ _ is beyond))
+    stage_refused (ap Err c.of-in_default-rounded.ensures) (rw c.mark_in-in_default-rounded.ensures (last_beyond file room a.x a.n a.start quotient _ _ is beyond))
 
 pub returns : goal.returns
 returns c =

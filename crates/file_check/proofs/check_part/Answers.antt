@@ -15,7 +15,7 @@ pub returns-in-None : goal.returns-in-None
 returns-in-None c =
     let file : List ℕ = c.args.file.now in
     let room : ℕ = c.args.room in
-    stage_refused (ap Err c.new.ensures) (records_lacking file room _ _ (sym c.gather.ensures.0 ∙ c.in-None.is))
+    stage_refused (ap Err c.of.ensures) (records_lacking file room _ _ (sym c.gather.ensures.0 ∙ c.in-None.is))
 
 pub returns-in-Some : goal.returns-in-Some
 returns-in-Some c =

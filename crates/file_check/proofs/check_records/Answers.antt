@@ -23,7 +23,7 @@ returns-in-Err c =
     let room : ℕ = c.args.room in
     let records : Needed = c.args.x in
     let said = sym c.figures.ensures.0 ∙ c.in-Err.is in
-    stage_refused (ap Err c.new.ensures) (figures_wrong file room records (figures_of file records) _ said)
+    stage_refused (ap Err c.of.ensures) (figures_wrong file room records (figures_of file records) _ said)
 
 pub returns-in-None : goal.returns-in-None
 returns-in-None c =
@@ -32,7 +32,7 @@ returns-in-None c =
     let records : Needed = c.args.x in
     let said = sym c.figures.ensures.0 ∙ c.in-Ok.is in
     let list = sym c.list_in.ensures.0 ∙ c.in-None.is in
-    stage_refused (ap Err c.new-in-None.ensures) (rw c.mark_in.ensures (list_wrong file room records (figures_of file records) _ said list))
+    stage_refused (ap Err c.of-in-None.ensures) (rw c.mark_in.ensures (list_wrong file room records (figures_of file records) _ said list))
 
 pub returns-in-Some : goal.returns-in-Some
 returns-in-Some c =

@@ -15,7 +15,7 @@ pub returns-then-len-head : goal.returns-then-len-head
 returns-then-len-head c =
     let body : List ℕ = body_of c.args.first c.args.last c.args.n.npoints c.args.ordinates.now in
     let a = c.args in let n = c.heading_length-head.ensures.0 in
-    too_short a.title.now a.n body a.text.now _ (omega arith) c.if-len-head.true (ap Err c.new.ensures)
+    too_short a.title.now a.n body a.text.now _ (omega arith) c.if-len-head.true (ap Err c.of.ensures)
 
 pub overflow_add-at : goal.overflow_add-at
 overflow_add-at c =
@@ -39,7 +39,7 @@ returns-in-Err c =
     let a = c.args in let n = c.heading_length-head.ensures.0 in
     let w = table_refused a.first a.last a.n.npoints a.ordinates.now c.requires.2 _ _ c.in-Err.is
     (rw (to_z-of_z c.ranges.first, to_z-of_z c.ranges.last) at c.write_table.ensures) in
-    not_fitting a.title.now a.n body a.text.now _ (omega arith) c.if-len-head.false w.0 w.1 (ap Err c.new-in-Err.ensures)
+    not_fitting a.title.now a.n body a.text.now _ (omega arith) c.if-len-head.false w.0 w.1 (ap Err c.of-in-Err.ensures)
 
 pub returns-in-Ok : goal.returns-in-Ok
 unfolding END

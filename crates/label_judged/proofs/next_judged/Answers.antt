@@ -17,7 +17,7 @@ is_title-requires c = let x = rw c.in-At.is at c.next_label.ensures in omega (ar
 pub returns-then-is_title : goal.returns-then-is_title
 returns-then-is_title c =
     let x = rw c.in-At.is at c.next_label.ensures in
-    rw c.new-then-is_title.ensures (told_title _ _ _ _ _ x (sym c.is_end.ensures ∙ c.if-is_end.false) (sym c.is_title.ensures ∙ c.if-is_title.true))
+    rw c.of-then-is_title.ensures (told_title _ _ _ _ _ x (sym c.is_end.ensures ∙ c.if-is_end.false) (sym c.is_title.ensures ∙ c.if-is_title.true))
 
 pub is_empty-requires : goal.is_empty-requires
 is_empty-requires c =
@@ -31,10 +31,10 @@ returns-then-is_empty c =
     (sym c.is_empty.ensures ∙ c.if-is_empty.true)
 
 pub returns-in-None : goal.returns-in-None
-returns-in-None c = rw c.new.ensures (told_none _ _ (rw c.in-None.is at c.next_label.ensures))
+returns-in-None c = rw c.of.ensures (told_none _ _ (rw c.in-None.is at c.next_label.ensures))
 
 pub returns-in-Bad : goal.returns-in-Bad
-returns-in-Bad c = rw c.new-in-Bad.ensures (told_bad _ _ _ (rw c.in-Bad.is at c.next_label.ensures))
+returns-in-Bad c = rw c.of-in-Bad.ensures (told_bad _ _ _ (rw c.in-Bad.is at c.next_label.ensures))
 
 pub returns-else-is_empty : goal.returns-else-is_empty
 returns-else-is_empty c =

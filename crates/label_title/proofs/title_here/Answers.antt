@@ -8,10 +8,10 @@ pub is_title-requires : goal.is_title-requires
 is_title-requires c = let x = rw c.in-At.is at c.label_here.ensures in omega (arith, x.good)
 
 pub returns-in-None : goal.returns-in-None
-returns-in-None c = rw c.new.ensures (open_over _ _ c.requires (rw c.in-None.is at c.label_here.ensures))
+returns-in-None c = rw c.of.ensures (open_over _ _ c.requires (rw c.in-None.is at c.label_here.ensures))
 
 pub returns-in-Bad : goal.returns-in-Bad
-returns-in-Bad c = rw c.new-in-Bad.ensures (open_bad _ _ c.requires _ (rw c.in-Bad.is at c.label_here.ensures))
+returns-in-Bad c = rw c.of-in-Bad.ensures (open_bad _ _ c.requires _ (rw c.in-Bad.is at c.label_here.ensures))
 
 pub returns-then-is_title : goal.returns-then-is_title
 returns-then-is_title c =
@@ -21,4 +21,4 @@ returns-then-is_title c =
 pub returns-else-is_title : goal.returns-else-is_title
 returns-else-is_title c =
     let x = rw c.in-At.is at c.label_here.ensures in
-    rw c.new-else-is_title.ensures (open_other _ _ c.requires _ _ _ x (sym c.is_title.ensures ∙ c.if-is_title.false))
+    rw c.of-else-is_title.ensures (open_other _ _ c.requires _ _ _ x (sym c.is_title.ensures ∙ c.if-is_title.false))

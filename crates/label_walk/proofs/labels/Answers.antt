@@ -5,7 +5,7 @@ use Rattle.label_walk.proofs.LabelTurns.{labels_long, labels_unopened, labels_fa
 use Rattle.label_walk.proofs.labels.Goals as goal
 
 pub returns-then-file-gt-LONGEST_FILE : goal.returns-then-file-gt-LONGEST_FILE
-returns-then-file-gt-LONGEST_FILE c = rw c.new.ensures (labels_long _ c.if-file-gt-LONGEST_FILE.true)
+returns-then-file-gt-LONGEST_FILE c = rw c.of.ensures (labels_long _ c.if-file-gt-LONGEST_FILE.true)
 
 pub overflow_add-title : goal.overflow_add-title
 overflow_add-title c = let o = c.in_ok-title.ensures in omega (arith, o.1.high)

@@ -58,6 +58,6 @@ walk-preserved c =
 pub returns : goal.returns
 returns c =
     let t = rw c.in-Named.is at c.next_judged.ensures in
-    rw c.new.ensures (far_second _ _ _ c.walk.invariant _ _ _ t
+    rw c.of.ensures (far_second _ _ _ c.walk.invariant _ _ _ t
     (near_hit _ _ _ _ _ c.loop-at.invariant _ c.next_mark-earlier.ensures c.if-earlier-mark.false (named_in _ _ _ _ _ t) _
     c.is_same.ensures c.if-is_same.true))

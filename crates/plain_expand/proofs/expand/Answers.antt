@@ -29,7 +29,7 @@ overflow_add-end c =
 
 pub returns-then-end-points : goal.returns-then-end-points
 returns-then-end-points c =
-    rw c.new.ensures (record { says = grow_over _ _ _ _ _ _ c.loop-j.invariant _ _ _ (rw c.in-Gives.is at c.in_ok-j.ensures) c.if-end-points.true })
+    rw c.of.ensures (record { says = grow_over _ _ _ _ _ _ c.loop-j.invariant _ _ _ (rw c.in-Gives.is at c.in_ok-j.ensures) c.if-end-points.true })
 
 pub repeat-requires : goal.repeat-requires
 repeat-requires c =

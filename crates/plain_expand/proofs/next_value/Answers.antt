@@ -18,7 +18,7 @@ returns-in-Some c =
 pub returns-in-None : goal.returns-in-None
 returns-in-None c =
     let x = rw c.in-None.is at c.line_end.ensures in
-    rw c.new.ensures (next_fault _ _ _ _ _ c.blanks-at.ensures 3 _ (x.1 _))
+    rw c.of.ensures (next_fault _ _ _ _ _ c.blanks-at.ensures 3 _ (x.1 _))
 
 pub returns-then-e-eq-MISSING : goal.returns-then-e-eq-MISSING
 returns-then-e-eq-MISSING c =
@@ -40,12 +40,12 @@ stands_for-requires c =
     (p.2, p.3, c.if-e-ge-POINT.false, no_gap, (rw c.in-Some-number.is at c.number.ensures).small)
 
 pub returns-in-None-number : goal.returns-in-None-number
-returns-in-None-number c = rw c.new-in-None-number.ensures (next_fault _ _ _ _ _ c.blanks-at.ensures 5 _ (rw c.in-None-number.is at c.number.ensures))
+returns-in-None-number c = rw c.of-in-None-number.ensures (next_fault _ _ _ _ _ c.blanks-at.ensures 5 _ (rw c.in-None-number.is at c.number.ensures))
 
 pub returns-in-Err : goal.returns-in-Err
 returns-in-Err c =
     let x = rw c.in-Some-number.is at c.number.ensures in
-    rw c.new-in-Err.ensures (next_not _ _ _ _ _ c.blanks-at.ensures x.token _ (rw c.in-Err.is at c.stands_for.ensures))
+    rw c.of-in-Err.ensures (next_not _ _ _ _ _ c.blanks-at.ensures x.token _ (rw c.in-Err.is at c.stands_for.ensures))
 
 pub returns-in-Ok : goal.returns-in-Ok
 returns-in-Ok c =

@@ -17,7 +17,7 @@ returns-in-End c =
 
 pub returns-in-Bad : goal.returns-in-Bad
 returns-in-Bad c =
-    rw c.new.ensures (reached_fault c.loop-j.invariant (rw c.in-Bad.is at c.row_start.ensures))
+    rw c.of.ensures (reached_fault c.loop-j.invariant (rw c.in-Bad.is at c.row_start.ensures))
 
 pub plain_line-requires : goal.plain_line-requires
 plain_line-requires c =

@@ -11,7 +11,7 @@ expand-rest-requires c =
 pub returns-then-f-r : goal.returns-then-f-r
 returns-then-f-r c =
     let a = c.args in let p = c.requires in let front = p.2 in
-    rw (c.refused.ensures, c.new.ensures) (unequal_line a.fr _ a.r _ front.head p.1.few front.first p.3 c.if-f-r.true _ front.passing _ _)
+    rw (c.refused.ensures, c.of.ensures) (unequal_line a.fr _ a.r _ front.head p.1.few front.first p.3 c.if-f-r.true _ front.passing _ _)
 
 pub returns : goal.returns
 returns c =

@@ -3,7 +3,7 @@ use mathlib.Core.Path.{refl}
 use Rattle.plain_rows.proofs.checked.Goals as goal
 
 pub returns-then-not-passes : goal.returns-then-not-passes
-returns-then-not-passes c = rw (c.in-Ok.is, c.if-not-passes.true, c.new.ensures) refl
+returns-then-not-passes c = rw (c.in-Ok.is, c.if-not-passes.true, c.of.ensures) refl
 
 pub returns-in-Err : goal.returns-in-Err
 returns-in-Err c = rw c.in-Err.is c.refused.ensures

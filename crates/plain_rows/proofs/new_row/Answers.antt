@@ -6,7 +6,7 @@ use Rattle.plain_rows.proofs.new_row.Goals as goal
 pub returns-then-k-fr : goal.returns-then-k-fr
 returns-then-k-fr c =
     let a = c.args in let p = c.requires in let front = p.2 in
-    rw (c.refused.ensures, c.new.ensures) (full_line a.fr _ a.r _ front.head p.1.few front.first p.3 c.if-k-fr.true _ front.passing _ _)
+    rw (c.refused.ensures, c.of.ensures) (full_line a.fr _ a.r _ front.head p.1.few front.first p.3 c.if-k-fr.true _ front.passing _ _)
 
 pub expand-rest-requires : goal.expand-rest-requires
 expand-rest-requires c =

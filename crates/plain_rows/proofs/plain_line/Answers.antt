@@ -56,7 +56,7 @@ pub returns-in-None : goal.returns-in-None
 returns-in-None c =
     let frame : Frame = c.args.fr in
     let row : Row = c.args.r in
-    rw c.new.ensures (line_four frame _ row _ (rw c.in-None.is at c.head.ensures) [] [])
+    rw c.of.ensures (line_four frame _ row _ (rw c.in-None.is at c.head.ensures) [] [])
 
 pub returns-in-Ok-End : goal.returns-in-Ok-End
 returns-in-Ok-End c =
@@ -66,7 +66,7 @@ returns-in-Ok-End c =
     let unit : ℕ = c.in-Some.top.unit in
     let topped : Topped c.args.s.now c.args.at abscissa unit c.in-Some.top.at = rw c.in-Some.is at c.head.ensures in
     let passing : let f = frame in let r = row in c.passes-passes.result ≡ passes f.first f.last f.points abscissa unit (index r.dif r.k) = rw c.index_of.ensures at c.passes-passes.ensures in
-    rw (c.refused.ensures, c.new-in-Ok-End.ensures) (bare_line frame _ row _ topped c.requires.1.few (rw (c.in-Ok-End.is, c.in-Ok-End.field-0-is) at c.next_value.ensures) _ passing _ _)
+    rw (c.refused.ensures, c.of-in-Ok-End.ensures) (bare_line frame _ row _ topped c.requires.1.few (rw (c.in-Ok-End.is, c.in-Ok-End.field-0-is) at c.next_value.ensures) _ passing _ _)
 
 pub returns-in-Err : goal.returns-in-Err
 returns-in-Err c =

@@ -6,4 +6,4 @@ pub returns-then-passes : goal.returns-then-passes
 returns-then-passes c = rw c.if-passes.true refl
 
 pub returns : goal.returns
-returns c = rw (c.if-passes.false, c.new.ensures) refl
+returns c = rw (c.if-passes.false, c.of.ensures) refl

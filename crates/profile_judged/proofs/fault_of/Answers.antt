@@ -3,7 +3,7 @@ use mathlib.Core.Path.{refl}
 use Rattle.profile_judged.proofs.fault_of.Goals as goal
 
 pub returns-in-Lacking : goal.returns-in-Lacking
-returns-in-Lacking c = rw (c.in-Lacking.is, c.new.ensures) refl
+returns-in-Lacking c = rw (c.in-Lacking.is, c.of.ensures) refl
 
 pub returns-in-Unlisted : goal.returns-in-Unlisted
-returns-in-Unlisted c = rw (c.in-Unlisted.is, c.new-in-Unlisted.ensures) refl
+returns-in-Unlisted c = rw (c.in-Unlisted.is, c.of-in-Unlisted.ensures) refl

@@ -10,14 +10,14 @@ pub returns-then-len-at : goal.returns-then-len-at
 returns-then-len-at c = sym (record_over _ _ _ c.if-len-at.true)
 
 pub returns-then-left-eq0 : goal.returns-then-left-eq0
-returns-then-left-eq0 c = (ap Err c.new.ensures) ∙ sym (record_full _ _ _ c.if-len-at.false c.if-left-eq0.true)
+returns-then-left-eq0 c = (ap Err c.of.ensures) ∙ sym (record_full _ _ _ c.if-len-at.false c.if-left-eq0.true)
 
 pub returns-then-rest-lt5 : goal.returns-then-rest-lt5
-returns-then-rest-lt5 c = (ap Err c.new-then-rest-lt5.ensures) ∙ sym (record_short _ _ _ c.if-len-at.false c.if-left-eq0.false c.if-rest-lt5.true)
+returns-then-rest-lt5 c = (ap Err c.of-then-rest-lt5.ensures) ∙ sym (record_short _ _ _ c.if-len-at.false c.if-left-eq0.false c.if-rest-lt5.true)
 
 pub returns-then-s-at-ne-FIRST_MARK : goal.returns-then-s-at-ne-FIRST_MARK
 returns-then-s-at-ne-FIRST_MARK c =
-    (ap Err c.new-then-s-at-ne-FIRST_MARK.ensures)
+    (ap Err c.of-then-s-at-ne-FIRST_MARK.ensures)
     ∙ sym
     (elim c.then-s-at-ne-FIRST_MARK.branch [
       | then-s-at-ne-FIRST_MARK-via-then-s-at-ne-FIRST_MARK w ↦ record_first _ _ _ c.if-len-at.false c.if-left-eq0.false c.if-rest-lt5.false w.if-s-at-ne-FIRST_MARK.true
@@ -27,7 +27,7 @@ returns-then-s-at-ne-FIRST_MARK c =
 
 pub returns-then-size-rest : goal.returns-then-size-rest
 returns-then-size-rest c =
-    (ap Err c.new-then-size-rest.ensures) ∙ sym (record_long _ _ _ c.if-len-at.false c.if-left-eq0.false c.if-rest-lt5.false c.if-s-at-ne-FIRST_MARK.false c.if-s-at-ne-SECOND_MARK.false
+    (ap Err c.of-then-size-rest.ensures) ∙ sym (record_long _ _ _ c.if-len-at.false c.if-left-eq0.false c.if-rest-lt5.false c.if-s-at-ne-FIRST_MARK.false c.if-s-at-ne-SECOND_MARK.false
     (rw c.length_at-size.ensures.0 at c.if-size-rest.true))
 
 pub returns : goal.returns

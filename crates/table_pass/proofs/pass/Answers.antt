@@ -17,7 +17,7 @@ returns-in-End c =
 
 pub returns-in-Bad : goal.returns-in-Bad
 returns-in-Bad c =
-    rw c.new.ensures (reached_fault c.loop-j.invariant (rw c.in-Bad.is at c.row_start.ensures))
+    rw c.of.ensures (reached_fault c.loop-j.invariant (rw c.in-Bad.is at c.row_start.ensures))
 
 pub read_line-requires : goal.read_line-requires
 read_line-requires c =

@@ -30,7 +30,7 @@ returns-then-not-passes c =
     let unit : ℕ = c.in-Some.top.unit in
     let topped : Topped c.args.s.now c.args.at abscissa unit c.in-Some.top.at = rw c.in-Some.is at c.head.ensures in
     let fails = sym (rw c.index_of.ensures at c.passes.ensures) ∙ c.if-not-passes.true in
-    rw c.new-then-not-passes.ensures (line_six frame _ row _ topped fails [] [])
+    rw c.of-then-not-passes.ensures (line_six frame _ row _ topped fails [] [])
 
 pub bare_line-requires : goal.bare_line-requires
 bare_line-requires c =
@@ -48,7 +48,7 @@ returns-then-bare_line c =
     let topped : Topped c.args.s.now c.args.at abscissa unit c.in-Some.top.at = rw c.in-Some.is at c.head.ensures in
     let passed : let f = frame in let r = row in passes f.first f.last f.points abscissa unit (index r.dif r.k) ≡ true = sym (rw c.index_of.ensures at c.passes.ensures) ∙ c.if-not-passes.false in
     let bare = sym c.bare_line.ensures ∙ c.if-bare_line.true in
-    rw c.new-then-bare_line.ensures (line_seven frame _ row _ topped passed bare [] [])
+    rw c.of-then-bare_line.ensures (line_seven frame _ row _ topped passed bare [] [])
 
 pub values-requires : goal.values-requires
 values-requires c =
@@ -63,7 +63,7 @@ pub returns-in-None : goal.returns-in-None
 returns-in-None c =
     let frame : Frame = c.args.fr in
     let row : Row = c.args.r in
-    rw c.new.ensures (line_four frame _ row _ (rw c.in-None.is at c.head.ensures) [] [])
+    rw c.of.ensures (line_four frame _ row _ (rw c.in-None.is at c.head.ensures) [] [])
 
 pub returns-else-bare_line : goal.returns-else-bare_line
 returns-else-bare_line c =

@@ -8,8 +8,8 @@ returns-then-f-a c =
     rw (c.in-Some.is, c.in-Err.is, lt-ltb _ _ c.if-f-a.true) refl
 
 pub returns-in-Ok : goal.returns-in-Ok
-returns-in-Ok c = rw (c.new.ensures, c.in-Some.is, c.in-Ok.is) refl
+returns-in-Ok c = rw (c.of.ensures, c.in-Some.is, c.in-Ok.is) refl
 
 pub returns-else-f-a : goal.returns-else-f-a
 returns-else-f-a c =
-    rw (c.new-in-Err.ensures, c.in-Some.is, c.in-Err.is, le-ltb _ _ c.if-f-a.false) refl
+    rw (c.of-in-Err.ensures, c.in-Some.is, c.in-Err.is, le-ltb _ _ c.if-f-a.false) refl

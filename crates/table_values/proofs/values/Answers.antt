@@ -43,4 +43,4 @@ pub returns-in-Err : goal.returns-in-Err
 returns-in-Err c =
     let x = rw c.in-Err.is at c.token.ensures in
     let e = c.past_blanks-a.ensures in let g = c.loop-d.invariant.0 in
-    rw c.new.ensures (went_refused _ (went_went (went_past g e) c.run-b.ensures) _ x)
+    rw c.of.ensures (went_refused _ (went_went (went_past g e) c.run-b.ensures) _ x)

@@ -30,4 +30,4 @@ returns-then-fits c =
 pub returns : goal.returns
 returns c =
     let a = c.args in
-    too_long a.style a.fr a.ordinates.now a.text.now c.requires.1 (leb-false _ _ (sym c.fits.ensures ∙ c.if-fits.false)) (ap Err c.new.ensures) refl
+    too_long a.style a.fr a.ordinates.now a.text.now c.requires.1 (leb-false _ _ (sym c.fits.ensures ∙ c.if-fits.false)) (ap Err c.of.ensures) refl
