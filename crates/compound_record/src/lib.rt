@@ -15,7 +15,7 @@ use text::refusal_in;
 // The most bytes of a file.
 const LONGEST_FILE: usize = 1048576;
 
-// Where the text of the record with a name stands in a data block, TITLE's own among its records: `from` is the place of its TITLE's `##`, `end` that of its END's.
+// Where the text of the record with a name stands in a data block, TITLE's own among its records: `from` is the place of its TITLE's `##`, `end` that of its END's. None if it is absent.
 pub fn find_in_block(
     file: &[u8],
     from: usize,

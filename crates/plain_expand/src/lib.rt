@@ -55,7 +55,7 @@ pub fn next_value(s: &[u8], from: usize, q: u64, form: Form) -> Result<Next, Fau
     }
 }
 
-// The rest of a row, laid from the index k on as far as there is room: 11 at the value that brings more points than so many.
+// The rest of a row, laid from the index k on as far as there is room: what it grew to, and the place of the next line; 11 at the value that brings more points than so many.
 pub fn expand(
     s: &[u8],
     points: usize,

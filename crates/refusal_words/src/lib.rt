@@ -1,7 +1,7 @@
 // What refusals mean, in words. Nothing is claimed of them: that the programs print them is tested against stored output.
 #![tactic(auto)]
 
-// What a refusal's number means. Of the numbers that no arm names a reader gives 16 and 29 alone.
+// What the number of a file's refusal means. Of those in `0..=18` only 16 comes so far, and of the rest only 29.
 pub fn meaning(number: u64) -> &'static str {
     match number {
         1 => "the frame or the body is outside its limits",

@@ -23,7 +23,8 @@ fn length_at(s: &[u8], at: usize) -> usize
     high * 65536 + middle * 256 + low
 }
 
-// What stands at a place of a spool, where so many files may still come.
+// What stands at a place of a spool, where so many files may still come: a file, from one place up to another; nothing, where no byte is left; or why the spool is refused. A spool is no text, so its
+// refusal has no line and no column.
 pub fn record_at(s: &[u8], at: usize, left: usize) -> Result<Option<Span>, Fault>
     ensures { result ≡ record_at left s.now at }
 {
