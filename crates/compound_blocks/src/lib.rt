@@ -58,7 +58,7 @@ fn after_line(s: &[u8], at: usize) -> usize
     s.len().min(end + 1)
 }
 
-// Stores the four numbers of a block from the entry i on.
+// Stores the four numbers of a block from the entry i on. Numbers and no struct: C lends them so (the header, `lastarunc_find_blocks`).
 fn put_block(blocks: &mut [u64], i: usize, from: usize, to: usize, start: usize, end: usize)
     requires { i + 4 ≤ length blocks.old }
     ensures { Puts blocks.old i from to start end blocks.new }

@@ -13,7 +13,7 @@ use terms::Fault;
 // What is answered for a number that is no form's, -1 for C (LASTARUNC_NO_FORM in the header): no refusal has this number.
 const NO_FORM: u64 = 18446744073709551615;
 
-// The form of this number (02, T-02). A function of its own: an impl of `TryFrom` for `Style` can stand only in `table_spec`, which knows no header.
+// The form of this number (02, T-02). A function of its own: an impl of `TryFrom` for `Style` can stand only in `table_spec`, and its error would be a public type there.
 fn form_of(form: u64) -> Option<Style>
     ensures { FormOf form result }
 {

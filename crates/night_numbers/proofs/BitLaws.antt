@@ -16,6 +16,7 @@ number_low u h = rw (lt-ltb u 9223372036854775808 h) refl
 number_high : (u : ℕ) → 9223372036854775808 ≤ u → negsuc (18446744073709551615 - u) ≡ number_of u
 number_high u h = rw (le-ltb u 9223372036854775808 h) refl
 
+-- by cases: the library's `to_z-of_z` does not close it, since the two forms of a negative number are not equal by computing
 number_bits : (x : ℤ) → SFits w64 x → number_of (bits x) ≡ x
 number_bits (pos n) h = sym (number_low n h.sfits)
 number_bits (negsuc n) h =

@@ -50,7 +50,7 @@ fn first_fault(said: Result<(), Unfit>, next: Result<(), Unfit>) -> Result<(), U
     next
 }
 
-// Stores the three numbers of a record from the entry i on.
+// Stores the three numbers of a record from the entry i on. Numbers and no struct: C lends them so (the header, `lastarunc_read_profile`).
 fn put(places: &mut [u64], i: usize, x: Shown)
     requires { i + 3 ≤ length places.old }
     ensures { places.new ≡ sets places.old i (numbers (Some x) []) }

@@ -14,7 +14,7 @@ use terms::Fault;
 // Room for the title of a file that is written.
 const TITLE: usize = 256;
 
-// Writes the file, or refusal 0 if this program has too little room.
+// Writes the file, or refusal 0, which no document numbers, if this program has too little room.
 fn write_file(
     title: &[u8],
     a: Asked,

@@ -12,7 +12,7 @@ use text::refusal_in;
 // Room for the bytes of a body or a file.
 const BYTES: usize = 4096;
 
-// Reads the table, or refusal 0 if this program has too little room.
+// Reads the table, or refusal 0, which no document numbers, if this program has too little room.
 fn read_table(a: Asked, body: &[u8], out: &mut [i32]) -> Result<usize, Refusal> {
     match (body.get(..a.count), out.get_mut(..a.room)) {
         (Some(b), Some(o)) => table_read::read_table(a.first, a.last, a.points, b, o),
@@ -20,7 +20,7 @@ fn read_table(a: Asked, body: &[u8], out: &mut [i32]) -> Result<usize, Refusal> 
     }
 }
 
-// Reads the file, or refusal 0 if this program has too little room.
+// Reads the file, or refusal 0, which no document numbers, if this program has too little room.
 fn read_file(a: Asked, file: &[u8], out: &mut [i32]) -> Result<FileTable, Refusal> {
     match (file.get(..a.count), out.get_mut(..a.room)) {
         (Some(f), Some(o)) => file::read_file(f, o),

@@ -30,7 +30,7 @@ fn show_written(
     }
 }
 
-// Writes the table, or refusal 0 if this program has too little room.
+// Writes the table, or refusal 0, which no document numbers, if this program has too little room.
 fn write_form(style: Style, a: Asked, ys: &[i32], text: &mut [u8]) -> Result<usize, Fault> {
     match (ys.get(..a.count), text.get_mut(..a.room)) {
         (Some(y), Some(t)) => table_write::write_form(style, a.first, a.last, a.points, y, t),

@@ -32,7 +32,7 @@ pub struct HeadRead {
     pub at: usize,
 }
 
-// The first place from here on where no blank stands. A loop by hand: no other form is plainer, and it is hot: where no blank stands, as most often, it asks for one byte.
+// The first place from here on where no blank stands. A loop by hand, since it is hot: where no blank stands, as most often, it asks for one byte, and an iterator over the rest of the text makes a slice first.
 pub fn blanks(s: &[u8], from: usize) -> usize
     requires { from ≤ length s.now }
     ensures { Blanked s.now from result }
@@ -53,7 +53,7 @@ fn comment(s: &[u8], from: usize) -> usize
     s.len().min(end + 1)
 }
 
-// What stands at a place whose entry e is a point's or above: a line's end, a comment counted in, or a byte that cannot stand there.
+// The place of the next line, where a line's end stands at a place whose entry e is a point's or above, a comment counted in; none where a byte cannot stand there.
 pub fn line_end(s: &[u8], at: usize, e: u64) -> Option<usize>
     requires { (at ≤ length s.now) × (e ≡ entry_at s.now at) × (160 ≤ e) }
     ensures { Ended s.now at result }

@@ -20,7 +20,7 @@ fn further(e: u64) -> usize
     9
 }
 
-// The number of the digits from a place on, at most ten: misspelled if there is none, or one too many.
+// The number of the digits from a place on, at most ten, and the place after it; none if there is no digit, or one too many.
 fn plain(s: &[u8], from: usize) -> Option<(u64, usize)>
     requires { from ≤ length s.now }
     ensures { Plain s.now from result }
@@ -35,7 +35,8 @@ fn plain(s: &[u8], from: usize) -> Option<(u64, usize)>
     Some((r.v, r.at))
 }
 
-// The number of the value at a place whose entry is e, below a point's, and neither `?` nor a blank: a digit directly after a blank, a pseudo-digit or a sign, and the digits that follow.
+// The number of the value at a place whose entry is e, below a point's, and neither `?` nor a blank: a digit directly after a blank, a pseudo-digit or a sign, and the digits that follow; with the
+// place after it. None if it is misspelled.
 pub fn number(s: &[u8], at: usize, e: u64) -> Option<(u64, usize)>
     requires { (e ≡ entry_at s.now at) × (e < 160) × (0 < at) × (e < 96 ⊎ 128 ≤ e) }
     ensures { Numbered s.now at e result }

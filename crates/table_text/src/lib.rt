@@ -1,4 +1,4 @@
-// What the writers of the four forms share (01, "The written text"; 02, T-02): digits and line ends in the lent bytes, and the answer of a writer.
+// What the writers of the four forms share (01, "The written text"; 02, T-02): digits and line ends in the lent bytes.
 #![tactic(auto)]
 
 pub mod digits;

@@ -14,7 +14,7 @@ use terms::Reason;
 
 // Within a line: the place; how many points; the ordinate before (0: none on this line, or missing); the ordinate that a check line's first value must equal (0: not
 // asked); the size of the last difference; and the form of the value before: 0 none, or a DUP that is not DIF; 1 a DUP that is; 2 a value of its own; from DIF on a
-// difference, and from DIF_MINUS on one that is minus. Numbers and no enums: `States.Codes` and `States.Holds` of specs/, which may not change, say what each stands for.
+// difference, and from DIF_MINUS on one that is minus. Numbers and no enums: `States.Codes` and `Holds` of specs/, stated by these numbers, say what each stands for.
 #[derive(Clone, Copy)]
 pub struct Cur {
     pub at: usize,

@@ -1,4 +1,4 @@
-// The types that definitions and code share (01, "Refusal numbers"; 02, T-01), and the one place where a fault is made.
+// The types that definitions and code share (01, "Refusal numbers"; 02, T-01): why something is refused, a fault, and a refusal.
 #![tactic(auto)]
 
 ghost use Rattle.std.specs.Prelude.{◌≡◌};

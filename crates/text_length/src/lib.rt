@@ -91,7 +91,7 @@ fn count_turn(ys: &[i32], none: &mut [u8], fr: Frame, s: State) -> State
     new_line(none, fr, t)
 }
 
-// The text's length: line by line with no byte lent, the groups of a line only counted.
+// The text's length: line by line with no byte lent, the groups of a line only counted. A loop by hand: a turn moves the state, which counts the points given.
 pub fn measure(ys: &[i32], none: &mut [u8], fr: Frame) -> usize
     requires { Sound fr × (length ys.now ≡ fr.points) × (length none.old ≡ 0) }
     ensures { result ≡ length (lines_of Difdup (head_of fr) (ordinates ys.now)) }

@@ -40,7 +40,8 @@ fn pass(t: &[u8; 200], d: &[u64; 32], m: Marks, ys: &[i32], text: &mut [u8], fr:
     at
 }
 
-// The same with nothing lent: the length of the text. A loop of its own, since nothing that it calls is what the other calls.
+// The same with nothing lent: the length of the text. A loop of its own, since nothing that it calls is what the other calls; by hand, since a turn is a line and moves
+// the index to the next line's first point.
 fn count(d: &[u64; 32], m: Marks, ys: &[i32], fr: Frame) -> usize
     requires { (d.now ≡ counts) × Sound fr × (length ys.now ≡ fr.points) }
     ensures { result ≡ length (whole m fr (map ordinate_of ys.now)) }
