@@ -31,10 +31,10 @@ fn show(
 // On standard error, which of F and L was rounded (02, T-08); nothing where both are exact.
 fn explain_rounded(errors: &impl Print, table: FileTable) -> io::Result<()> {
     if !table.exact.first {
-        report::explain_rounded(errors, "FIRSTX", table.first)?;
+        report::explain_rounded(errors, b"FIRSTX", table.first)?;
     }
     if !table.exact.last {
-        report::explain_rounded(errors, "LASTX", table.last)?;
+        report::explain_rounded(errors, b"LASTX", table.last)?;
     }
     Ok(())
 }

@@ -32,13 +32,15 @@ impl fmt::Display for Thousandths {
     }
 }
 
-// The first line of a text, as much as fits 80 columns: what is not printed in ASCII is a point.
+// The first line of a text, as much as fits 80 columns: what is not printed in ASCII is a point. Its end is looked for
+// among as many bytes as can show it, so that a long line costs no more.
 #[derive(Drop)]
 struct FirstLine<'a>(&'a [u8]);
 
 impl fmt::Display for FirstLine<'_> {
     fn fmt<W: fmt::Write>(&self, f: &mut fmt::Formatter<W>) -> fmt::Result {
-        for b in first_line(self.0).iter().take(80) {
+        let near = &self.0[..self.0.len().min(81)];
+        for b in first_line(near).iter().take(80) {
             f.write_char(match *b {
                 b' '..=b'~' => char::from(*b),
                 _ => '.',
@@ -73,9 +75,10 @@ pub fn explain(errors: &impl Print, text: &[u8], r: Refusal) -> io::Result<()> {
 }
 
 // That an abscissa was rounded, for a person (02, T-08): the record that was divided, and what it was rounded to.
-pub fn explain_rounded(errors: &impl Print, record: &str, x: i64) -> io::Result<()> {
+pub fn explain_rounded(errors: &impl Print, record: &[u8], x: i64) -> io::Result<()> {
+    errors.write_all(record)?;
     println!(errors;
-        "{record} / XFACTOR is not a whole number of thousandths: rounded to {}",
+        " / XFACTOR is not a whole number of thousandths: rounded to {}",
         Thousandths(x)
     )
 }
