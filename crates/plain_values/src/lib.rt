@@ -21,10 +21,11 @@ pub enum Form {
 }
 
 // The ordinates that a value stands for: n of them, each a difference from the one before, the first from q; the last one, and the form.
+// The sign first: within an answer that may be a fault it then takes the place of one of that fault's numbers, and the compiler copies it whole; further on it copied the bytes beside it one by one.
 #[derive(Clone, Copy)]
 pub struct Points {
-    pub q: u64,
     pub minus: bool,
+    pub q: u64,
     pub d: u64,
     pub n: usize,
     pub last: u64,

@@ -33,10 +33,14 @@ pub fn refuse(
     })
 }
 
-// Stores numbers from the first entry on, as many as there is room for.
+// Stores numbers from the first entry on, as many as there is room for. One by one: of `copy_from_slice` the compiler makes a call of `memcpy`, and no archive for C may need that from outside.
 pub fn store_numbers(numbers: &[u64], out: &mut [u64])
     ensures { out.new ≡ sets out.old 0 numbers.now }
 {
-    let n = numbers.len().min(out.len());
-    out[..n].copy_from_slice(&numbers[..n]);
+    for i in 0..numbers.len() {
+        if i >= out.len() {
+            return;
+        }
+        out[i] = numbers[i];
+    }
 }
