@@ -50,8 +50,17 @@ sought_passed s a h n e =
 abbrev pub Along : List ℕ → ℕ → ℕ → Type 0
 Along s a i = (a ≤ i) × (i ≤ length s) × (from s a false ≡ from s i false)
 
-along_on : (s : List ℕ) (a i : ℕ) → Along s a i → i < length s → (get_or s i 0 ≡ 10 → ⊥) → Along s a (i + 1)
+pub along_on : (s : List ℕ) (a i : ℕ) → Along s a i → i < length s → (get_or s i 0 ≡ 10 → ⊥) → Along s a (i + 1)
 along_on s a i x h n = (omega (arith, x.0), omega arith, x.2 ∙ skip_on s i h n)
+
+module _ (s : List ℕ) (a i : ℕ) (x : Along s a i) where
+  pub along_end : length s ≤ i → LineEnd s a (length s)
+  along_end h =
+      let e : i ≡ length s = omega (arith, x.1, h) in
+      record { low = omega (arith, x.0, x.1); high = omega arith; same = x.2 ∙ ap (λ (k : ℕ). from s k false) e; stops = λ l. absurd (omega arith) }
+
+  pub along_stop : get_or s i 0 ≡ 10 → LineEnd s a i
+  along_stop e = record { low = x.0; high = x.1; same = x.2; stops = λ l. e }
 
 pub along_passed : (s : List ℕ) (a : ℕ) (h : a ≤ length s) (n : ℕ) → n ≡ length (take (prefix_len (λ b. not (eqb b 10)) (rest s a)) (rest s a)) → LineEnd s a (a + n)
 along_passed s a h n e =
@@ -86,8 +95,17 @@ module _ (s : List ℕ) (i : ℕ) (h : i + 8 ≤ length s) where
 abbrev pub Blanks : List ℕ → ℕ → ℕ → Type 0
 Blanks s a i = (a ≤ i) × (i ≤ length s) × (from s a true ≡ from s i true)
 
-blanks_on : (s : List ℕ) (a i : ℕ) → Blanks s a i → i < length s → blank (get_or s i 0) ≡ true → Blanks s a (i + 1)
+pub blanks_on : (s : List ℕ) (a i : ℕ) → Blanks s a i → i < length s → blank (get_or s i 0) ≡ true → Blanks s a (i + 1)
 blanks_on s a i x h e = (omega (arith, x.0), omega arith, x.2 ∙ blank_on s i h e)
+
+module _ (s : List ℕ) (a i : ℕ) (x : Blanks s a i) where
+  pub blanks_end : length s ≤ i → Unblanked s a (length s)
+  blanks_end h =
+      let e : i ≡ length s = omega (arith, x.1, h) in
+      record { low = omega (arith, x.0, x.1); high = omega arith; same = x.2 ∙ ap (λ (k : ℕ). from s k true) e; stops = λ l. absurd (omega arith) }
+
+  pub blanks_stop : blank (get_or s i 0) ≡ false → Unblanked s a i
+  blanks_stop e = record { low = x.0; high = x.1; same = x.2; stops = λ l. e }
 
 pub blanks_passed : (s : List ℕ) (a : ℕ) (h : a ≤ length s) (n : ℕ) → n ≡ length (take (prefix_len blank (rest s a)) (rest s a)) → Unblanked s a (a + n)
 blanks_passed s a h n e =

@@ -48,11 +48,17 @@ fn lf_near(s: &[u8], i: usize) -> bool
 }
 
 // The place of the line's LF from a place on, or the end, byte for byte.
+// By index, as past_blanks and is_hashed are: of a file of very short lines a chain over the rest of the text, made anew for each line, took up to twice the time.
 fn rest_of_line(s: &[u8], at: usize) -> usize
     requires { at ≤ length s.now }
     ensures { LineEnd s.now at result }
 {
-    at + s[at..].iter().take_while(|b| **b != b'\n').count()
+    for i in at..s.len() {
+        if s[i] == b'\n' {
+            return i;
+        }
+    }
+    s.len()
 }
 
 // The place of the line's LF from a place on, or the end: most of a file is passed here, eight bytes a turn.
@@ -72,15 +78,21 @@ pub fn past_blanks(s: &[u8], at: usize) -> usize
     requires { at ≤ length s.now }
     ensures { Unblanked s.now at result }
 {
-    at + s[at..].iter().take_while(|b| is_blank(**b)).count()
+    for i in at..s.len() {
+        if !is_blank(s[i]) {
+            return i;
+        }
+    }
+    s.len()
 }
 
 // Does `##` stand here?
+#[tactic(auto, unfolding(label_spec::specs::Labels::hashed))]
 pub fn is_hashed(s: &[u8], at: usize) -> bool
     requires { at < length s.now }
     ensures { result ≡ hashed s.now at }
 {
-    s[at..].starts_with(b"##")
+    s[at] == b'#' && byte_at(s, at + 1) == b'#'
 }
 
 // The place of the next `##` that is first on a line after this one, or the end.

@@ -1,14 +1,17 @@
 -- `label_lines::past_blanks` meets its contract: only blanks were passed.
-use borrow.Author.Tests.{tests}
-use Rattle.std.proofs.Common.{rules}
-use Rattle.std.proofs.lemmas.Iterator.{YieldsList-from_slice}
-use Rattle.std.proofs.lemmas.Iterator.Consumers.{YieldsList-at, count_from_yields_List}
-use Rattle.std.proofs.lemmas.Iterator.Search.{YieldsList-from_take_while}
-use Rattle.label_lines.proofs.LineTurns.{blanks_passed}
+use mathlib.Core.Path.{refl, sym, ◌∙◌}
+use native.Mathlib.Omega.{arith}
+use Rattle.label_lines.proofs.LineTurns.{blanks_end, blanks_stop, blanks_on}
 use Rattle.label_lines.proofs.past_blanks.Goals as goal
 
+pub loop-i-init : goal.loop-i-init
+loop-i-init c = (omega arith, omega (arith, c.requires), refl)
+
+pub returns-then-not-is_blank : goal.returns-then-not-is_blank
+returns-then-not-is_blank c = blanks_stop _ _ _ c.loop-i.invariant (sym c.is_blank.ensures ∙ c.if-not-is_blank.true)
+
+pub loop-i-preserved : goal.loop-i-preserved
+loop-i-preserved c = blanks_on _ _ _ c.loop-i.invariant c.loop-i-test.true (sym c.is_blank.ensures ∙ c.if-not-is_blank.false)
+
 pub returns : goal.returns
-returns c =
-    let road = YieldsList-at c.take_while.ensures.source (YieldsList-from_slice _ c.iter.ensures.rest) in
-    blanks_passed _ _ c.requires _
-    (count_from_yields_List _ _ c.count.ensures.ran (YieldsList-from_take_while _ _ road c.take_while.ensures.closure c.take_while.ensures.done (λ x b q k. search (rules, tests))))
+returns c = blanks_end _ _ _ c.loop-i.invariant c.loop-i-test.false

@@ -1,14 +1,17 @@
--- `label_lines::rest_of_line` meets its contract: no LF was passed.
-use borrow.Author.Tests.{tests}
-use Rattle.std.proofs.Common.{rules}
-use Rattle.std.proofs.lemmas.Iterator.{YieldsList-from_slice}
-use Rattle.std.proofs.lemmas.Iterator.Consumers.{YieldsList-at, count_from_yields_List}
-use Rattle.std.proofs.lemmas.Iterator.Search.{YieldsList-from_take_while}
-use Rattle.label_lines.proofs.LineTurns.{along_passed}
+-- `label_lines::rest_of_line` meets its contract: no LF has come up to i.
+use mathlib.Core.Path.{refl}
+use native.Mathlib.Omega.{arith}
+use Rattle.label_lines.proofs.LineTurns.{along_end, along_stop, along_on}
 use Rattle.label_lines.proofs.rest_of_line.Goals as goal
 
+pub loop-i-init : goal.loop-i-init
+loop-i-init c = (omega arith, omega (arith, c.requires), refl)
+
+pub returns-then-s-i-eq10 : goal.returns-then-s-i-eq10
+returns-then-s-i-eq10 c = along_stop _ _ _ c.loop-i.invariant c.if-s-i-eq10.true
+
+pub loop-i-preserved : goal.loop-i-preserved
+loop-i-preserved c = along_on _ _ _ c.loop-i.invariant c.loop-i-test.true c.if-s-i-eq10.false
+
 pub returns : goal.returns
-returns c =
-    let road = YieldsList-at c.take_while.ensures.source (YieldsList-from_slice _ c.iter.ensures.rest) in
-    along_passed _ _ c.requires _
-    (count_from_yields_List _ _ c.count.ensures.ran (YieldsList-from_take_while _ _ road c.take_while.ensures.closure c.take_while.ensures.done (λ x b q k. search (rules, tests))))
+returns c = along_end _ _ _ c.loop-i.invariant c.loop-i-test.false
