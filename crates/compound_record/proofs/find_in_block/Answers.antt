@@ -1,6 +1,7 @@
 -- `compound_record::find_in_block` meets its contract: the places, then the block's records.
 use mathlib.Core.Path.{sym, ◌∙◌}
 use native.Mathlib.Omega.{arith}
+use Rattle.label_spec.specs.Names.{norm}
 use Rattle.compound_record.proofs.RecordTurns.{in_long, in_outside, in_crossed, in_bare, in_found}
 use Rattle.compound_record.proofs.find_in_block.Goals as goal
 
@@ -23,5 +24,7 @@ find_from_mark-requires c = (sym c.is_hashed.ensures ∙ c.if-not-is_hashed.fals
 
 pub returns : goal.returns
 returns c =
-    in_found _ _ _ _ (omega (arith, c.if-file-gt-LONGEST_FILE.false)) (omega (arith, c.if-end-file.false)) (omega (arith, c.if-from-end.false))
-    (sym c.is_hashed.ensures ∙ c.if-not-is_hashed.false) _ c.find_from_mark.ensures
+    let found =
+    in_found c.args.file.now c.args.from c.args.end (norm c.args.name.now) (omega (arith, c.if-file-gt-LONGEST_FILE.false)) (omega (arith, c.if-end-file.false))
+    (omega (arith, c.if-from-end.false)) (sym c.is_hashed.ensures ∙ c.if-not-is_hashed.false) c.find_from_mark.result c.find_from_mark.ensures in
+    grind arith

@@ -9,4 +9,7 @@ use Rattle.label_names.proofs.NameTurns.{empty_all}
 use Rattle.label_names.proofs.is_empty.Goals as goal
 
 pub returns : goal.returns
-returns c = all_from_yields_List ignored _ _ _ c.all.ensures.ran (YieldsList-from_slice _ c.iter.ensures.rest) (λ x b q k. search (rules, tests)) ∙ empty_all c.args.s.now c.args.i c.args.e
+returns c =
+    let left_out =
+    all_from_yields_List ignored _ _ _ c.all.ensures.ran (YieldsList-from_slice _ c.iter.ensures.rest) (λ x b q k. search (rules, tests)) ∙ empty_all c.args.s.now c.args.i c.args.e in
+    search (rules, tests)
